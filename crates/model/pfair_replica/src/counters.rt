@@ -109,32 +109,22 @@ impl Counters {
         ensures torn { self.new.torn ≡ self.old.torn }
     {
         self.beginnings[row] = beginning;
-        self.frontier = least_of(&self.beginnings);
-        self.sound_total = total_of(&self.beginnings);
+        (self.frontier, self.sound_total) = all_of(&self.beginnings);
     }
 }
 
-// The least mark of these beginnings, or 0 if there is none.
-fn least_of(beginnings: &[Beginning]) -> u64
-    ensures { result ≡ least_mark beginnings.now }
+// The least mark of these beginnings, or 0 if there is none, and how many entries they have.
+fn all_of(beginnings: &[Beginning]) -> (u64, u64)
+    requires { length beginnings.now < 2 ^ 8 }
+    ensures { result ≡ (least_mark beginnings.now, total_count beginnings.now) }
 {
     let mut least = beginnings.first().map_or(0, |first| first.mark);
-    for beginning in beginnings {
-        least = least.min(beginning.mark);
-    }
-    least
-}
-
-// How many entries these beginnings have.
-fn total_of(beginnings: &[Beginning]) -> u64
-    requires { length beginnings.now < 2 ^ 8 }
-    ensures { result ≡ total_count beginnings.now }
-{
     let mut total = 0;
     for beginning in beginnings {
+        least = least.min(beginning.mark);
         total += beginning.count as u64;
     }
-    total
+    (least, total)
 }
 
 // The entry that goes on a run with this last floor.
