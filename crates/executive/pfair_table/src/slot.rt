@@ -15,7 +15,7 @@ use crate::pick::{Decided, Pick};
 use crate::room::emptied;
 use pfair_admission::Members;
 use pfair_entry::Said;
-use pfair_ready::{Ready, Seated, Seats};
+use pfair_ready::{Ready, Seated};
 use pfair_weight::TaskName;
 use std::alloc::{AllocError, Global};
 use std::mem;
@@ -143,10 +143,8 @@ pub(crate) fn run_each<R: Ready>(
             name,
             index: quantum.index,
         })?;
-        let seats = Seats {
-            ready: seated.seats.ready,
-            member: quantum.seat,
-        };
+        let mut seats = seated.seats;
+        seats.member = quantum.seat;
         ready.insert_seated(seats, quantum.next_from, quantum.next_key)?;
     }
     Ok(table)
