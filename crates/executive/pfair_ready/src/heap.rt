@@ -95,11 +95,11 @@ impl HeapReady {
         first.clear();
         first.reserve(m.min(self.released.len()))?;
         'turns: while first.len() < m {
-            let Some(turn) = self.released.pop() else {
+            let Some((key, hint)) = self.released.pop() else {
                 break;
             };
-            if let Some(seated) = self.waiting.take(slot, &turn) {
-                first.push(T::of(seated))?;
+            if let Some(seats) = self.waiting.take(hint, slot, &key) {
+                first.push(T::of(Seated { key, seats }))?;
             }
         }
         Ok(first)

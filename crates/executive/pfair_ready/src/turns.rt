@@ -6,7 +6,7 @@ ghost use Rattle.std.specs.Cmp.{eq_by_cmp_equiv, partial_equiv_from_equiv, parti
 ghost use Rattle.std.specs.Cmp.Rules.{comparing};
 ghost use Rattle.std.specs.Ordering.{as_partial_cmp, eq_by_cmp};
 ghost use Rattle.pfair_order.specs.declared.Key.{Key};
-ghost use Rattle.pfair_order.specs.Order.{pd2_cmp, tie_group_of};
+ghost use Rattle.pfair_order.specs.Order.{tie_group_of};
 ghost use Rattle.pfair_ready.specs.Turns.{turn_cmp, turns_total, IsFirst};
 
 use pfair_order::Key;
@@ -16,15 +16,15 @@ use std::cmp::{Ordering, Reverse};
 use std::collections::BinaryHeap;
 use std::marker::Model;
 
-/// What the order looks at in a released key, with its name as the number that orders names, and a hint
-/// where the name stands.
+// What the order looks at in a released key, with its name as the number that orders names, and a hint
+// where the name stands.
 #[derive(Debug, Drop)]
-pub(crate) struct Turn {
+struct Turn {
     d: u64,
     b: u64,
     group: u64,
     name: u128,
-    pub hint: usize,
+    hint: usize,
 }
 
 impl Model for Turn {
@@ -43,7 +43,7 @@ impl Model for Turn {
 }
 
 impl Turn {
-    pub(crate) fn of(key: &Key, hint: usize) -> Turn
+    fn of(key: &Key, hint: usize) -> Turn
         ensures { result ≡ (key.now, hint) }
     {
         Turn {
@@ -55,21 +55,16 @@ impl Turn {
         }
     }
 
-    /// Whether it is the turn of this key.
-    pub(crate) fn is_of(&self, key: &Key) -> bool
-        ensures { result ≡ eq_by_cmp pd2_cmp key.now self.now.0 }
+    fn key_and_hint(&self) -> (Key, usize)
+        ensures { result ≡ self.now }
     {
-        self.d == key.d
-            && self.b == key.b
-            && self.group == key.group
-            && self.name == key.name.number()
-    }
-
-    /// Returns the name of its key.
-    pub(crate) fn name(&self) -> TaskName
-        ensures { result ≡ self.now.0.name }
-    {
-        TaskName::of_number(self.name)
+        let key = Key {
+            d: self.d,
+            b: self.b,
+            group: self.group,
+            name: TaskName::of_number(self.name),
+        };
+        (key, self.hint)
     }
 
     // The group deadline if the order looks at it, else 0.
@@ -186,7 +181,7 @@ impl Turns {
     }
 
     /// Takes out the first turn.
-    pub(crate) fn pop(&mut self) -> Option<Turn>
+    pub(crate) fn pop(&mut self) -> Option<(Key, usize)>
         ensures some { IfSome result (λ turn. IsPermutation self.old (turn ∷ self.new)) }
         ensures first { IfSome result (λ turn. IsFirst turn self.old) }
         ensures shorter { IfSome result (λ turn. length self.new + 1 ≡ length self.old) }
@@ -194,6 +189,6 @@ impl Turns {
         ensures same { IfNone result (self.new ≡ self.old) }
     {
         let Reverse(turn) = self.heap.pop()?;
-        Some(turn)
+        Some(turn.key_and_hint())
     }
 }

@@ -5,8 +5,7 @@ ghost use Rattle.indexmap.specs.IndexMap.{get as at_name, IsUnique, Updates};
 ghost use Rattle.pfair_ready.specs.Names.{NameValue, name_eq};
 ghost use Rattle.pfair_ready.specs.Waiting.{is_due, queue_in, IsEntryOf};
 
-use crate::turns::Turn;
-use crate::{Seated, Seats};
+use crate::Seats;
 use indexmap::IndexMap;
 use pfair_order::Key;
 use pfair_weight::TaskName;
@@ -103,16 +102,16 @@ impl Waiting {
         Ok(index)
     }
 
-    /// Takes out the key whose turn it is if it still waits and is released by the slot.
-    pub(crate) fn take(&mut self, slot: u64, turn: &Turn) -> Option<Seated>
-        ensures answer { is_some result ≡ is_due turn.now.0 slot (finmap.get self.old turn.now.0.name) }
-        ensures key { IfSome result (λ s. s.key ≡ turn.now.0) }
-        ensures content { self.new ≡ (if is_some result then finmap.remove self.old turn.now.0.name else self.old) }
+    /// Takes the key out if it is the one under its name, and released by the slot, and returns where
+    /// its task stands.
+    pub(crate) fn take(&mut self, hint: usize, slot: u64, key: &Key) -> Option<Seats>
+        ensures answer { is_some result ≡ is_due key.now slot (finmap.get self.old key.now.name) }
+        ensures content { self.new ≡ (if is_some result then finmap.remove self.old key.now.name else self.old) }
     {
-        let ready = find(&self.entries, turn.hint, &turn.name())?;
-        let seated = vacate(&mut self.entries, ready, slot, turn)?;
+        let ready = find(&self.entries, hint, &key.name)?;
+        let member = vacate(&mut self.entries, ready, slot, key)?;
         self.vacant = self.vacant.saturating_add(1);
-        Some(seated)
+        Some(Seats { ready, member })
     }
 
     /// Removes what waits under a name, and returns whether there was something.
@@ -185,30 +184,28 @@ fn fill(entries: &mut Entries, index: usize, member: usize, release: u64, key: K
     true
 }
 
-// Takes out the key of the turn, under whose name the entry is at the index, if it still waits and is
-// released by the slot.
-fn vacate(entries: &mut Entries, ready: usize, slot: u64, turn: &Turn) -> Option<Seated>
-    requires { IsEntryOf entries.old.entries turn.now.0.name ready }
-    ensures answer { is_some result ≡ is_due turn.now.0 slot (finmap.get (queue_in entries.old.entries) turn.now.0.name) }
-    ensures key { IfSome result (λ s. s.key ≡ turn.now.0) }
+// Takes out what waits under the key's name, whose entry is at the index, if it is the key, released by
+// the slot. Returns where its task stands in the caller's list.
+fn vacate(entries: &mut Entries, index: usize, slot: u64, key: &Key) -> Option<usize>
+    requires { IsEntryOf entries.old.entries key.now.name index }
+    ensures answer { is_some result ≡ is_due key.now slot (finmap.get (queue_in entries.old.entries) key.now.name) }
     ensures content { queue_in entries.new.entries ≡
-        (if is_some result then finmap.remove (queue_in entries.old.entries) turn.now.0.name else queue_in entries.old.entries) }
+        (if is_some result then finmap.remove (queue_in entries.old.entries) key.now.name else queue_in entries.old.entries) }
 {
-    let entry = entries.get_index_mut(ready)?;
-    let key = due_key(&entry.held, slot, turn)?;
+    let entry = entries.get_index_mut(index)?;
+    if !is_held_due(&entry.held, slot, key) {
+        return None;
+    }
     entry.held = None;
-    let member = entry.member;
-    let seats = Seats { ready, member };
-    Some(Seated { key, seats })
+    Some(entry.member)
 }
 
-// The key that waits if it is that of the turn, and released by the slot.
-fn due_key(held: &Option<(u64, Key)>, slot: u64, turn: &Turn) -> Option<Key>
-    ensures answer { is_some result ≡ is_due turn.now.0 slot held.now }
-    ensures key { IfSome result (λ k. k ≡ turn.now.0) }
+// Whether the contents are the key, and released by the slot.
+fn is_held_due(held: &Option<(u64, Key)>, slot: u64, key: &Key) -> bool
+    ensures { result ≡ is_due key.now slot held.now }
 {
     match held {
-        Some((release, key)) if *release <= slot && turn.is_of(key) => Some(*key),
-        _ => None,
+        Some((release, there)) => *release <= slot && *there == *key,
+        None => false,
     }
 }

@@ -2,13 +2,12 @@ use Rattle.std.proofs.Common.{sym, ap, ◌∙◌}
 use Rattle.std.specs.Prelude.{is_some}
 use Rattle.std.specs.FinMap as finmap
 use Rattle.pfair_ready.specs.Queue.{Queue}
-use Rattle.pfair_ready.specs.Waiting.{is_due, queue_in}
+use Rattle.pfair_ready.specs.Waiting.{is_due}
 use Rattle.pfair_ready.proofs.WaitingLemmas.{none_there}
 use Rattle.pfair_ready.proofs.waiting.Waiting.take.Goals as goal
 
 pub returns-in_err-ready-clause-answer : goal.returns-in_err-ready-clause-answer
 returns-in_err-ready-clause-answer c =
     ap is_some c.from_residual.ensures
-    ∙ sym (ap (is_due c.args.turn.now.0 c.args.slot) (sym (ap (λ (h : Queue). finmap.get h c.args.turn.now.0.name) c.self.view_is)
-    ∙ ap (finmap.get (queue_in c.self.inside.entries.entries)) (sym c.name.ensures)
-    ∙ none_there c.self.inside.entries.entries c.name.result c.in_err-ready.ensures.unique c.in_err-ready.ensures.none))
+    ∙ sym (ap (is_due c.args.key.now c.args.slot) (sym (ap (λ (h : Queue). finmap.get h c.args.key.now.name) c.self.view_is)
+    ∙ none_there c.self.inside.entries.entries c.args.key.now.name c.in_err-ready.ensures.unique c.in_err-ready.ensures.none))
