@@ -3,14 +3,28 @@ use Rattle.std.specs.Prelude.{◌≡◌, ℕ, List, All, map, false}
 use Rattle.std.specs.Coded.{Coded, coded×, coded_ℕ, coded_list}
 use Rattle.std.specs.declared.cmp.Ordering.{Ordering}
 use Rattle.std.specs.declared.cmp.Reverse.{Reverse}
-use Rattle.std.specs.Ordering.{is_lt, nat_cmp, ordering_then}
+use Rattle.std.specs.Ordering.{is_lt, on}
+use Rattle.std.specs.Cmp.{IsTotalOrder, on_total}
+use Rattle.pfair_order.proofs.KeyLaws.{keys_total}
 use Rattle.pfair_order.specs.declared.Key.{Key}
 use Rattle.pfair_order.specs.Order.{pd2_cmp}
 use Rattle.pfair_order.specs.KeyCode.{key_code}
+use Rattle.pfair_weight.specs.Number.{name_of}
 
--- by the PD2 order of the keys first
+-- a key of which the name's number is given
+abbrev pub key_numbered : ℕ → ℕ → ℕ → ℕ → Key
+key_numbered d b group number = record { d = d; b = b; group = group; name = name_of number }
+
+-- a turn is stored as its key and its hint
+abbrev pub turn_code : Coded (Key × ℕ)
+turn_code = coded× key_code coded_ℕ
+
+-- in the PD2 order of the keys
 abbrev pub turn_cmp : Key × ℕ → Key × ℕ → Ordering
-turn_cmp a b = ordering_then (pd2_cmp a.0 b.0) (nat_cmp a.1 b.1)
+turn_cmp = on (λ t. t.0) pd2_cmp
+
+pub turns_total : IsTotalOrder turn_cmp
+turns_total = on_total (λ (t : Key × ℕ). t.0) keys_total
 
 abbrev pub reverse_cmp : Reverse (Key × ℕ) → Reverse (Key × ℕ) → Ordering
 reverse_cmp a b = turn_cmp b.0 a.0
@@ -25,4 +39,4 @@ IsFirst turn turns = All (λ t. is_lt (pd2_cmp t.0 turn.0) ≡ false) turns
 
 -- turns are stored as the list that they are
 abbrev pub turns_code : Coded (List (Key × ℕ))
-turns_code = coded_list (coded× key_code coded_ℕ)
+turns_code = coded_list turn_code

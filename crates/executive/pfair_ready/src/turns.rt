@@ -1,18 +1,137 @@
 //! The turns of released keys, the first in the PD2 order first.
 ghost use Rattle.std.specs.Prelude.{◌≡◌, ℕ, ◌+◌, ◌∷◌, [], Contains, IfNone, IfSome, OnOk, length};
 ghost use Rattle.std.specs.List.Sorted.{IsPermutation};
-ghost use Rattle.pfair_ready.specs.Turns.{IsFirst};
+ghost use Rattle.std.proofs.Common.{rules};
+ghost use Rattle.std.specs.Cmp.{eq_by_cmp_equiv, partial_equiv_from_equiv, partial_order_from_total};
+ghost use Rattle.std.specs.Cmp.Rules.{comparing};
+ghost use Rattle.std.specs.Ordering.{as_partial_cmp, eq_by_cmp};
+ghost use Rattle.pfair_order.specs.declared.Key.{Key};
+ghost use Rattle.pfair_order.specs.Order.{tie_group_of};
+ghost use Rattle.pfair_ready.specs.Turns.{turn_cmp, turns_total, IsFirst};
 
 use pfair_order::Key;
+use pfair_weight::TaskName;
 use std::alloc::{AllocError, Global};
-use std::cmp::Reverse;
+use std::cmp::{Ordering, Reverse};
 use std::collections::BinaryHeap;
 use std::marker::Model;
 
-/// Released keys in a heap, each with a hint where its name stands.
+// What the order looks at in a released key, with its name as the number that orders names, and a hint
+// where the name stands.
+#[derive(Debug, Drop)]
+struct Turn {
+    d: u64,
+    b: u64,
+    group: u64,
+    name: u128,
+    hint: usize,
+}
+
+impl Model for Turn {
+    ghost use Rattle.std.specs.Prelude.{ℕ};
+    ghost use Rattle.pfair_order.specs.declared.Key.{Key};
+    ghost use Rattle.pfair_weight.specs.Number.{IsNumber};
+    ghost use Rattle.pfair_ready.specs.Turns.{key_numbered, turn_code};
+
+    ghost Value = { Key × ℕ };
+
+    ghost coded = { turn_code };
+
+    ghost view = { λ t. (key_numbered t.d t.b t.group t.name, t.hint) };
+
+    ghost invariant = { λ t. IsNumber t.name };
+}
+
+impl Turn {
+    fn of(key: &Key, hint: usize) -> Turn
+        ensures { result ≡ (key.now, hint) }
+    {
+        Turn {
+            d: key.d,
+            b: key.b,
+            group: key.group,
+            name: key.name.number(),
+            hint,
+        }
+    }
+
+    fn key_and_hint(&self) -> (Key, usize)
+        ensures { result ≡ self.now }
+    {
+        let key = Key {
+            d: self.d,
+            b: self.b,
+            group: self.group,
+            name: TaskName::of_number(self.name),
+        };
+        (key, self.hint)
+    }
+
+    // The group deadline if the order looks at it, else 0.
+    fn tie_group(&self) -> u64
+        ensures { result ≡ tie_group_of self.now.0 }
+    {
+        if self.b == 1 { self.group } else { 0 }
+    }
+}
+
+impl PartialEq for Turn {
+    ghost eq = { eq_by_cmp turn_cmp };
+
+    ghost laws = { partial_equiv_from_equiv (eq_by_cmp_equiv turns_total) };
+
+    fn eq(&self, other: &Turn) -> bool {
+        self.cmp(other) == Ordering::Equal
+    }
+}
+
+impl Eq for Turn {
+    ghost laws = { eq_by_cmp_equiv turns_total };
+}
+
+impl Ord for Turn {
+    ghost cmp = { turn_cmp };
+
+    ghost total = { turns_total };
+
+    ghost matches_partial_cmp = { Prim.search (comparing, rules) };
+
+    ghost matches_eq = { Prim.search (comparing, rules) };
+
+    // The order of the keys.
+    fn cmp(&self, other: &Turn) -> Ordering {
+        if self.d != other.d {
+            return self.d.cmp(&other.d);
+        }
+        if self.b != other.b {
+            return other.b.cmp(&self.b);
+        }
+        let groups = other.tie_group().cmp(&self.tie_group());
+        if groups != Ordering::Equal {
+            return groups;
+        }
+        let names = self.name.cmp(&other.name);
+        if names != Ordering::Equal {
+            return names;
+        }
+        self.group.cmp(&other.group)
+    }
+}
+
+impl PartialOrd for Turn {
+    ghost partial_cmp = { as_partial_cmp turn_cmp };
+
+    ghost laws = { partial_order_from_total turns_total };
+
+    fn partial_cmp(&self, other: &Turn) -> Option<Ordering> {
+        Some(self.cmp(other))
+    }
+}
+
+/// The turns of released keys in a heap.
 #[derive(Drop)]
 pub(crate) struct Turns {
-    heap: BinaryHeap<Reverse<(Key, usize)>>,
+    heap: BinaryHeap<Reverse<Turn>>,
 }
 
 impl Model for Turns {
@@ -57,7 +176,7 @@ impl Turns {
         ensures kept { (turn : Key × ℕ) → Contains self.old turn → Contains self.new turn }
         ensures there { OnOk result (Contains self.new (key, hint)) }
     {
-        self.heap.push(Reverse((key, hint)))?;
+        self.heap.push(Reverse(Turn::of(&key, hint)))?;
         Ok(())
     }
 
@@ -70,6 +189,6 @@ impl Turns {
         ensures same { IfNone result (self.new ≡ self.old) }
     {
         let Reverse(turn) = self.heap.pop()?;
-        Some(turn)
+        Some(turn.key_and_hint())
     }
 }

@@ -1,7 +1,7 @@
 -- The order of names, by the numbers that their bytes spell, the first of them the highest.
-use Rattle.std.proofs.Common.{ℕ, zero, suc, ◌≡◌, ◌+◌, ◌-◌, ◌*◌, ◌^◌, ◌<◌, List, [], ◌∷◌, ◌++◌, length, sym, ap, ◌∙◌, arith}
+use Rattle.std.proofs.Common.{ℕ, zero, suc, ◌≡◌, ◌+◌, ◌-◌, ◌*◌, ◌/◌, ◌%◌, ◌^◌, ◌<◌, List, [], ◌∷◌, ◌++◌, length, refl, sym, ap, subst, ◌∙◌, arith, length-append}
 use Rattle.std.specs.Prelude.{replicate, slice_index}
-use Rattle.std.specs.Int.{w128, byte_worth, from_be_bytes, sum_through}
+use Rattle.std.specs.Int.{w128, byte_at, byte_worth, bytes_high_first, from_be_bytes, to_be_bytes, sum_through}
 use Rattle.std.specs.Cmp.Lexicographic.{slice_cmp}
 use Rattle.std.specs.Ordering.{nat_cmp, ordering_then, MatchOrdering}
 use Rattle.std.specs.declared.cmp.Ordering.{Ordering}
@@ -9,10 +9,13 @@ use Rattle.std.specs.declared.cmp.Ordering.TheVariants.{Greater}
 use Rattle.std.proofs.lemmas.Bool.Decides.{nat_tests}
 use Rattle.std.proofs.lemmas.Cmp.{ranked}
 use Rattle.std.proofs.Math.Nat.{pow-suc}
-use Rattle.pfair_weight.specs.declared.name.TaskName.TheInside.{Inside}
-use Rattle.pfair_weight.specs.Padded.{before_zero, IsPadded}
+use Rattle.std.proofs.lemmas.Nat.{div-mul-add, mul-add-lt}
+use Rattle.std.proofs.lemmas.List.{length-replicate}
+use Rattle.pfair_weight.specs.Name.{IsTaskName}
+use Rattle.pfair_weight.specs.Number.{number_of, name_of, IsNumber}
+use Rattle.pfair_weight.specs.Padded.{before_zero, with_zeros}
 use Rattle.pfair_weight.proofs.Length.{first_apart}
-use Rattle.pfair_weight.proofs.Padding.{AreBytes, name_bytes, padded_order}
+use Rattle.pfair_weight.proofs.Padding.{AreBytes, name_bytes, read_back, zeros_order}
 
 -- each of these is a byte
 abbrev Small : List ℕ → Type 0
@@ -92,6 +95,51 @@ small : (name : List ℕ) (m : ℕ) → AreBytes name → Small (name ++ replica
 small [] m h = small_zeros m
 small (byte ∷ name) m h = (h.1, small name m h.2)
 
-pub number_order : (a b : Inside) → IsPadded a → IsPadded b → length a.bytes ≡ 16 → length b.bytes ≡ 16
-    → nat_cmp (from_be_bytes w128 a.bytes) (from_be_bytes w128 b.bytes) ≡ slice_cmp nat_cmp (before_zero a.bytes) (before_zero b.bytes)
-number_order a b p q long long' = grind (arith, read, ordered, padded_order, small, name_bytes)
+with_zeros_long : (name : List ℕ) → IsTaskName name → length (with_zeros name) ≡ 16
+with_zeros_long name named = let few = named.not_too_long in omega (arith, length-append name (replicate (16 - length name) 0), length-replicate {A = ℕ} (16 - length name) 0)
+
+names_order : (a b : List ℕ) → IsTaskName a → IsTaskName b → nat_cmp (number_of a) (number_of b) ≡ slice_cmp nat_cmp a b
+unfolding number_of
+names_order a b p q = grind (arith, read, ordered, zeros_order, small, name_bytes, with_zeros_long)
+
+-- numbers are in the order of their names
+pub numbers_order : (m n : ℕ) → IsNumber m → IsNumber n → nat_cmp m n ≡ slice_cmp nat_cmp (name_of m) (name_of n)
+numbers_order m n p q = (λ i. nat_cmp (sym p.same i) (sym q.same i)) ∙ names_order (name_of m) (name_of n) p.named q.named
+
+-- ---- back from the number
+
+worth_less : (bytes : List ℕ) → Small bytes → worth bytes < 256 ^ length bytes
+worth_less [] h = omega arith
+worth_less (byte ∷ bytes) h =
+    let rest = worth_less bytes h.1 in
+    let all = mul-add-lt byte (256 ^ length bytes) (worth bytes) 256 h.0 rest in
+    omega (arith, all, by_power (length bytes) byte, pow-suc 256 (length bytes))
+
+-- what comes before the bytes
+before : (m : ℕ) (bytes : List ℕ) → Small bytes → spelled m bytes / 256 ^ length bytes ≡ m
+before m bytes h = ap (λ n. n / 256 ^ length bytes) (spelled_worth m bytes) ∙ div-mul-add m (256 ^ length bytes) (worth bytes) (worth_less bytes h)
+
+first_byte : (m byte : ℕ) (bytes : List ℕ) → byte < 256 → Small bytes → byte_at (length bytes) (spelled (m * 256 + byte) bytes) ≡ byte
+first_byte m byte [] fits h = omega (arith, fits)
+first_byte m byte (next ∷ bytes) fits h = ap (λ n. n % 256) (before (m * 256 + byte) (next ∷ bytes) h) ∙ omega (arith, fits)
+
+written : (m : ℕ) (bytes : List ℕ) → Small bytes → bytes_high_first (length bytes) (spelled m bytes) ≡ bytes
+written m [] h = refl
+written m (byte ∷ bytes) h =
+    ap (λ b. b ∷ bytes_high_first (length bytes) (spelled (m * 256 + byte) bytes)) (first_byte m byte bytes h.0 h.1)
+    ∙ ap (λ l. byte ∷ l) (written (m * 256 + byte) bytes h.1)
+
+-- the bytes of a name's number
+pub number_bytes : (name : List ℕ) → IsTaskName name → to_be_bytes w128 (number_of name) ≡ with_zeros name
+unfolding number_of
+number_bytes name named =
+    let long = with_zeros_long name named in
+    ap (to_be_bytes w128) (read (with_zeros name) long)
+    ∙ subst (λ k. bytes_high_first k (spelled 0 (with_zeros name)) ≡ with_zeros name) long (written 0 (with_zeros name) (small name (16 - length name) (name_bytes name named)))
+
+pub name_back : (name : List ℕ) → IsTaskName name → name_of (number_of name) ≡ name
+unfolding name_of
+name_back name named = ap before_zero (number_bytes name named) ∙ read_back name (16 - length name) (name_bytes name named)
+
+pub is_number : (name : List ℕ) → IsTaskName name → IsNumber (number_of name)
+is_number name named = record { named = subst IsTaskName (sym (name_back name named)) named; same = ap number_of (name_back name named) }

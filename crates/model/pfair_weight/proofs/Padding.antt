@@ -8,7 +8,6 @@ use Rattle.std.proofs.lemmas.Bool.{ne_eqb}
 use Rattle.std.proofs.lemmas.Bool.Decides.{nat_tests}
 use Rattle.std.proofs.lemmas.Cmp.{nat_list_cmp_total, tied_itself}
 use Rattle.std.proofs.lemmas.List.{drop-replicate}
-use Rattle.pfair_weight.specs.declared.name.TaskName.TheInside.{Inside}
 use Rattle.pfair_weight.specs.Name.{may_stand, IsTaskName}
 use Rattle.pfair_weight.specs.Padded.{before_zero, with_zeros, IsPadded}
 
@@ -44,7 +43,7 @@ is_name bytes place some short each all = grind (arith, nat_tests)
 zeros_alone : (n : ℕ) → before_zero (replicate n 0) ≡ []
 zeros_alone n = grind arith
 
-read_back : (name : List ℕ) (n : ℕ) → AreBytes name → before_zero (name ++ replicate n 0) ≡ name
+pub read_back : (name : List ℕ) (n : ℕ) → AreBytes name → before_zero (name ++ replicate n 0) ≡ name
 read_back [] n h = zeros_alone n
 read_back (byte ∷ name) n h = grind (arith, ne_eqb, read_back name n h.2)
 
@@ -60,13 +59,10 @@ module _ (name after : List ℕ) (named : IsTaskName name) (same : after ≡ nam
 
 -- ---- the order
 
-ordered : (a b : List ℕ) (m n : ℕ) → AreBytes a → AreBytes b → length a + m ≡ length b + n → slice_cmp nat_cmp (a ++ replicate m 0) (b ++ replicate n 0) ≡ slice_cmp nat_cmp a b
-ordered [] [] m n h k fits = subst (λ (j : ℕ). slice_cmp nat_cmp (replicate m 0) (replicate j 0) ≡ Equal) (let same : m ≡ n = omega arith in same) (tied_itself nat_list_cmp_total (replicate m 0))
-ordered [] (y ∷ b) zero n h k fits = absurd (omega arith)
-ordered [] (y ∷ b) (suc m) n h k fits = grind (arith, nat_tests)
-ordered (x ∷ a) [] m zero h k fits = absurd (omega arith)
-ordered (x ∷ a) [] m (suc n) h k fits = grind (arith, nat_tests)
-ordered (x ∷ a) (y ∷ b) m n h k fits = ap (ordering_then (nat_cmp x y)) (ordered a b m n h.2 k.2 (omega arith))
-
-pub padded_order : (a b : Inside) → IsPadded a → IsPadded b → slice_cmp nat_cmp a.bytes b.bytes ≡ slice_cmp nat_cmp (before_zero a.bytes) (before_zero b.bytes)
-padded_order a b p q = grind (arith, ordered, name_bytes)
+pub zeros_order : (a b : List ℕ) (m n : ℕ) → AreBytes a → AreBytes b → length a + m ≡ length b + n → slice_cmp nat_cmp (a ++ replicate m 0) (b ++ replicate n 0) ≡ slice_cmp nat_cmp a b
+zeros_order [] [] m n h k fits = subst (λ (j : ℕ). slice_cmp nat_cmp (replicate m 0) (replicate j 0) ≡ Equal) (let same : m ≡ n = omega arith in same) (tied_itself nat_list_cmp_total (replicate m 0))
+zeros_order [] (y ∷ b) zero n h k fits = absurd (omega arith)
+zeros_order [] (y ∷ b) (suc m) n h k fits = grind (arith, nat_tests)
+zeros_order (x ∷ a) [] m zero h k fits = absurd (omega arith)
+zeros_order (x ∷ a) [] m (suc n) h k fits = grind (arith, nat_tests)
+zeros_order (x ∷ a) (y ∷ b) m n h k fits = ap (ordering_then (nat_cmp x y)) (zeros_order a b m n h.2 k.2 (omega arith))

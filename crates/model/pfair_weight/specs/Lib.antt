@@ -6,6 +6,7 @@ pub mod Laws
 pub mod Name
 pub mod NameFacts
 pub mod NameFault
+pub mod Number
 pub mod Options
 pub mod Padded
 pub mod Position

@@ -1,11 +1,12 @@
 //! Task names.
-ghost use Rattle.std.specs.Prelude.{◌≡◌, ◌≤◌, ◌<◌, ◌==◌, IfOk, IfErr, length, nat_eq};
+ghost use Rattle.std.specs.Prelude.{◌≡◌, ◌≤◌, ◌<◌, ◌==◌, ℕ, IfOk, IfErr, length, nat_eq};
 ghost use Rattle.std.proofs.Common.{rules};
 ghost use Rattle.std.specs.Cmp.{partial_order_from_own_ties};
 ghost use Rattle.std.specs.Cmp.Rules.{comparing};
 ghost use Rattle.std.specs.Cmp.Lexicographic.{slice_cmp};
 ghost use Rattle.std.specs.Ordering.{nat_cmp, as_partial_cmp};
 ghost use Rattle.pfair_weight.specs.Name.{may_stand, IsTaskName};
+ghost use Rattle.pfair_weight.specs.Number.{name_of, IsNumber};
 ghost use Rattle.pfair_weight.specs.NameFault.{IsFaultOf, name_fault_number};
 
 use std::cmp::Ordering;
@@ -107,6 +108,25 @@ impl TaskName {
         &self.bytes[..self.length()]
     }
 
+    /// Returns the number that orders names: the lesser name has the lesser number. O(1).
+    pub fn number(&self) -> u128
+        ensures number { IsNumber result }
+        ensures name { name_of result ≡ self.now }
+        ensures order { (n : ℕ) → IsNumber n → nat_cmp result n ≡ slice_cmp nat_cmp self.now (name_of n) }
+    {
+        u128::from_be_bytes(self.bytes)
+    }
+
+    /// Returns the name that has a number.
+    pub fn of_number(number: u128) -> TaskName
+        requires { IsNumber number }
+        ensures { result ≡ name_of number }
+    {
+        TaskName {
+            bytes: number.to_be_bytes(),
+        }
+    }
+
     // How many bytes the name has. The zeros after it are the leading ones of the number whose lowest
     // byte is the name's first.
     fn length(&self) -> usize
@@ -143,8 +163,7 @@ impl Ord for TaskName {
     ghost matches_eq = { Prim.search (comparing, rules) };
 
     fn cmp(&self, other: &TaskName) -> Ordering {
-        // numbers whose first byte is the highest
-        u128::from_be_bytes(self.bytes).cmp(&u128::from_be_bytes(other.bytes))
+        self.number().cmp(&other.number())
     }
 }
 

@@ -7,7 +7,8 @@ use Rattle.pfair_ready.proofs.turns.Turns.push.Goals as goal
 use Rattle.pfair_ready.proofs.turns.Turns.push.Goals.{In_ok-push}
 
 more : (c : In_ok-push) → IsPermutation ((c.args.key, c.args.hint) ∷ c.args.self.now) (turns_of (heap_items c.push.new.self))
-more c = given (c.args.key, c.args.hint) (heap_items c.self.inside.heap) (heap_items c.push.new.self) c.args.self.now c.self.view_is c.in_ok-push.ensures.permutation
+more c =
+    rw (← c.of.ensures) (given c.of.result (heap_items c.self.inside.heap) (heap_items c.push.new.self) c.args.self.now c.self.view_is c.in_ok-push.ensures.permutation)
 
 pub returns-clause-kept : goal.returns-clause-kept
 returns-clause-kept c turn h = pushed_more (c.args.key, c.args.hint) turn c.args.self.now _ (more ((goal.at.returns-clause-kept c).In_ok-push)) h

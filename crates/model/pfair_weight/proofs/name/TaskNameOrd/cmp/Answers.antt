@@ -1,7 +1,7 @@
-use Rattle.std.proofs.lemmas.Grind.{common_steps}
-use Rattle.std.proofs.Common.{arith}
-use Rattle.pfair_weight.proofs.ByteOrder.{number_order}
+use Rattle.std.proofs.Common.{◌∙◌, ap}
+use Rattle.std.specs.Cmp.Lexicographic.{slice_cmp}
+use Rattle.std.specs.Ordering.{nat_cmp}
 use Rattle.pfair_weight.proofs.name.TaskNameOrd.cmp.Goals as goal
 
 pub returns : goal.returns
-returns c = grind (arith, common_steps, number_order)
+returns c = c.cmp.ensures ∙ c.number.ensures.order c.number-2.result c.number-2.ensures.number ∙ ap (slice_cmp nat_cmp c.args.self.now) c.number-2.ensures.name
