@@ -36,7 +36,7 @@ none_done m = grind (arith, cases_lt, div-eq_of_lt, rest_low, div-zero)
 
 -- ---- its delays
 
-lowered_by_none : (ds : List Delay) → map (lowered 0) ds ≡ ds
+pub lowered_by_none : (ds : List Delay) → map (lowered 0) ds ≡ ds
 lowered_by_none [] = refl
 lowered_by_none (d ∷ ds) = grind (arith, lowered_by_none ds)
 

@@ -1,7 +1,9 @@
 -- What the ledger keeps when a member is written.
 use Rattle.std.proofs.lemmas.Grind.{common_steps}
-use Rattle.std.proofs.Common.{◌≡◌, ℕ, ◌+◌, ◌≤◌, ◌<◌, Bool, true, cond, List, [], ◌∷◌, ◌++◌, Some, refl, sym, ap, subst, ◌∙◌, arith}
+use Rattle.std.proofs.Common.{◌≡◌, ℕ, ◌+◌, ◌≤◌, ◌<◌, Bool, true, cond, List, [], ◌∷◌, ◌++◌, Option, Some, None, refl, sym, ap, subst, ◌∙◌, arith}
 use Rattle.std.specs.Prelude.{filter, nat_eq, slice_get}
+use Rattle.std.proofs.SliceLists.{all_by_recursion_push}
+use Rattle.std.proofs.lemmas.List.Sums.{sum_by_push}
 use Rattle.std.proofs.lemmas.Bool.Decides.{nat_tests}
 use Rattle.indexmap.specs.IndexMap.{insert_entry, with_value_at}
 use Rattle.std.specs.List.{IsDistinct}
@@ -11,7 +13,7 @@ use Rattle.pfair_weight.specs.Name.{name_eq}
 use Rattle.pfair_weight.specs.Share.{Share, units_of}
 use Rattle.pfair_admission.specs.declared.decision.Decision.TheVariants.{Admitted}
 use Rattle.pfair_admission.specs.Member.{Member}
-use Rattle.pfair_admission.specs.Admission.{Machine, arrival, claimed, newcomer, present}
+use Rattle.pfair_admission.specs.Admission.{Machine, arrival, claimed, member_named, newcomer, present}
 use Rattle.pfair_admission.specs.Removal.{earlier_of, IsNotBefore, NoneFreed, NoneFreedBefore}
 use Rattle.pfair_admission.specs.declared.ledger.Ledger.{Ledger}
 use Rattle.pfair_admission.specs.Ledger.{is_there, listed, IsLedger, IsUnswept, Numbered}
@@ -87,6 +89,33 @@ ledger_more t a b name w early k is made unique entered updates =
       total = omega (arith, sum, all, k.total);
       first = subst (NoneFreedBefore a.first_freeing) (sym (ap (λ (l : Numbered). values_of l) made ∙ values_pushed a.members.entries a.admitted (newcomer t name w early)))
           (first_push a.first_freeing (listed a) (newcomer t name w early) refl k.first);
+    }
+
+-- a member that stands behind all others
+not_before_own : (first slot : Option ℕ) → IsNotBefore (earlier_of first slot) slot
+not_before_own first None = tt
+not_before_own first (Some slot) = not_before_right first slot
+
+pub ledger_joined : (a b : Ledger) (m : Member) → IsLedger (λ _. true) a → Admitted ≡ arrival (record { processors = a.processors; frame = a.frame }) (listed a) m.name m.weight
+    → b.members.entries ≡ a.members.entries ++ (a.admitted, m) ∷ [] → IsDistinct nat_eq (keys_of b.members.entries) → b.names.entries ≡ insert_entry name_eq a.names.entries m.name a.admitted
+    → ((q : List ℕ) → lookup (name_eq q) b.names.entries ≡ cond (name_eq m.name q) (Some a.admitted) (lookup (name_eq q) a.names.entries))
+    → IsLedger (λ _. true) (record a { members = b.members; names = b.names; admitted = a.admitted + 1; claim = a.claim + units_of m.weight a.frame; first_freeing = earlier_of a.first_freeing m.freed_at })
+ledger_joined a b m k is made unique entered updates =
+    let machine : Machine = record { processors = a.processors; frame = a.frame } in
+    let values = ap (λ (l : Numbered). values_of l) made ∙ values_pushed a.members.entries a.admitted m in
+    let sum = sum_by_push (λ (x : Member). units_of x.weight a.frame) (listed a) m in
+    let all = ap (claimed a.frame) (filter_all (listed b) ∙ values) in
+    let was = ap (claimed a.frame) (filter_all (listed a)) in
+    let fits = admitted_room machine (listed a) m.name m.weight is in
+    record {
+      register = register_more (λ _. true) a.admitted a.members.entries b.members.entries a.names.entries b.names.entries m k.register
+          (ap (λ (l : List Member). member_named l m.name) (filter_all (listed a)) ∙ admitted_new machine (listed a) m.name m.weight is) made unique entered updates;
+      few_processors = k.few_processors;
+      short_frame = k.short_frame;
+      room = omega (arith, fits, was, k.total);
+      total = omega (arith, sum, all, was, k.total);
+      first = subst (NoneFreedBefore (earlier_of a.first_freeing m.freed_at)) (sym values)
+          (all_by_recursion_push (λ x. IsNotBefore (earlier_of a.first_freeing m.freed_at) x.freed_at) (listed a) m (first_earlier a.first_freeing m.freed_at (listed a) k.first) (not_before_own a.first_freeing m.freed_at));
     }
 
 -- ---- before and after a boundary

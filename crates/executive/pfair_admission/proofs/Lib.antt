@@ -14,6 +14,8 @@ pub mod Lowered
 mod MemberLists
 pub mod NamesKept
 mod Registers
+mod RestoredRuns
+pub mod Restoring
 pub mod Successors
 mod Sums
 mod Written

@@ -19,7 +19,7 @@ label m = m.name
 pub apart_change : (name : List ℕ) (f : Member → Member) → ((m : Member) → (f m).name ≡ m.name) → (ms : List Member) → NamesApart (λ m. m.name) ms → NamesApart (λ m. m.name) (change name f ms)
 apart_change name f keeps ms h = grind (arith, apart_map)
 
-others_named : (name : List ℕ) (ms : List Member) → member_named ms name ≡ None → AllByRecursion (λ m. name_eq m.name name ≡ false) ms
+pub others_named : (name : List ℕ) (ms : List Member) → member_named ms name ≡ None → AllByRecursion (λ m. name_eq m.name name ≡ false) ms
 others_named name [] none = tt
 others_named name (x ∷ ms) none =
     (elim (is_named name x) as (λ b. is_named name x ≡ b → cond b (Some x) (member_named ms name) ≡ None → AllByRecursion (λ m. name_eq m.name name ≡ false) (x ∷ ms)) [

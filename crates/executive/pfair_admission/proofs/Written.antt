@@ -22,6 +22,11 @@ values_written [] place n = refl
 values_written (e ∷ es) zero n = refl
 values_written (e ∷ es) (suc place) n = ap (λ (l : List Member). e.1 ∷ l) (values_written es place n)
 
+pub length_written : (es : Numbered) (place : ℕ) (n : Member) → length (values_of (set_value_at es place n)) ≡ length (values_of es)
+length_written [] place n = refl
+length_written (e ∷ es) zero n = refl
+length_written (e ∷ es) (suc place) n = grind (arith, length_written es place n)
+
 pub same_written : (ms : List Member) (place : ℕ) (m n : Member) → slice_get ms place ≡ Some m → n ≡ m → with_at ms place n ≡ ms
 same_written [] place m n at same = refl
 same_written (x ∷ ms) zero m n at same = ap (λ (y : Member). y ∷ ms) (same ∙ sym (same_Some x m at))

@@ -1,5 +1,5 @@
 -- The laws of members, over every machine, slot and list of members.
-use Rattle.std.specs.Prelude.{ℕ, ◌≡◌, ◌≢◌, ◌+◌, ◌-◌, ◌*◌, ◌<◌, ◌≤◌, true, false, List, length, AllPairs}
+use Rattle.std.specs.Prelude.{ℕ, ◌≡◌, ◌≢◌, ◌+◌, ◌-◌, ◌*◌, ◌%◌, ◌<◌, ◌≤◌, true, false, List, [], ◌∷◌, ◌++◌, length, map, AllPairs, Some}
 use Rattle.std.specs.List.{AllByRecursion}
 use Rattle.pfair_weight.specs.Name.{NamesApart}
 use Rattle.pfair_weight.specs.Share.{IsWeight}
@@ -10,7 +10,8 @@ use Rattle.pfair_admission.specs.declared.refusal.Refusal.{Refusal}
 use Rattle.pfair_admission.specs.Member.{Member, theta, busy_until, freeing_slot, is_delayed_at, eligible_from, next_key}
 use Rattle.pfair_admission.specs.Admission.{Machine, claimed, with_delay, decision, decided, boundary, boundary_decisions, ran}
 use Rattle.pfair_admission.specs.Carried.{carried, jobs_done, subtasks_done, CanBeCarried}
-use Rattle.pfair_admission.specs.Removal.{NoneFreed}
+use Rattle.pfair_admission.specs.Removal.{IsNotBefore, NoneFreed}
+use Rattle.pfair_admission.specs.Restored.{CanBeRestored, IsLeftAt}
 
 -- a name stands once among the members
 pub record NamesStayApart : Type 0 where
@@ -82,3 +83,16 @@ pub record CarryingKeepsWindows : Type 0 where
   pub next : (m : Member) → IsWeight m.weight.cost m.weight.period → 1 ≤ m.next → next_key (carried m) ≡ next_key m
   pub busy : (m : Member) → IsWeight m.weight.cost m.weight.period → 2 ≤ m.next → busy_until (carried m) ((carried m).next - 1) ≡ busy_until m (m.next - 1)
   pub freed : (m : Member) (t : ℕ) → IsWeight m.weight.cost m.weight.period → 1 ≤ m.next → freeing_slot (carried m) t ≡ freeing_slot m t
+
+-- members that are restored one behind the other have distinct names and room, and carrying leaves each of them as it is
+pub record RestoredMembersAreCarried : Type 0 where
+  pub named : (machine : Machine) (t : ℕ) (members : List Member) (m : Member) → CanBeRestored machine t members m → NamesApart (λ m. m.name) members → NamesApart (λ m. m.name) (members ++ m ∷ [])
+  pub room : (machine : Machine) (t : ℕ) (members : List Member) (m : Member) → CanBeRestored machine t members m → HaveRoom machine (members ++ m ∷ [])
+  pub left : (machine : Machine) (t : ℕ) (members : List Member) (m : Member) → CanBeRestored machine t members m → AllByRecursion (IsLeftAt t) members → AllByRecursion (IsLeftAt t) (members ++ m ∷ [])
+  pub again : (t : ℕ) (members : List Member) → AllByRecursion (IsLeftAt t) members → map carried members ≡ members
+  pub able : (t : ℕ) (members : List Member) → AllByRecursion (IsLeftAt t) members → AllByRecursion CanBeCarried members
+
+-- carried members that had joined and weren't freed before slot t can be restored, each behind those before it
+pub record CarriedMembersAreRestored : Type 0 where
+  pub left : (t : ℕ) (m : Member) → CanBeCarried m → 1 ≤ m.next → (carried m).joined < t → IsNotBefore (Some t) m.freed_at → IsLeftAt t (carried m)
+  pub in_turn : (machine : Machine) (t : ℕ) (before after : List Member) (m : Member) → NamesApart (λ m. m.name) (before ++ m ∷ after) → HaveRoom machine (before ++ m ∷ after) → machine.frame % m.weight.period ≡ 0 → IsLeftAt t m → CanBeRestored machine t before m

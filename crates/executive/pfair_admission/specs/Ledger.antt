@@ -3,10 +3,11 @@ use Rattle.std.specs.Prelude.{ℕ, ◌≡◌, ◌≤◌, ◌<◌, ◌+◌, ◌-�
 use Rattle.std.specs.List.{AllByRecursion, IsDistinct}
 use Rattle.std.specs.Map.{keys_of, values_of, lookup}
 use Rattle.pfair_weight.specs.Name.{NameValue, name_eq}
+use Rattle.pfair_weight.specs.Share.{Share}
 use Rattle.pfair_entry.specs.declared.announcement.Announcement.{Announcement}
 use Rattle.pfair_admission.specs.declared.decision.Decision.{Decision}
 use Rattle.pfair_admission.specs.Member.{Member}
-use Rattle.pfair_admission.specs.Admission.{all_decided, all_decisions, claimed, decided, decision, is_freed, is_named, member_named, present}
+use Rattle.pfair_admission.specs.Admission.{all_decided, all_decisions, arrival, claimed, decided, decision, is_freed, is_named, member_named, present}
 use Rattle.pfair_admission.specs.Removal.{NoneFreedBefore}
 use Rattle.pfair_admission.specs.Roster.{EachBounded}
 use Rattle.pfair_admission.specs.Standing.{Standing}
@@ -24,6 +25,10 @@ is_there t m = not (is_freed t m.freed_at)
 -- the machine and its members at the boundary of slot t
 abbrev pub standing : ℕ → Ledger → Standing
 standing t a = record { machine = record { processors = a.processors; frame = a.frame }; members = present t (listed a) }
+
+-- the machine and all its members
+abbrev pub whole : Ledger → Standing
+whole a = record { machine = record { processors = a.processors; frame = a.frame }; members = listed a }
 
 -- ---- decisions
 
@@ -44,6 +49,11 @@ pub record IsDecided {E : Type 0} (t : ℕ) (announcement : Announcement) (old n
   pub decision : IfOk result (λ d. d ≡ told t announcement old)
   pub members : OnOk result (new ≡ after t announcement old)
   pub err : OnErr result (new ≡ old)
+
+-- the decision on an arrival, whoever the members are, if they claim what is claimed and none of them has its name
+abbrev pub IsArrivalByWeight : Ledger → Share → Decision → Type 0
+IsArrivalByWeight a weight d =
+    (members : List Member) (name : NameValue) → member_named members name ≡ None → claimed a.frame members ≡ a.claim → d ≡ arrival (whole a).machine members name weight
 
 -- ---- names and numbers
 

@@ -8,5 +8,6 @@ pub mod Member
 pub mod Members
 pub mod Refusal
 pub mod Removal
+pub mod Restored
 pub mod Roster
 pub mod Standing

@@ -5,12 +5,14 @@ ghost use Rattle.pfair_admission.specs.Member.{IsMember, last_offset, theta, is_
 ghost use Rattle.pfair_admission.specs.Admission.{newcomer, with_delay, is_freed, departure, late_release, running, quantum_of, seatless};
 ghost use Rattle.pfair_admission.specs.Carried.{carried, jobs_done, CanBeCarried};
 ghost use Rattle.pfair_admission.specs.Change.{after_departure, after_late_release, after_quantum};
+ghost use Rattle.pfair_admission.specs.Restored.{member_in};
 ghost use Rattle.std.specs.Option.{option_map};
 
 use crate::decision::Decision;
 use crate::delay::{
     Delay, add_at, carried_delays, coming_after, delay_up_to, is_delayed_at, total_delay,
 };
+use crate::member_state::MemberState;
 use crate::members::Members;
 use crate::quantum::Quantum;
 use crate::refusal::Refusal;
@@ -121,6 +123,14 @@ impl Incarnation {
         ensures member { IsMember self.now }
     {
         self.freed_at
+    }
+
+    /// Returns its accepted delays, in the order of their announcements.
+    pub fn delays(&self) -> &[Delay]
+        ensures value { result.now ≡ self.now.delays }
+        ensures member { IsMember self.now }
+    {
+        &self.delays
     }
 
     /// Returns whether it is departing, and so gets no quantum.
@@ -303,22 +313,38 @@ impl Incarnation {
     {
         let jobs = self.jobs_done();
         let subtasks = jobs * self.weight.cost();
-        let next = self.next() - subtasks;
-        let joined = self.joined + jobs * self.weight.period();
         let delays = carried_delays(alloc, &self.delays, self.next(), subtasks)?;
-        let stepper = Stepper::at(self.weight, next, joined + delay_up_to(&delays, next));
-        let is_put_off = is_delayed_at(&delays, next);
-        let coming = coming_after(alloc, &delays, next)?;
-        Ok(Incarnation {
+        let state = MemberState {
             name: self.name,
             weight: self.weight,
             early: self.early,
-            joined,
+            joined: self.joined + jobs * self.weight.period(),
+            next: self.next() - subtasks,
+            freed_at: self.freed_at,
             delays,
+        };
+        Incarnation::restored(alloc, state)
+    }
+
+    /// The member in that state.
+    pub(crate) fn restored(alloc: Global, state: MemberState) -> Result<Incarnation, AllocError>
+        requires { IsMember (member_in state) }
+        ensures { IfOk result (λ m. m ≡ member_in state) }
+    {
+        let theta = state.joined + delay_up_to(&state.delays, state.next);
+        let stepper = Stepper::at(state.weight, state.next, theta);
+        let is_put_off = is_delayed_at(&state.delays, state.next);
+        let coming = coming_after(alloc, &state.delays, state.next)?;
+        Ok(Incarnation {
+            name: state.name,
+            weight: state.weight,
+            early: state.early,
+            joined: state.joined,
+            delays: state.delays,
             stepper,
             is_put_off,
             coming,
-            freed_at: self.freed_at,
+            freed_at: state.freed_at,
         })
     }
 

@@ -2,7 +2,7 @@
 //!
 //! Each function states one law and does nothing; [`next_key_is_of_its_subtask`] returns true.
 ghost use Rattle.std.specs.Prelude.{IsTrue};
-ghost use Rattle.pfair_admission.specs.Laws.{NamesStayApart, MembersKeepRoom, RefusalsChangeNothing, OrderIsKept, OneDecisionEach, DelaysMoveLaterSubtasks, LeaversHoldTheirClaim, EarlyReleaseKeepsBorders, CarriedMembersStay, CarryingKeepsWindows};
+ghost use Rattle.pfair_admission.specs.Laws.{NamesStayApart, MembersKeepRoom, RefusalsChangeNothing, OrderIsKept, OneDecisionEach, DelaysMoveLaterSubtasks, LeaversHoldTheirClaim, EarlyReleaseKeepsBorders, CarriedMembersStay, CarriedMembersAreRestored, CarryingKeepsWindows, RestoredMembersAreCarried};
 
 use crate::incarnation::Incarnation;
 use pfair_order::Key;
@@ -64,6 +64,17 @@ pub fn carried_members_stay()
 /// ran and of all later ones, its next key, and the slot in which it is freed if it departs.
 pub fn carrying_keeps_windows()
     ensures { CarryingKeepsWindows }
+{}
+
+/// Members that are restored one behind the other have distinct names and weights that add to no more
+/// than the processors. Carrying leaves them as they are, so that a run can begin with them.
+pub fn restored_members_are_carried()
+    ensures { RestoredMembersAreCarried }
+{}
+
+/// Carried members that had joined and weren't freed can be restored, each behind those before it.
+pub fn carried_members_are_restored()
+    ensures { CarriedMembersAreRestored }
 {}
 
 /// The key of a member's next subtask ([`Incarnation::next_subtask`]), which an incarnation keeps by

@@ -1,5 +1,5 @@
 //! The members of a machine at the boundary of a slot, and the decisions on announcements.
-ghost use Rattle.std.specs.Prelude.{◌≡◌, ℕ, ◌≤◌, ◌<◌, ◌+◌, ◌-◌, ◌*◌, ◌^◌, Bool, true, filter, nat_eq, OnOk, OnErr, IfOk, IfSome, IfNone, None, Some, length, map, take};
+ghost use Rattle.std.specs.Prelude.{◌≡◌, ℕ, ◌≤◌, ◌<◌, ◌+◌, ◌-◌, ◌*◌, ◌^◌, Bool, true, [], ◌∷◌, ◌++◌, filter, nat_eq, OnOk, OnErr, IfOk, IfErr, IfSome, IfNone, None, Some, length, map, take};
 ghost use Rattle.std.specs.List.{AllByRecursion};
 ghost use Rattle.indexmap.specs.IndexMap.{values, IsUnique};
 ghost use Rattle.pfair_weight.specs.Share.{units_of};
@@ -10,10 +10,12 @@ ghost use Rattle.pfair_admission.specs.Admission.{member_named, arrival, announc
 ghost use Rattle.pfair_admission.specs.Carried.{carried, CanBeCarried};
 ghost use Rattle.pfair_admission.specs.Removal.{earlier_of, NoneFreed, NoneFreedBefore};
 ghost use Rattle.pfair_admission.specs.Roster.{EachBounded, EachHasRoom};
-ghost use Rattle.pfair_admission.specs.Ledger.{after, after_all, all_told, has_number, is_there, listed, standing, told, CanHear, HasHeard, HasRegister, IsDecided, IsFound, IsLedger, IsPlace, IsUnswept};
+ghost use Rattle.pfair_admission.specs.Restored.{member_in, CanBeRestored, IsRestoreFault};
+ghost use Rattle.pfair_admission.specs.Ledger.{after, after_all, all_told, has_number, is_there, listed, standing, told, whole, CanHear, HasHeard, HasRegister, IsArrivalByWeight, IsDecided, IsFound, IsLedger, IsPlace, IsUnswept};
 
 use crate::decision::Decision;
 use crate::incarnation::{Incarnation, has_come};
+use crate::member_state::{MemberState, RestoreFault};
 use crate::members::Members;
 use crate::refusal::Refusal;
 use indexmap::IndexMap;
@@ -162,6 +164,16 @@ impl Ledger {
         if self.place_of(slot, name).is_some() {
             return Decision::Refused(Refusal::NameTaken);
         }
+        self.arrival_by_weight(weight)
+    }
+
+    // What is decided on an arrival whose name is free.
+    fn arrival_by_weight(&self, weight: Weight) -> Decision
+        requires few_processors { self.now.processors ≤ Members.MAX_PROCESSORS }
+        requires short_frame { self.now.frame ≤ Members.MAX_FRAME }
+        requires room { self.now.claim ≤ self.now.processors * self.now.frame }
+        ensures { IsArrivalByWeight self.now weight result }
+    {
         let Some(units) = weight.units(self.frame) else {
             return Decision::Refused(Refusal::PeriodOutsideFrame);
         };
@@ -225,13 +237,45 @@ impl Ledger {
         Some(place)
     }
 
+    /// Adds a member that a run left that ended before `slot`, unless that is refused.
+    pub(crate) fn restore(&mut self, slot: u64, state: MemberState) -> Result<(), RestoreFault>
+        requires kept { IsLedger (λ _. true) self.old }
+        requires numbers { self.old.admitted + 1 < 2 ^ 64 }
+        ensures fit { OnOk result (CanBeRestored (whole self.old).machine slot (listed self.old) (member_in state)) }
+        ensures members { OnOk result (whole self.new ≡ record (whole self.old) { members = listed self.old ++ member_in state ∷ [] }) }
+        ensures fault { IfErr result (IsRestoreFault (whole self.old).machine slot (listed self.old) (member_in state)) }
+        ensures err { OnErr result (whole self.new ≡ whole self.old) }
+        ensures kept { IsLedger (λ _. true) self.new }
+        ensures numbers { self.new.admitted + length (listed self.old) ≡ self.old.admitted + length (listed self.new) }
+    {
+        if self.find(&state.name).is_some() {
+            return Err(RestoreFault::NotAdmitted(Refusal::NameTaken));
+        }
+        if let Decision::Refused(refusal) = self.arrival_by_weight(state.weight) {
+            return Err(RestoreFault::NotAdmitted(refusal));
+        }
+        if !state.is_left_at(slot) {
+            return Err(RestoreFault::NotLeft);
+        }
+        let (name, weight, freed_at) = (state.name, state.weight, state.freed_at);
+        self.members.reserve(1)?;
+        self.names.reserve(1)?;
+        let member = Incarnation::restored(self.alloc, state)?;
+        self.members.insert(self.admitted, member).unwrap();
+        self.names.insert(name, self.admitted).unwrap();
+        self.admitted += 1;
+        self.claim += claim_of(weight, self.frame);
+        self.first_freeing = earlier(self.first_freeing, freed_at);
+        Ok(())
+    }
+
     /// Creates the ledger of a next run, whose members are these, carried.
     pub(crate) fn carried(&self) -> Result<Ledger, AllocError>
         requires kept { IsLedger (λ _. true) self.now }
         requires able { AllByRecursion CanBeCarried (listed self.now) }
         ensures members { IfOk result (λ next. listed next ≡ map carried (listed self.now)) }
         ensures machine { IfOk result (λ next. (next.processors ≡ self.now.processors) × (next.frame ≡ self.now.frame)) }
-        ensures admitted { IfOk result (λ next. next.admitted ≤ 2 ^ 63) }
+        ensures admitted { IfOk result (λ next. (next.admitted ≡ length (listed next)) × (next.admitted ≤ 2 ^ 63)) }
         ensures kept { IfOk result (λ next. IsLedger (λ _. true) next) }
     {
         let tasks = self.members.len();

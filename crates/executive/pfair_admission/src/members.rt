@@ -1,15 +1,17 @@
 //! The members of a machine from slot to slot.
-ghost use Rattle.std.specs.Prelude.{◌≡◌, ◌≤◌, ◌<◌, ◌+◌, [], OnOk, OnErr, IfOk, IfSome, IfNone, None, Some, is_some, length, map, slice_get, if◌then◌else◌};
+ghost use Rattle.std.specs.Prelude.{◌≡◌, ◌≤◌, ◌<◌, ◌+◌, [], ◌∷◌, ◌++◌, OnOk, OnErr, IfOk, IfErr, IfSome, IfNone, None, Some, is_some, length, map, slice_get, if◌then◌else◌};
 ghost use Rattle.std.specs.List.{AllByRecursion};
 ghost use Rattle.std.specs.Option.{ForSome, option_copied, option_map};
 ghost use Rattle.pfair_entry.specs.Entry.{IsWithinLimits};
 ghost use Rattle.pfair_admission.specs.Admission.{member_named, boundary, boundary_decisions, announcements, decision, running, ran, quantum_of, seatless};
 ghost use Rattle.pfair_admission.specs.Carried.{carried, CanBeCarried, IsFirstLeft};
+ghost use Rattle.pfair_admission.specs.Restored.{member_in, CanBeRestored, IsRestoreFault};
 ghost use Rattle.pfair_admission.specs.Roster.{after_boundary, IsCutShort};
 
 use crate::decision::Decision;
 use crate::incarnation::Incarnation;
 use crate::ledger::Ledger;
+use crate::member_state::{MemberState, RestoreFault};
 use crate::quantum::Quantum;
 use indexmap::IndexMap;
 use pfair_entry::{Announcement, Said};
@@ -113,6 +115,26 @@ impl Members {
             heard: 0,
             last_slot: None,
         })
+    }
+
+    /// Adds a member behind the others, as a run that ended before `slot` can have left it to the next.
+    ///
+    /// Nothing tells whether there was such a run: a member that none left can pass. Call this before
+    /// the first boundary. O(d log d) for d delays, and O(n) at worst for n members, when a map grows.
+    ///
+    /// # Errors
+    /// Returns [`RestoreFault`], with nothing changed, if the name or the weight isn't admitted, if no
+    /// run leaves such a member, or if an allocation fails.
+    pub fn restore(&mut self, slot: u64, state: MemberState) -> Result<(), RestoreFault>
+        requires { self.old.last_slot ≡ None }
+        ensures fit { OnOk result (CanBeRestored self.old.machine slot self.old.members (member_in state)) }
+        ensures members { OnOk result (self.new ≡ record self.old { members = self.old.members ++ member_in state ∷ [] }) }
+        ensures fault { IfErr result (IsRestoreFault self.old.machine slot self.old.members (member_in state)) }
+        ensures err { OnErr result (self.new ≡ self.old) }
+    {
+        // each member has a number
+        prove!(self.ledger.members.len() < 1 << 63);
+        self.ledger.restore(slot, state)
     }
 
     /// Drops the members that are freed by `slot`, decides the announcements one by one in their

@@ -47,6 +47,7 @@ invariant_of-self c =
     record {
       few_heard = omega (arith, heard, c.requires.heard);
       admitted = omega (arith, c.decide_all-decisions.ensures.heard.admitted, c.sweep.ensures.admitted, c.self.invariant.admitted);
+      begun = (let last = ap (λ (r : Roster). r.last_slot) (c.self.view_is ∙ c.pass.ensures) in λ none. absurd (cc));
       bounded = subst (λ (s : Standing). EachBounded (c.self.inside.heard + length c.args.announced.now) s.members) (sym (left ((goal.at.invariant_of-self c).After-sweep)))
           (c.decide_all-decisions.ensures.heard.bounded c.self.inside.heard (bounded_present c.self.inside.heard c.args.slot (listed c.self.inside.ledger) c.self.invariant.bounded));
       kept = c.sweep.ensures.kept;

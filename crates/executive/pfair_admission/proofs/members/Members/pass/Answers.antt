@@ -20,6 +20,7 @@ pub invariant_of-self : goal.invariant_of-self
 invariant_of-self c = record {
   few_heard = c.self.invariant.few_heard;
   admitted = omega (arith, c.sweep.ensures.admitted, c.self.invariant.admitted);
+  begun = λ none. absurd (cc);
   bounded = subst (λ (s : Standing). EachBounded c.self.inside.heard s.members) (sym (left ((goal.at.invariant_of-self c).After-sweep)))
       (bounded_present c.self.inside.heard c.args.slot (listed c.self.inside.ledger) c.self.invariant.bounded);
   kept = c.sweep.ensures.kept;

@@ -10,7 +10,7 @@ use Rattle.pfair_admission.specs.Roster.{Roster}
 use Rattle.pfair_admission.proofs.Boundaries.{bounded_run}
 use Rattle.pfair_admission.proofs.Changes.{ran_like, ran_listed, roster_ran}
 use Rattle.pfair_admission.proofs.Kept.{ledger_written}
-use Rattle.pfair_admission.proofs.Written.{filter_all, is_there_now, within, IsThere}
+use Rattle.pfair_admission.proofs.Written.{filter_all, is_there_now, length_written, within, IsThere}
 use Rattle.pfair_admission.proofs.members.Members.ran_on.Goals as goal
 use Rattle.pfair_admission.proofs.members.Members.ran_on.Goals.{After-run_on}
 
@@ -47,6 +47,7 @@ invariant_of-self c =
     record {
       few_heard = c.self.invariant.few_heard;
       admitted = c.self.invariant.admitted;
+      begun = λ none. c.self.invariant.begun none ∙ sym (length_written c.self.inside.ledger.members.entries c.in_ok-place.place c.run_on.new.self);
       bounded = bounded_run c.self.inside.heard c.args.name.now (listed c.self.inside.ledger) _ (is_some c.run_on.result) (left at) c.self.invariant.bounded;
       kept = ledger_written (λ _. true) c.self.inside.ledger c.in_ok-place.place c.index_mut.result.now c.run_on.new.self c.self.invariant.kept c.index_mut.ensures.value refl refl (ran_like c.index_mut.result.now c.run_on.new.self c.run_on.ensures.member);
     }

@@ -1,0 +1,172 @@
+-- What a run can leave, and whether it is restored.
+use Rattle.std.proofs.lemmas.Grind.{common_steps}
+use Rattle.std.proofs.Common.{◌≡◌, ℕ, ◌+◌, ◌-◌, ◌*◌, ◌<◌, ◌≤◌, Bool, true, false, List, [], ◌∷◌, ◌++◌, length, length-append, map, Option, Some, None, Result, Ok, Err, OnOk, OnErr, refl, sym, ap, subst, ◌∙◌, arith}
+use Rattle.std.specs.Prelude.{is_some, nat_le}
+use Rattle.std.specs.List.{list_all}
+use Rattle.std.specs.Map.{values_of}
+use Rattle.std.proofs.SliceLists.{all_by_recursion_push}
+use Rattle.std.proofs.Math.Nat.{div-eq_of_lt}
+use Rattle.std.proofs.lemmas.Bool.Decides.{nat_tests}
+use Rattle.std.proofs.lemmas.List.Sums.{sum_by-cons}
+use Rattle.pfair_admission.specs.declared.delay.Delay.{Delay}
+use Rattle.pfair_entry.specs.declared.entry.TheConstants.Entry.{LAST_INDEX}
+use Rattle.pfair_admission.specs.declared.members.TheConstants.Members.{LAST_SLOT}
+use Rattle.pfair_admission.specs.Member.{Member, last_offset}
+use Rattle.pfair_weight.specs.Share.{Share}
+use Rattle.pfair_admission.specs.declared.decision.Decision.{Decision}
+use Rattle.pfair_admission.specs.declared.decision.Decision.TheVariants.{Admitted, Refused}
+use Rattle.pfair_admission.specs.declared.refusal.Refusal.{Refusal}
+use Rattle.pfair_admission.specs.declared.refusal.Refusal.TheVariants.{NameTaken}
+use Rattle.pfair_entry.specs.declared.entry.TheConstants.Entry.{LONGEST_DELAY}
+use Rattle.pfair_admission.specs.Ledger.{IsFound, Numbered}
+use Rattle.pfair_admission.specs.Roster.{EachBounded}
+use Rattle.pfair_admission.specs.Standing.{Standing}
+use Rattle.pfair_admission.specs.Admission.{arrival, is_freed, member_named, Machine}
+use Rattle.pfair_admission.specs.Carried.{as_one, carried, coming_delays, delays_from, jobs_done, passed_delays, subtasks_done}
+use Rattle.pfair_admission.specs.Removal.{IsNotBefore}
+use Rattle.pfair_admission.specs.Restored.{is_left_at, is_summed_up, CanBeRestored, IsLeftAt}
+use Rattle.pfair_admission.proofs.CarriedAgain.{done_low, lowered_by_none, next_low}
+use Rattle.pfair_admission.proofs.Written.{filter_all, only_named}
+
+-- ---- delays that are summed up
+
+abbrev come : ℕ → List Delay → Bool
+come next ds = list_all (λ (d : Delay). nat_le next d.index) ds
+
+none_passed : (next : ℕ) (ds : List Delay) → come next ds ≡ true → passed_delays next ds ≡ []
+none_passed next [] h = refl
+none_passed next (d ∷ ds) h = grind (arith, nat_tests, none_passed next ds)
+
+all_come : (next : ℕ) (ds : List Delay) → come next ds ≡ true → coming_delays next ds ≡ ds
+all_come next [] h = refl
+all_come next (d ∷ ds) h = grind (arith, nat_tests, all_come next ds)
+
+pub summed_again : (next : ℕ) (ds : List Delay) → is_summed_up next ds ≡ true → delays_from next 0 ds ≡ ds
+summed_again next [] h = refl
+summed_again next (d ∷ ds) h = grind (arith, map, nat_tests, none_passed, all_come, lowered_by_none, sum_by-cons)
+
+coming_come : (next : ℕ) (ds : List Delay) → come next (coming_delays next ds) ≡ true
+coming_come next [] = refl
+coming_come next (d ∷ ds) = grind (arith, coming_come next ds)
+
+come_summed : (next : ℕ) (ds : List Delay) → come next ds ≡ true → is_summed_up next ds ≡ true
+come_summed next [] h = refl
+come_summed next (d ∷ ds) h = grind arith
+
+first_summed : (next : ℕ) (passed ds : List Delay) → come next ds ≡ true → is_summed_up next (as_one passed ++ ds) ≡ true
+first_summed next [] ds h = come_summed next ds h
+first_summed next (d ∷ passed) ds h = grind (arith, nat_tests)
+
+pub again_summed : (next : ℕ) (ds : List Delay) → delays_from next 0 ds ≡ ds → is_summed_up next ds ≡ true
+again_summed next ds is =
+    let later = lowered_by_none (coming_delays next ds) in
+    sym (ap (is_summed_up next) is) ∙ ap (λ (l : List Delay). is_summed_up next (as_one (passed_delays next ds) ++ l)) later ∙ first_summed next (passed_delays next ds) (coming_delays next ds) (coming_come next ds)
+
+-- ---- members that have nothing left to carry
+
+none_over : (m : Member) → 1 ≤ m.weight.cost → m.next ≤ m.weight.cost + 1 → jobs_done m ≡ 0
+none_over m some first = div-eq_of_lt {n = m.next - 2} {m = m.weight.cost} (omega arith)
+
+pub stays : (m : Member) → 1 ≤ m.weight.cost → m.next ≤ m.weight.cost + 1 → is_summed_up m.next m.delays ≡ true → carried m ≡ m
+stays m some first summed =
+    let none = none_over m some first in
+    let off : subtasks_done m ≡ 0 = (let e = ap (λ n. n * m.weight.cost) none in omega (arith, e)) in
+    let joined : m.joined + jobs_done m * m.weight.period ≡ m.joined = (let e = ap (λ n. n * m.weight.period) none in omega (arith, e)) in
+    let next : m.next - subtasks_done m ≡ m.next = omega (arith, off) in
+    let late : delays_from m.next (subtasks_done m) m.delays ≡ m.delays = ap (λ n. delays_from m.next n m.delays) off ∙ summed_again m.next m.delays summed in
+    λ i. record m { joined = joined i; delays = late i; next = next i }
+
+pub none_off : (m : Member) → carried m ≡ m → subtasks_done m ≡ 0
+none_off m again = let low = done_low m in let next = ap (λ (x : Member). x.next) again in omega (arith, low, next)
+
+-- ---- the test
+
+not_before : (t : ℕ) (slot : Option ℕ) → 1 ≤ t → is_freed (t - 1) slot ≡ false → IsNotBefore (Some t) slot
+not_before t None some h = tt
+not_before t (Some slot) some h = grind (arith, nat_tests)
+
+not_freed : (t : ℕ) (slot : Option ℕ) → 1 ≤ t → IsNotBefore (Some t) slot → is_freed (t - 1) slot ≡ false
+not_freed t None some h = refl
+not_freed t (Some slot) some h = grind (arith, nat_tests)
+
+-- what it tests
+record Passes (t : ℕ) (m : Member) : Type 0 where
+  cost : m.weight.cost ≤ LAST_INDEX
+  first : 1 ≤ m.next
+  next : m.next ≤ m.weight.cost + 1
+  joined : m.joined < t
+  freed_at : is_freed (t - 1) m.freed_at ≡ false
+  summed : is_summed_up m.next m.delays ≡ true
+  offset : last_offset m ≤ LAST_SLOT
+
+passes : (t : ℕ) (m : Member) → is_left_at t m ≡ true → Passes t m
+passes t m h = record {
+  cost = grind (arith, nat_tests);
+  first = grind (arith, nat_tests);
+  next = grind (arith, nat_tests);
+  joined = grind (arith, nat_tests);
+  freed_at = grind (arith, nat_tests);
+  summed = grind (arith, nat_tests);
+  offset = grind (arith, nat_tests);
+}
+
+passed : (t : ℕ) (m : Member) → Passes t m → is_left_at t m ≡ true
+passed t m h = grind (arith, nat_tests)
+
+pub left_at : (t : ℕ) (m : Member) → 1 ≤ m.weight.cost → is_left_at t m ≡ true → IsLeftAt t m
+left_at t m some h =
+    let is = passes t m h in
+    let again = stays m some is.next is.summed in
+    record {
+      able = record { cost = (some, is.cost); offset = subst (λ (x : Member). last_offset x ≤ LAST_SLOT) (sym again) is.offset };
+      again = again;
+      first = is.first;
+      joined = is.joined;
+      freed_at = not_before t m.freed_at (omega (arith, is.joined)) is.freed_at;
+    }
+
+pub is_left : (t : ℕ) (m : Member) → IsLeftAt t m → is_left_at t m ≡ true
+is_left t m h =
+    let none = none_off m h.again in
+    passed t m (record {
+      cost = h.able.cost.1;
+      first = h.first;
+      next = subst (λ (x : Member). x.next ≤ m.weight.cost + 1) h.again (next_low m h.able.cost.0 h.first);
+      joined = h.joined;
+      freed_at = not_freed t m.freed_at (omega (arith, h.joined)) h.freed_at;
+      summed = again_summed m.next m.delays (ap (λ n. delays_from m.next n m.delays) (sym none) ∙ ap (λ (x : Member). x.delays) h.again);
+      offset = subst (λ (x : Member). last_offset x ≤ LAST_SLOT) h.again h.able.offset;
+    })
+
+-- ---- whether the name and the weight are admitted
+
+pub name_found : (name : List ℕ) (ms : List Member) (o : Option ℕ) → IsFound (λ _. true) name ms o → is_some o ≡ true → is_some (member_named ms name) ≡ true
+name_found name ms None h some = absurd (cc)
+name_found name ms (Some place) h some = ap (λ (o : Option Member). is_some o) (ap (λ (l : List Member). member_named l name) (sym (filter_all ms)) ∙ only_named (λ _. true) name ms place h.0 h.1)
+
+pub name_free : (name : List ℕ) (ms : List Member) (o : Option ℕ) → IsFound (λ _. true) name ms o → is_some o ≡ false → member_named ms name ≡ None
+name_free name ms None h none = ap (λ (l : List Member). member_named l name) (sym (filter_all ms)) ∙ h
+name_free name ms (Some place) h none = absurd (cc)
+
+pub arrival_taken : (machine : Machine) (ms : List Member) (name : List ℕ) (w : Share) → is_some (member_named ms name) ≡ true → arrival machine ms name w ≡ Refused NameTaken
+arrival_taken machine ms name w some = grind arith
+
+-- no other decision is made on an arrival
+pub admitted_else : (machine : Machine) (ms : List Member) (name : List ℕ) (w : Share) (d : Decision) → d ≡ arrival machine ms name w → ((refusal : Refusal) → d ≡ Refused refusal → ⊥) → Admitted ≡ arrival machine ms name w
+admitted_else machine ms name w d is other = grind arith
+
+-- ---- one member more
+
+pub length_values : (es : Numbered) → length (values_of es) ≡ length es
+length_values es = grind (arith, common_steps)
+
+pub length_restored : {A E : Type 0} (r : Result A E) (old new : Standing) (m : Member) → OnOk r (new ≡ record old { members = old.members ++ m ∷ [] }) → OnErr r (new ≡ old) → length new.members ≤ length old.members + 1
+length_restored (Ok x) old new m is same = let more = ap (λ (s : Standing). length s.members) is in omega (arith, more, length-append old.members (m ∷ []))
+length_restored (Err e) old new m is same = let more = ap (λ (s : Standing). length s.members) same in omega (arith, more)
+
+pub bounded_restored : {A E : Type 0} (r : Result A E) (heard t : ℕ) (machine : Machine) (old new : Standing) (m : Member) → OnOk r (CanBeRestored machine t old.members m) → OnOk r (new ≡ record old { members = old.members ++ m ∷ [] })
+    → OnErr r (new ≡ old) → EachBounded heard old.members → EachBounded heard new.members
+bounded_restored (Ok x) heard t machine old new m fit is same h =
+    let fits = subst (λ (x : Member). last_offset x ≤ LAST_SLOT) fit.left.again fit.left.able.offset in
+    subst (λ (s : Standing). EachBounded heard s.members) (sym is) (all_by_recursion_push (λ x. last_offset x ≤ LAST_SLOT + LONGEST_DELAY * heard) old.members m h (omega (arith, fits)))
+bounded_restored (Err e) heard t machine old new m fit is same h = subst (λ (s : Standing). EachBounded heard s.members) (sym same) h
