@@ -139,9 +139,10 @@ fn first_book<R: Ready>(alloc: Global, dispatcher: &Dispatcher<R>) -> Result<Lag
     ensures { IfOk result (λ book. book ≡ first_book dispatcher.now.origin) }
 {
     let mut book = LagBook::new(alloc);
-    let Some((members, slot)) = dispatcher.carried() else {
+    let Some(state) = dispatcher.state() else {
         return Ok(book);
     };
+    let (members, slot) = (state.members(), state.slot());
     for place in 0..members.len() {
         enter_at(&mut book, members, place, slot)?;
     }

@@ -73,8 +73,8 @@ pub extern "C" fn pfair_members(
 fn time_of(dispatcher: &Dispatcher<HeapReady>) -> u64
     ensures { result ≡ time_of dispatcher.now }
 {
-    let began = match dispatcher.carried() {
-        Some((_, slot)) => slot,
+    let began = match dispatcher.state() {
+        Some(state) => state.slot(),
         None => 0,
     };
     began + dispatcher.next_slot()

@@ -14,7 +14,7 @@ pub mod Lowered
 mod MemberLists
 pub mod NamesKept
 mod Registers
-mod RestoredRuns
+pub mod RestoredRuns
 pub mod Restoring
 pub mod Successors
 mod Sums

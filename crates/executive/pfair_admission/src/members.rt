@@ -233,6 +233,22 @@ impl Members {
         Some(&self.ledger.members[place])
     }
 
+    /// Returns the number of processors.
+    pub fn processors(&self) -> u8
+        ensures value { result ≡ self.now.machine.processors }
+        ensures few { result ≤ Members.MAX_PROCESSORS }
+    {
+        self.ledger.processors
+    }
+
+    /// Returns the slots of a frame.
+    pub fn frame(&self) -> u64
+        ensures value { result ≡ self.now.machine.frame }
+        ensures short { result ≤ Members.MAX_FRAME }
+    {
+        self.ledger.frame
+    }
+
     /// Returns the number of members.
     pub fn len(&self) -> usize
         ensures { result ≡ length self.now.members }

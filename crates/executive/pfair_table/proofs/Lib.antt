@@ -8,6 +8,7 @@ mod QueueKept
 mod GivingQuanta
 pub mod FirstSubtasks
 mod Slots
+mod States
 mod Steps
 mod Keeping
 mod Kept

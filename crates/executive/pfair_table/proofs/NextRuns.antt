@@ -9,18 +9,18 @@ use Rattle.pfair_replica.specs.HeldRows.{HeldRows, replica_of}
 use Rattle.pfair_replica.specs.Replica.{Replica, IsReplica, has_torn, said}
 use Rattle.pfair_replica.proofs.Marks.{same_said}
 use Rattle.pfair_ready.specs.Queue.{Queue}
-use Rattle.std.specs.Prelude.{Result, IfErr}
+use Rattle.std.specs.Prelude.{Result, Ok, Err, IfErr, OnOk}
 use Rattle.std.specs.Result.{IsErrAnd}
 use Rattle.pfair_admission.specs.Carried.{carried, CanBeCarried}
 use Rattle.pfair_table.specs.declared.answer.NextRunFault.{NextRunFault}
-use Rattle.pfair_table.specs.declared.answer.NextRunFault.TheVariants.{Memory}
+use Rattle.pfair_table.specs.declared.answer.NextRunFault.TheVariants.{Torn, Spent, Unfinished, PastLastSlot, CannotCarry, Memory}
 use Rattle.pfair_admission.specs.Roster.{Roster}
 use Rattle.pfair_admission.specs.declared.members.TheConstants.Members.{LAST_SLOT}
 use Rattle.pfair_admission.proofs.CarriedAgain.{able_again, carried_again}
 use Rattle.pfair_admission.proofs.Each.{each_map}
 use Rattle.pfair_table.specs.declared.pick.Decided.{Decided}
 use Rattle.pfair_table.specs.Limits.{IsCarried}
-use Rattle.pfair_table.specs.NextRun.{IsFinished, IsNextRunFault, LeaveAlike, end_of, members_left}
+use Rattle.pfair_table.specs.NextRun.{CanBeFollowed, IsFinished, IsNextRunFault, IsResumeFault, LeaveAlike, end_of, left_by, members_left}
 use Rattle.pfair_table.specs.Places.{table_before, places_before, places_in, IsFit, ArePlacesOf}
 use Rattle.pfair_table.specs.Planned.{last_or}
 use Rattle.pfair_table.specs.Refinement.{Dispatch, IsKept, members_after}
@@ -79,6 +79,23 @@ module _ {o : Origin} {s : Settings} {x : HeldRows} {tables : List Table} {decid
   -- and if they can be carried, only memory can be missing
   pub memory_seen : AllByRecursion CanBeCarried roster.members → {A : Type 0} (slots : ℕ) (r : Result A NextRunFault) → IsErrAnd r (λ e. e ≡ Memory) → end_of d + slots ≤ LAST_SLOT → IfErr r (IsNextRunFault d slots)
   memory_seen able slots r is within = (let all = able_seen able in grind (arith, finished, within, all))
+
+-- ---- a run that is resumed with what is left
+
+pub followed_seen : {A : Type 0} (r : Result A NextRunFault) (d : Dispatch) (slots : ℕ) → CanBeFollowed d slots → OnOk r (CanBeFollowed d slots)
+followed_seen (Ok x) d slots can = can
+followed_seen (Err f) d slots can = tt
+
+pub fault_seen : {A : Type 0} (r : Result A NextRunFault) (d : Dispatch) (c : Carried) (slots : ℕ) → c ≡ left_by d → CanBeFollowed d slots → IfErr r (IsResumeFault c slots) → IfErr r (IsNextRunFault d slots)
+fault_seen (Ok x) d c slots is can fault = tt
+fault_seen (Err (Torn proc number)) d c slots is can fault = absurd fault
+fault_seen (Err Spent) d c slots is can fault = absurd fault
+fault_seen (Err Unfinished) d c slots is can fault = absurd fault
+fault_seen (Err PastLastSlot) d c slots is can fault =
+    let within = can.within in
+    let slot_is : c.slot ≡ end_of d = ap (λ (e : Carried). e.slot) is in absurd (omega (arith, within, slot_is, fault))
+fault_seen (Err (CannotCarry name)) d c slots is can fault = absurd fault
+fault_seen (Err Memory) d c slots is can fault = can
 
 -- Of finished runs that began alike and hold what agrees, a next run takes over the same.
 pub left_alike : {o q : Origin} {s r : Settings} {x y : HeldRows} {tx ty : List Table} {dx dy : List (List Decided)} {bx by : Bool} {fx fy : ℕ} {mx my : Roster} {nx ny : ℕ} {hx hy : Queue}

@@ -56,6 +56,12 @@ IsNextRunFault d slots PastLastSlot = IsFinished d × (LAST_SLOT < end_of d + sl
 IsNextRunFault d slots (CannotCarry name) = IsFinished d × (end_of d + slots ≤ LAST_SLOT) × IsFirstLeft (members_left d) name
 IsNextRunFault d slots Memory = CanBeFollowed d slots
 
+-- why no run of so many slots begins with that state
+abbrev pub IsResumeFault : Carried → ℕ → NextRunFault → Type 0
+IsResumeFault c slots PastLastSlot = LAST_SLOT < c.slot + slots
+IsResumeFault c slots Memory = c.slot + slots ≤ LAST_SLOT
+IsResumeFault c slots f = ⊥
+
 -- If settings and contents agree, and where the runs began, finished runs leave the same.
 abbrev pub LeaveAlike : Dispatch → Dispatch → Type 0
 LeaveAlike c d = c.settings ≡ d.settings → c.origin ≡ d.origin → Agree (replica_of c.held) (replica_of d.held) → IsFinished c → IsFinished d → left_by c ≡ left_by d

@@ -26,6 +26,7 @@ mod settings;
 mod single;
 mod slot;
 mod slot_planner;
+mod state;
 
 pub use answer::{NextRunFault, PlanFault, Step};
 pub use dispatcher::Dispatcher;
@@ -39,3 +40,4 @@ pub use settings::Settings;
 pub use single::take_script;
 pub use slot::SlotPlan;
 pub use slot_planner::SlotPlanner;
+pub use state::State;

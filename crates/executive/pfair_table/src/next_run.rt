@@ -1,21 +1,22 @@
 //! A run after a run, which begins with the members that the last one left.
-ghost use Rattle.std.specs.Prelude.{◌≡◌, ◌≤◌, ◌+◌, false, IfOk, IfErr, IfSome, OnOk};
-ghost use Rattle.std.specs.Option.{option_map};
+ghost use Rattle.std.specs.Prelude.{◌≡◌, ◌≤◌, ◌+◌, false, Some, IfOk, IfErr, OnOk};
 ghost use Rattle.std.specs.List.{AllByRecursion};
+ghost use Rattle.std.specs.Option.{option_map};
 ghost use Rattle.pfair_replica.specs.HeldRows.{IsShape};
 ghost use Rattle.pfair_admission.specs.declared.members.TheConstants.Members.{LAST_SLOT};
 ghost use Rattle.pfair_admission.specs.Carried.{CanBeCarried};
 ghost use Rattle.pfair_table.specs.Events.{begin_at};
-ghost use Rattle.pfair_table.specs.Limits.{IsOrigin};
-ghost use Rattle.pfair_table.specs.NextRun.{CanBeFollowed, AreCarriedOf, IsFinished, IsNextRunFault, end_of, start_after};
+ghost use Rattle.pfair_table.specs.Limits.{IsOrigin, settings_from};
+ghost use Rattle.pfair_table.specs.NextRun.{CanBeFollowed, AreCarriedOf, IsFinished, IsNextRunFault, IsResumeFault, end_of, left_by, members_left, start_after};
 ghost use Rattle.pfair_table.specs.Refinement.{course_of};
 
 use crate::answer::{NextRunFault, Step};
 use crate::dispatcher::Dispatcher;
-use crate::origin::{Carried, Origin, slot_of};
+use crate::origin::{Origin, slot_of};
 use crate::planned::Planned;
 use crate::planner::Planner;
 use crate::settings::Settings;
+use crate::state::State;
 use pfair_admission::Members;
 use pfair_ready::Ready;
 use pfair_replica::Replica;
@@ -59,49 +60,68 @@ impl<R: Ready> Dispatcher<R> {
             return Err(NextRunFault::CannotCarry { name });
         }
         let members = left.carried()?;
-        Ok(self.begin_with(self.planner.settings.with_slots(slots), slot, members)?)
+        let state = self.left(slot, members)?;
+        Dispatcher::resume(self.planner.alloc, state, slots, self.replica.capacity())
     }
 
-    /// Returns the members with which this run began, and the slot at which it did, counted from the
-    /// first run's first slot. `None` in a first run, and only then. O(1).
-    pub fn carried(&self) -> Option<(&Members, u64)>
-        ensures members { option_map (λ began. began.0.now.members) result ≡ option_map (λ c. c.members) self.now.origin }
-        ensures slot { option_map (λ began. began.1) result ≡ option_map (λ c. c.slot) self.now.origin }
-        ensures able { IfSome result (λ began. AllByRecursion CanBeCarried began.0.now.members × (began.1 ≤ LAST_SLOT)) }
+    /// Returns the state in which this run began. `None` in a first run, and only then. O(1).
+    pub fn state(&self) -> Option<&State>
+        ensures { option_map (λ state. state.now) result ≡ self.now.origin }
     {
-        let Some(carried) = self.planned.origin() else {
-            return None;
-        };
-        Some((&carried.members, carried.slot))
+        self.planned.origin().as_ref()
     }
 
-    // A dispatcher for the run after this one, which begins at a slot with these members.
-    fn begin_with(
-        &self,
-        settings: Settings,
-        slot: u64,
-        members: Members,
-    ) -> Result<Dispatcher<R>, AllocError>
-        requires settings { settings ≡ record self.now.settings { slots = settings.slots } }
-        requires able { CanBeFollowed self.now settings.slots }
+    /// Creates a dispatcher for a run of 1 to 1,000,000 slots that begins with a state, with room for
+    /// logs of `capacity` entries. It holds no entries and has planned nothing.
+    ///
+    /// If a finished dispatcher's next run began in the state, this one is what
+    /// [`Dispatcher::next_run`] gives. O(n log n + d log d) for n members with d accepted delays.
+    ///
+    /// # Errors
+    /// [`NextRunFault::PastLastSlot`] if the run would end after slot [`Members::LAST_SLOT`] of all
+    /// runs, and [`NextRunFault::Memory`] if an allocation fails.
+    pub fn resume(
+        alloc: Global,
+        state: State,
+        slots: u64,
+        capacity: u32,
+    ) -> Result<Dispatcher<R>, NextRunFault>
+        requires shape { IsShape state.machine.processors capacity }
+        requires some { 1 ≤ slots }
+        requires few { slots ≤ Settings.MAX_SLOTS }
+        ensures settings { IfOk result (λ d. d.settings ≡ settings_from state slots) }
+        ensures course { IfOk result (λ d. course_of d ≡ begin_at (Some state) (settings_from state slots) capacity) }
+        ensures standing { IfOk result (λ d. d.forgotten ≡ 0) }
+        ensures spent { IfOk result (λ d. d.spent ≡ false) }
+        ensures fault { IfErr result (IsResumeFault state slots) }
+    {
+        if state.slot() + slots > Members::LAST_SLOT {
+            return Err(NextRunFault::PastLastSlot);
+        }
+        let settings = Settings::from_state(&state, slots);
+        Ok(Dispatcher::begin(alloc, settings, capacity, Some(state))?)
+    }
+
+    // What this run leaves to the next one, whose members are these.
+    fn left(&self, slot: u64, members: Members) -> Result<State, AllocError>
+        requires finished { IsFinished self.now }
+        requires able { AllByRecursion CanBeCarried (members_left self.now) }
         requires slot { slot ≡ end_of self.now }
+        requires early { slot ≤ LAST_SLOT }
         requires carried { AreCarriedOf self.now members }
-        ensures settings { IfOk result (λ next. next.settings ≡ settings) }
-        ensures course { IfOk result (λ next. course_of next ≡ start_after self.now) }
-        ensures standing { IfOk result (λ next. next.forgotten ≡ 0) }
-        ensures spent { IfOk result (λ next. next.spent ≡ false) }
+        ensures { IfOk result (λ state. state ≡ left_by self.now) }
     {
-        // a replica holds entries of its own logs
+        // a replica holds entries of its own logs, and a machine has a processor
         prove!(self.replica.processors() >= 1);
+        prove!(self.planner.settings.processors() >= 1);
         let alloc = self.planner.alloc;
         let (table, places) = self.planned.last();
-        let carried = Carried {
+        Ok(State {
             slot,
             members,
             table: Vec::from_slice(alloc, table)?,
             places: Vec::from_slice(alloc, places)?,
-        };
-        Dispatcher::begin(alloc, settings, self.replica.capacity(), Some(carried))
+        })
     }
 
     // Returns the slot after the last one of all runs so far, if a run of so many slots can begin there.

@@ -6,31 +6,12 @@ ghost use Rattle.pfair_table.specs.Places.{table_before, places_before};
 
 use crate::pick::Pick;
 use crate::settings::Settings;
+use crate::state::State;
 use pfair_admission::Members;
 use std::alloc::{AllocError, Global};
-use std::marker::Model;
-
-/// What a run takes over from the one before.
-#[derive(Drop)]
-pub(crate) struct Carried {
-    /// The slot after the last one of that run, counted from the first run's first slot.
-    pub slot: u64,
-    pub members: Members,
-    /// The last table of that run, and its places.
-    pub table: Vec<Pick>,
-    pub places: Vec<u8>,
-}
-
-impl Model for Carried {
-    ghost use Rattle.pfair_table.specs.Table.{Carried as Taken};
-
-    ghost Value = { Taken };
-
-    ghost view = { λ a. record { slot = a.slot; machine = a.members.machine; members = a.members.members; table = a.table.items; places = a.places.items } };
-}
 
 /// What a run takes over, if it isn't the first.
-pub(crate) type Origin = Option<Carried>;
+pub(crate) type Origin = Option<State>;
 
 /// Returns the members before the run's first slot.
 pub(crate) fn first_members(
@@ -41,11 +22,11 @@ pub(crate) fn first_members(
     requires { IsOrigin origin.now settings }
     ensures { IfOk result (λ members. members ≡ record { machine = machine settings; members = members_before origin.now; heard = 0; last_slot = None }) }
 {
-    let Some(carried) = origin else {
+    let Some(state) = origin else {
         return Ok(Members::new(alloc, settings.processors(), settings.frame()));
     };
     // members that were carried can be carried again, and stay as they are
-    carried.members.carried()
+    state.members.carried()
 }
 
 /// Returns slot `slot` of the run, counted from the first run's first slot.
@@ -54,7 +35,7 @@ pub(crate) fn slot_of(origin: &Origin, slot: u64) -> u64
     ensures { result ≡ slot_of origin.now slot }
 {
     match origin {
-        Some(carried) => carried.slot + slot,
+        Some(state) => state.slot + slot,
         None => slot,
     }
 }
@@ -65,7 +46,7 @@ pub(crate) fn slot_before(origin: &Origin) -> (&[Pick], &[u8])
     ensures places { result.1.now ≡ places_before origin.now }
 {
     match origin {
-        Some(carried) => (&carried.table, &carried.places),
+        Some(state) => (&state.table, &state.places),
         None => (&[], &[]),
     }
 }

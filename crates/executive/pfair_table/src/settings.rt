@@ -1,8 +1,9 @@
 //! What a run is set to.
 ghost use Rattle.std.specs.Prelude.{◌≡◌, ◌≤◌};
 ghost use Rattle.std.specs.Option.{SomeIff};
-ghost use Rattle.pfair_table.specs.Limits.{IsSettings};
+ghost use Rattle.pfair_table.specs.Limits.{IsSettings, settings_from};
 
+use crate::state::State;
 use pfair_admission::Members;
 use pfair_entry::Entry;
 use std::marker::Model;
@@ -59,13 +60,18 @@ impl Settings {
         }
     }
 
-    /// Returns the same settings for so many slots, 1 to [`Settings::MAX_SLOTS`].
-    pub(crate) fn with_slots(self, slots: u64) -> Settings
+    /// Returns the settings of a run of so many slots that begins with a state.
+    pub(crate) fn from_state(state: &State, slots: u64) -> Settings
         requires some { 1 ≤ slots }
         requires few { slots ≤ Settings.MAX_SLOTS }
-        ensures { result ≡ record self { slots = slots } }
+        ensures { result ≡ settings_from state.now slots }
     {
-        Settings { slots, ..self }
+        let members = state.members();
+        Settings {
+            processors: members.processors(),
+            frame: members.frame(),
+            slots,
+        }
     }
 
     /// Returns the number of processors.

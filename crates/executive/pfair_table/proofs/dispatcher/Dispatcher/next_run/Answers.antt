@@ -1,12 +1,12 @@
-use Rattle.std.proofs.Common.{◌∙◌, sym, ap, subst, arith, map, List}
+use Rattle.std.proofs.Common.{◌∙◌, sym, ap, subst, map, List}
 use Rattle.pfair_admission.specs.Carried.{carried, IsFirstLeft}
 use Rattle.pfair_admission.specs.Member.{Member}
 use Rattle.pfair_admission.specs.Roster.{Roster}
 use Rattle.pfair_table.specs.NextRun.{IsFinished}
 use Rattle.pfair_table.specs.Refinement.{Dispatch}
-use Rattle.pfair_table.specs.Table.{Settings, machine}
+use Rattle.pfair_table.specs.Table.{machine}
 use Rattle.pfair_table.proofs.Keeping.{step_now}
-use Rattle.pfair_table.proofs.NextRuns.{able_seen, left_seen, memory_seen}
+use Rattle.pfair_table.proofs.NextRuns.{able_seen, fault_seen, followed_seen, left_seen, memory_seen}
 use Rattle.pfair_table.proofs.dispatcher.Dispatcher.next_run.Goals as goal
 
 pub returns-in-Some-clause-fault : goal.returns-in-Some-clause-fault
@@ -19,22 +19,17 @@ returns-in_err-members-clause-fault g c =
     memory_seen c.self.invariant.0 c.processors.ensures.rows.entries c.args.self.now c.self.view_is c.in_ok-slot.ensures.finished c.in_default.ensures.none
     c.args.slots c.from_residual-in_err-members.result c.from_residual-in_err-members.ensures.1 c.in_ok-slot.ensures.within
 
-pub returns-in_err-begin_with-clause-fault : goal.returns-in_err-begin_with-clause-fault
-returns-in_err-begin_with-clause-fault g c =
+pub returns-in_err-state-clause-fault : goal.returns-in_err-state-clause-fault
+returns-in_err-state-clause-fault g c =
     memory_seen c.self.invariant.0 c.processors.ensures.rows.entries c.args.self.now c.self.view_is c.in_ok-slot.ensures.finished c.in_default.ensures.none
-    c.args.slots c.from_residual-in_err-begin_with.result c.from_residual-in_err-begin_with.ensures.1 c.in_ok-slot.ensures.within
+    c.args.slots c.from_residual-in_err-state.result c.from_residual-in_err-state.ensures.1 c.in_ok-slot.ensures.within
 
-pub begin_with-requires-clause-able : goal.begin_with-requires-clause-able
-begin_with-requires-clause-able g c =
-    let slots_are = ap (λ (s : Settings). s.slots) c.with_slots.ensures in
-    record {
-      finished = c.in_ok-slot.ensures.finished;
-      within = omega (arith, c.in_ok-slot.ensures.within, slots_are);
-      able = able_seen c.self.invariant.0 c.processors.ensures.rows.entries c.args.self.now c.self.view_is c.in_ok-slot.ensures.finished c.in_default.ensures.none;
-    }
+pub left-requires-clause-able : goal.left-requires-clause-able
+left-requires-clause-able g c =
+    able_seen c.self.invariant.0 c.processors.ensures.rows.entries c.args.self.now c.self.view_is c.in_ok-slot.ensures.finished c.in_default.ensures.none
 
-pub begin_with-requires-clause-carried : goal.begin_with-requires-clause-carried
-begin_with-requires-clause-carried g c =
+pub left-requires-clause-carried : goal.left-requires-clause-carried
+left-requires-clause-carried g c =
     let finished = subst IsFinished (sym c.self.view_is) c.in_ok-slot.ensures.finished in
     record {
       machine_is = ap (λ (r : Roster). r.machine) c.in_ok-members.ensures
@@ -45,8 +40,15 @@ begin_with-requires-clause-carried g c =
     }
 
 pub returns-clause-able : goal.returns-clause-able
-returns-clause-able g c = record {
-  finished = c.in_ok-slot.ensures.finished;
-  within = c.in_ok-slot.ensures.within;
-  able = able_seen c.self.invariant.0 c.processors.ensures.rows.entries c.args.self.now c.self.view_is c.in_ok-slot.ensures.finished c.in_default.ensures.none;
-}
+returns-clause-able g c =
+    let finished = c.in_ok-slot.ensures.finished in
+    let within = c.in_ok-slot.ensures.within in
+    let able = able_seen c.self.invariant.0 c.processors.ensures.rows.entries c.args.self.now c.self.view_is finished c.in_default.ensures.none in
+    followed_seen c.resume.result c.args.self.now c.args.slots (record { finished = finished; within = within; able = able })
+
+pub returns-clause-fault : goal.returns-clause-fault
+returns-clause-fault g c =
+    let finished = c.in_ok-slot.ensures.finished in
+    let able = able_seen c.self.invariant.0 c.processors.ensures.rows.entries c.args.self.now c.self.view_is finished c.in_default.ensures.none in
+    fault_seen c.resume.result c.args.self.now c.in_ok-state.state c.args.slots c.in_ok-state.ensures
+    (record { finished = finished; within = c.in_ok-slot.ensures.within; able = able }) c.resume.ensures.fault
