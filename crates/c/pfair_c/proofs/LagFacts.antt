@@ -11,11 +11,11 @@ use Rattle.pfair_table.specs.Refinement.{Dispatch}
 use Rattle.pfair_output.proofs.WorldFacts.{entered_time}
 use Rattle.pfair_output.specs.Told.{slot_told, all_slots_told, all_entered, entered_again, first_book}
 use Rattle.std.proofs.lemmas.Option.{none-some, same_Some}
-use Rattle.pfair_output.proofs.SlotFacts.{first_left}
 use Rattle.pfair_output.proofs.ToldFacts.{time-all_told}
 use Rattle.pfair_c.specs.Rows.{rows_of}
 use Rattle.pfair_c.specs.Lags.{book_after, book_rows, lags_at}
 use Rattle.pfair_c.proofs.SlotRows.{one-slot-more}
+use Rattle.pfair_text.proofs.RowFacts.{first_left}
 
 -- ---- what it begins with
 

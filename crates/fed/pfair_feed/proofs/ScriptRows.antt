@@ -6,7 +6,7 @@ use Rattle.std.proofs.lemmas.Bool.{and_parts, leb-true}
 use Rattle.std.proofs.lemmas.Grind.{flat_map-append}
 use Rattle.std.proofs.lemmas.List.{append-nil, map-append}
 use Rattle.pfair_text.specs.Rows.{lines_text, line}
-use Rattle.pfair_text.proofs.RowFacts.{lines_text-append}
+use Rattle.pfair_text.proofs.RowFacts.{first_left, lines_text-append}
 use Rattle.pfair_lattice.specs.declared.flat.Flat.TheVariants.{One}
 use Rattle.pfair_entry.specs.Entry.{Logged}
 use Rattle.pfair_entry_row.specs.Laws.{RowsAreLines}
@@ -18,7 +18,6 @@ use Rattle.pfair_feed.specs.Feeding.{AreLines, IsOneLine, ended}
 use Rattle.pfair_feed.specs.RoundTrip.{IsOneOf, IsPlaced, IsScript, Placed, placed_from, placed_in, row_of, rows_of}
 use Rattle.std.proofs.lemmas.Option.{same_Some}
 use Rattle.pfair_entry_row.specs.Row.{entry_fields}
-use Rattle.pfair_output.proofs.SlotFacts.{first_left}
 
 -- ---- their rows
 

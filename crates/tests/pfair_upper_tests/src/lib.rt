@@ -23,3 +23,5 @@ mod lag;
 mod long_runs;
 #[cfg(test)]
 mod reports;
+#[cfg(test)]
+mod states;

@@ -5,8 +5,8 @@ ghost use Rattle.pfair_entry_row.specs.Row.{dash, truth};
 
 use itoa::Buffer;
 
-/// The number that a field is the text of.
-pub(crate) fn read_number(field: &[u8]) -> Option<u64>
+/// Returns the number that a field is the text of, without leading zeros, if it is one of 64 bits.
+pub fn read_number(field: &[u8]) -> Option<u64>
     ensures { MatchOption result ((n : ℕ) → n < 2 ^ 64 → field.now ≢ decimal n) (λ n. (n < 2 ^ 64) × (field.now ≡ decimal n)) }
 {
     let number: u64 = str::from_utf8(field).ok()?.parse().ok()?;
@@ -17,8 +17,8 @@ pub(crate) fn read_number(field: &[u8]) -> Option<u64>
     }
 }
 
-/// The truth that a field is the word of.
-pub(crate) fn read_truth(field: &[u8]) -> Option<bool>
+/// Returns the truth that a field is the word of, if it is one.
+pub fn read_truth(field: &[u8]) -> Option<bool>
     ensures { MatchOption result ((b : Bool) → field.now ≢ truth b) (λ b. field.now ≡ truth b) }
 {
     match field {
@@ -28,8 +28,8 @@ pub(crate) fn read_truth(field: &[u8]) -> Option<bool>
     }
 }
 
-/// Whether a field stands for nothing.
-pub(crate) fn is_dash(field: &[u8]) -> bool
+/// Returns whether a field stands for nothing.
+pub fn is_dash(field: &[u8]) -> bool
     ensures { IsTrue result ↔ (field.now ≡ dash) }
 {
     field == b"-".as_slice()

@@ -130,8 +130,8 @@ fn add_said(
     )
 }
 
-// The word for whether a task may run early.
-fn truth_word(early: bool) -> &'static str
+/// Returns the word for whether a task may run early.
+pub fn truth_word(early: bool) -> &'static str
     ensures word { result.now ≡ truth early }
     ensures plain { IsTrue (is_plain result.now) }
 {

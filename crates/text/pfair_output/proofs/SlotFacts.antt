@@ -2,17 +2,8 @@
 use Rattle.std.proofs.Common.{ℕ, zero, suc, ◌+◌, ◌<◌, ◌≤◌, ◌≡◌, refl, sym, ap, ◌∙◌, arith, List, [], ◌∷◌, ◌++◌, Some, length, drop, slice_get, append_assoc}
 use Rattle.std.proofs.lemmas.List.{append-nil, drop_all}
 use Rattle.pfair_text.specs.Rows.{IsOpen, TextWriter, lines_text, text_so_far}
-use Rattle.pfair_text.proofs.RowFacts.{lines_text-append}
+use Rattle.pfair_text.proofs.RowFacts.{first_left, lines_text-append}
 use Rattle.pfair_output.specs.Slots.{slots_from}
-
--- the first of what is left
-pub first_left : {A : Type 0} (xs : List A) (i : ℕ) → i < length xs → (x : A) × (slice_get xs i ≡ Some x) × (drop i xs ≡ x ∷ drop (i + 1) xs)
-first_left {A} xs i inside = let t = at xs i inside in (t.0, t.1, t.2 ∙ ap (λ n. t.0 ∷ drop n xs) (let n : suc i ≡ i + 1 = omega arith in n))
-  where
-    at : (xs : List A) (i : ℕ) → i < length xs → (x : A) × (slice_get xs i ≡ Some x) × (drop i xs ≡ x ∷ drop (suc i) xs)
-    at [] i h = absurd (omega arith)
-    at (y ∷ ys) zero h = (y, refl, refl)
-    at (y ∷ ys) (suc i) h = at ys i (omega arith)
 
 module _ {A : Type 0} (rows : ℕ → A → List (List (List ℕ))) where
   -- the rows of one slot more

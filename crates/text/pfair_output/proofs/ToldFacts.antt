@@ -6,7 +6,7 @@ use Rattle.std.proofs.lemmas.List.{append-nil, drop_all, length-drop, length-tak
 use Rattle.std.proofs.lemmas.Option.{same_Some}
 use Rattle.std.specs.Fmt.{decimal, signed_decimal}
 use Rattle.pfair_text.specs.Rows.{line, lines_text}
-use Rattle.pfair_text.proofs.RowFacts.{lines_text-append}
+use Rattle.pfair_text.proofs.RowFacts.{first_left, lines_text-append}
 use Rattle.pfair_weight.specs.Share.{Share}
 use Rattle.pfair_entry.specs.declared.announcement.Announcement.{Announcement}
 use Rattle.pfair_entry.specs.declared.announcement.Announcement.TheVariants.{Arrive, Depart, Late}
@@ -16,7 +16,6 @@ use Rattle.pfair_table.specs.Table.{Table}
 use Rattle.pfair_weight.specs.Name.{NameValue}
 use Rattle.pfair_lag.specs.Book.{Tally, Book, tally_of, lag_of, entered_with, left}
 use Rattle.pfair_output.specs.Told.{is_admitted, is_leave, told, all_told, slot_told, all_slots_told, tally_row, book_rows, rows_told}
-use Rattle.pfair_output.proofs.SlotFacts.{first_left}
 
 -- ---- time
 

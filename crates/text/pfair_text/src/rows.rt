@@ -7,13 +7,13 @@ ghost use Rattle.pfair_text.specs.Rows.{is_plain, IsOpen, line, text_so_far};
 use csv::{Writer, WriterBuilder};
 use std::alloc::{AllocError, Global};
 
-/// Creates an empty text, to which rows are added.
+/// Creates an empty text, to which rows are added, of any numbers of fields.
 pub fn new_text(alloc: Global) -> Writer<Vec<u8>>
     ensures open { IsOpen result }
     ensures text { text_so_far result ≡ [] }
     ensures sent { writer_pending result ≡ [] }
 {
-    WriterBuilder::new().from_writer(Vec::new(alloc))
+    WriterBuilder::new().flexible(true).from_writer(Vec::new(alloc))
 }
 
 /// Adds a line of fields, with commas between and a newline at the end.

@@ -1,0 +1,54 @@
+-- Texts that grow by the rows of one thing after another, and how many rows these are.
+use Rattle.std.proofs.Common.{ℕ, zero, suc, ◌+◌, ◌<◌, ◌≡◌, refl, sym, ap, ◌∙◌, arith, List, [], ◌∷◌, ◌++◌, Some, length, drop, slice_get, append_assoc}
+use Rattle.std.specs.List.{flat_map}
+use Rattle.std.proofs.lemmas.List.{length-append}
+use Rattle.pfair_text.specs.Rows.{line, lines_text}
+use Rattle.pfair_text.proofs.RowFacts.{first_left, lines_text-append}
+use Rattle.pfair_table.specs.declared.pick.Pick.{Pick}
+use Rattle.pfair_table.specs.Table.{Table}
+use Rattle.pfair_state.specs.Rows.{Row, ran_row, ran_rows}
+
+module _ {A : Type 0} (rows : A → List Row) where
+  -- the rows of what is left are those of its first and of the others
+  pub rows_left : (xs : List A) (i : ℕ) (x : A) → i < length xs → slice_get xs i ≡ Some x → flat_map rows (drop i xs) ≡ rows x ++ flat_map rows (drop (i + 1) xs)
+  rows_left xs i x inside at =
+      let t = first_left xs i inside in
+      let same : t.0 ≡ x = (let here = t.1 in cc) in ap (flat_map rows) t.2 ∙ ap (λ y. rows y ++ flat_map rows (drop (i + 1) xs)) same
+
+  pub text_more : (xs : List A) (i : ℕ) (x : A) (before after : List ℕ) → i < length xs → slice_get xs i ≡ Some x → after ≡ before ++ lines_text (rows x)
+      → after ++ lines_text (flat_map rows (drop (i + 1) xs)) ≡ before ++ lines_text (flat_map rows (drop i xs))
+  text_more xs i x before after inside at grown =
+      ap (λ text. text ++ lines_text (flat_map rows (drop (i + 1) xs))) grown
+      ∙ append_assoc before (lines_text (rows x)) (lines_text (flat_map rows (drop (i + 1) xs)))
+      ∙ ap (λ text. before ++ text) (sym (lines_text-append (rows x) (flat_map rows (drop (i + 1) xs))))
+      ∙ ap (λ left. before ++ lines_text left) (sym (rows_left xs i x inside at))
+
+  pub count_left : (xs : List A) (i : ℕ) (x : A) → i < length xs → slice_get xs i ≡ Some x → length (flat_map rows (drop i xs)) ≡ length (rows x) + length (flat_map rows (drop (i + 1) xs))
+  count_left xs i x inside at = ap length (rows_left xs i x inside at) ∙ length-append (rows x) (flat_map rows (drop (i + 1) xs))
+
+-- ---- a table
+
+-- the first of the rows that are left
+ran_next : (table : Table) (places : List ℕ) (i : ℕ) (p : Pick) (k : ℕ) → slice_get table i ≡ Some p → slice_get places i ≡ Some k
+    → ran_rows (drop i table) (drop i places) ≡ ran_row p k ∷ ran_rows (drop (suc i) table) (drop (suc i) places)
+ran_next [] places i p k at place = absurd (cc)
+ran_next (q ∷ table) [] i p k at place = absurd (cc)
+ran_next (q ∷ table) (j ∷ places) zero p k at place = (let is : q ≡ p = cc in let stands : j ≡ k = cc in λ n. ran_row (is n) (stands n) ∷ ran_rows table places)
+ran_next (q ∷ table) (j ∷ places) (suc i) p k at place = ran_next table places i p k at place
+
+pub ran_left : (table : Table) (places : List ℕ) (i : ℕ) (p : Pick) (k : ℕ) → slice_get table i ≡ Some p → slice_get places i ≡ Some k
+    → ran_rows (drop i table) (drop i places) ≡ ran_row p k ∷ ran_rows (drop (i + 1) table) (drop (i + 1) places)
+ran_left table places i p k at place =
+    ran_next table places i p k at place ∙ ap (λ n. ran_row p k ∷ ran_rows (drop n table) (drop n places)) (let n : suc i ≡ i + 1 = omega arith in n)
+
+pub ran_more : (table : Table) (places : List ℕ) (i : ℕ) (p : Pick) (k : ℕ) (before after : List ℕ) → slice_get table i ≡ Some p → slice_get places i ≡ Some k → after ≡ before ++ line (ran_row p k)
+    → after ++ lines_text (ran_rows (drop (i + 1) table) (drop (i + 1) places)) ≡ before ++ lines_text (ran_rows (drop i table) (drop i places))
+ran_more table places i p k before after at place grown =
+    let left = ran_rows (drop (i + 1) table) (drop (i + 1) places) in
+    ap (λ text. text ++ lines_text left) grown ∙ append_assoc before (line (ran_row p k)) (lines_text left)
+    ∙ ap (λ rows. before ++ lines_text rows) (sym (ran_left table places i p k at place))
+
+pub count_ran : (table : Table) (places : List ℕ) → length places ≡ length table → length (ran_rows table places) ≡ length table
+count_ran [] places same = refl
+count_ran (p ∷ table) [] same = absurd (omega (arith, same))
+count_ran (p ∷ table) (k ∷ places) same = ap suc (count_ran table places (omega (arith, same)))

@@ -1,0 +1,10 @@
+use Rattle.std.proofs.Common.{◌≡◌, ◌++◌, drop}
+use Rattle.std.specs.List.{flat_map}
+use Rattle.pfair_text.specs.Rows.{IsOpen, lines_text, text_so_far}
+use Rattle.pfair_state.specs.Rows.{member_rows}
+use Rattle.pfair_state.proofs.write.add_members.Given as goal
+
+-- the text so far, with the rows of the members that are left, is the whole
+abbrev pub invariant-loop-place : goal.invariant-loop-place
+invariant-loop-place l = IsOpen l.writer
+    × (text_so_far l.writer ++ lines_text (flat_map member_rows (drop l.place l.members.members)) ≡ text_so_far l.fn.writer ++ lines_text (flat_map member_rows l.members.members))

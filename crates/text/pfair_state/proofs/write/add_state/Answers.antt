@@ -1,0 +1,9 @@
+use Rattle.std.proofs.Common.{◌≡◌, true, rules, refl}
+use Rattle.pfair_text.specs.Rows.{is_plain}
+use Rattle.pfair_text.proofs.RowFacts.{is_plain-decimal}
+use Rattle.pfair_state.proofs.write.add_state.Goals as goal
+
+pub add_row-requires-clause-plain : goal.add_row-requires-clause-plain
+add_row-requires-clause-plain c =
+    let rows : is_plain c.as_bytes.result.now ≡ true = search (rules, is_plain-decimal) in
+    rw (rows) refl
