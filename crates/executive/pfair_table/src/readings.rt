@@ -52,7 +52,7 @@ impl Reading {
 #[derive(Drop)]
 pub(crate) struct Readings {
     by_processor: Vec<Reading>,
-    // how many entries were read when all were read to their ends, or 0 if the next reading failed
+    // how many sound entries there were when all were read, or 0 after a failed reading
     read: u64,
     // nothing is read for a later slot
     last: u64,

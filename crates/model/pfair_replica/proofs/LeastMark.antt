@@ -9,7 +9,7 @@ use Rattle.pfair_replica.specs.Replica.{mark, numbers_below}
 use Rattle.pfair_replica.specs.Laws.{IsLeastMark}
 
 -- one more of the numbers of which the least is sought
-pub least_more : (f : ℕ → ℕ) (a k : ℕ) → fold min a (map f (numbers_below (k + 1))) ≡ min (fold min a (map f (numbers_below k))) (f k)
+least_more : (f : ℕ → ℕ) (a k : ℕ) → fold min a (map f (numbers_below (k + 1))) ≡ min (fold min a (map f (numbers_below k))) (f k)
 least_more f a k = grind (arith, add-one, map-append, fold-append)
 
 module _ (f : ℕ → ℕ) (a : ℕ) where
