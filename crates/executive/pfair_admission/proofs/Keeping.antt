@@ -1,6 +1,6 @@
 -- What boundaries and quanta keep.
 use Rattle.std.proofs.lemmas.Grind.{common_steps}
-use Rattle.std.proofs.Common.{◌≡◌, ◌≢◌, ℕ, suc, ◌+◌, ◌-◌, ◌<◌, ◌≤◌, Bool, true, false, cond, List, [], ◌∷◌, ◌++◌, length, get_or, refl, ap, arith}
+use Rattle.std.proofs.Common.{◌≡◌, ◌≢◌, ℕ, suc, ◌+◌, ◌-◌, ◌%◌, ◌<◌, ◌≤◌, Bool, true, false, cond, List, [], ◌∷◌, ◌++◌, length, get_or, map, refl, sym, ap, ◌∙◌, arith}
 use Rattle.std.specs.Prelude.{not, ◌==◌, ◌||◌, max, if◌then◌else◌}
 use Rattle.std.specs.List.{filter}
 use Rattle.std.proofs.lemmas.Bool.Decides.{nat_tests}
@@ -10,18 +10,20 @@ use Rattle.std.proofs.lemmas.List.Sums.{sum_by_push}
 use Rattle.std.proofs.lemmas.List.Kept.{AllPairs-filter}
 use Rattle.std.proofs.lemmas.List.Quantifiers.{all_pairs_push}
 use Rattle.std.proofs.Math.Bool.{or-true}
+use Rattle.pfair_weight.specs.Share.{Share}
 use Rattle.pfair_weight.specs.Window.{release_of, starts_job_of}
 use Rattle.pfair_entry.specs.declared.announcement.Announcement.{Announcement}
 use Rattle.pfair_admission.specs.declared.decision.Decision.{Decision}
-use Rattle.pfair_admission.specs.declared.decision.Decision.TheVariants.{Refused}
+use Rattle.pfair_admission.specs.declared.decision.Decision.TheVariants.{Admitted, Refused}
 use Rattle.pfair_admission.specs.declared.delay.Delay.{Delay}
 use Rattle.pfair_admission.specs.declared.refusal.Refusal.{Refusal}
 use Rattle.pfair_admission.specs.Member.{Member, theta, busy_until, freeing_slot, is_delayed_at, eligible_from}
-use Rattle.pfair_admission.specs.Admission.{Machine, change, with_delay, with_quantum, effect, is_freed, present, decision, decided, all_decisions, boundary, boundary_decisions, ran}
+use Rattle.pfair_admission.specs.Admission.{Machine, arrival, change, newcomer, with_delay, with_freeing, with_quantum, effect, is_freed, present, decision, decided, all_decisions, boundary, boundary_decisions, ran}
+use Rattle.pfair_admission.specs.Carried.{carried}
 use Rattle.pfair_admission.specs.Removal.{NoneFreed}
-use Rattle.pfair_admission.specs.Laws.{HaveRoom, JoinedInOrder}
+use Rattle.pfair_admission.specs.Laws.{AreInFrame, HaveRoom, JoinedInOrder}
 use Rattle.pfair_admission.proofs.MemberLists.{present_all, claimed_change, claimed_present}
-use Rattle.pfair_admission.proofs.Each.{each_at, each_filter}
+use Rattle.pfair_admission.proofs.Each.{each_at, each_filter, each_map}
 use Rattle.pfair_admission.proofs.Effects.{by_boundary, by_effect, each_change}
 use Rattle.pfair_admission.proofs.Deciding.{admitted_room, claimed_arrived}
 
@@ -38,6 +40,30 @@ room_boundary machine t = by_boundary (HaveRoom machine) machine t (λ ms h. (le
 
 pub room_ran : (machine : Machine) (name : List ℕ) (ms : List Member) → HaveRoom machine ms → HaveRoom machine (ran name ms)
 room_ran machine name ms h = room_change machine name with_quantum (λ _. refl) ms h
+
+-- ---- periods
+
+admitted_in_frame : (machine : Machine) (ms : List Member) (name : List ℕ) (w : Share) → Admitted ≡ arrival machine ms name w → machine.frame % w.period ≡ 0
+admitted_in_frame machine ms name w is = grind (arith, nat_tests)
+
+frame_change : (machine : Machine) (name : List ℕ) (f : Member → Member) → ((m : Member) → machine.frame % m.weight.period ≡ 0 → machine.frame % (f m).weight.period ≡ 0) → (ms : List Member) → AreInFrame machine ms → AreInFrame machine (change name f ms)
+frame_change machine name f keeps = each_change (λ m. machine.frame % m.weight.period ≡ 0) (λ m. machine.frame % m.weight.period ≡ 0) name f keeps (λ m h. h)
+
+frame_effect : (machine : Machine) (t : ℕ) (ms : List Member) (a : Announcement) → AreInFrame machine ms → AreInFrame machine (effect t ms a (decision machine t ms a))
+frame_effect machine t ms a h =
+    by_effect (AreInFrame machine) t ms h a (decision machine t ms a)
+    (λ name w early is admitted. all_by_recursion_push (λ m. machine.frame % m.weight.period ≡ 0) ms (newcomer t name w early) h (admitted_in_frame machine ms name w (sym admitted ∙ ap (decision machine t ms) is)))
+    (λ name slot is _. frame_change machine name (with_freeing slot) (λ m h. h) ms h)
+    (λ name index by is _. frame_change machine name (with_delay index by) (λ m h. h) ms h)
+
+pub frame_boundary : (machine : Machine) (t : ℕ) (ms : List Member) (announced : List Announcement) → AreInFrame machine ms → AreInFrame machine (boundary machine t ms announced)
+frame_boundary machine t = by_boundary (AreInFrame machine) machine t (λ ms h. each_filter (λ m. machine.frame % m.weight.period ≡ 0) (λ m. not (is_freed t m.freed_at)) ms h) (frame_effect machine t)
+
+pub frame_ran : (machine : Machine) (name : List ℕ) (ms : List Member) → AreInFrame machine ms → AreInFrame machine (ran name ms)
+frame_ran machine name ms h = frame_change machine name with_quantum (λ m h. h) ms h
+
+pub frame_carried : (machine : Machine) (ms : List Member) → AreInFrame machine ms → AreInFrame machine (map carried ms)
+frame_carried machine ms h = each_map (λ m. machine.frame % m.weight.period ≡ 0) (λ m. machine.frame % m.weight.period ≡ 0) carried (λ m h. h) ms h
 
 -- ---- refusals
 

@@ -84,6 +84,15 @@ pub record CarryingKeepsWindows : Type 0 where
   pub busy : (m : Member) → IsWeight m.weight.cost m.weight.period → 2 ≤ m.next → busy_until (carried m) ((carried m).next - 1) ≡ busy_until m (m.next - 1)
   pub freed : (m : Member) (t : ℕ) → IsWeight m.weight.cost m.weight.period → 1 ≤ m.next → freeing_slot (carried m) t ≡ freeing_slot m t
 
+-- each member's period divides the frame
+abbrev pub AreInFrame : Machine → List Member → Type 0
+AreInFrame machine members = AllByRecursion (λ m. machine.frame % m.weight.period ≡ 0) members
+
+pub record PeriodsStayInFrame : Type 0 where
+  pub boundaries : (machine : Machine) (t : ℕ) (members : List Member) (announced : List Announcement) → AreInFrame machine members → AreInFrame machine (boundary machine t members announced)
+  pub quanta : (machine : Machine) (name : List ℕ) (members : List Member) → AreInFrame machine members → AreInFrame machine (ran name members)
+  pub carrying : (machine : Machine) (members : List Member) → AreInFrame machine members → AreInFrame machine (map carried members)
+
 -- members that are restored one behind the other have distinct names and room, and carrying leaves each of them as it is
 pub record RestoredMembersAreCarried : Type 0 where
   pub named : (machine : Machine) (t : ℕ) (members : List Member) (m : Member) → CanBeRestored machine t members m → NamesApart (λ m. m.name) members → NamesApart (λ m. m.name) (members ++ m ∷ [])

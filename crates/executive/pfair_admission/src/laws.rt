@@ -2,7 +2,7 @@
 //!
 //! Each function states one law and does nothing; [`next_key_is_of_its_subtask`] returns true.
 ghost use Rattle.std.specs.Prelude.{IsTrue};
-ghost use Rattle.pfair_admission.specs.Laws.{NamesStayApart, MembersKeepRoom, RefusalsChangeNothing, OrderIsKept, OneDecisionEach, DelaysMoveLaterSubtasks, LeaversHoldTheirClaim, EarlyReleaseKeepsBorders, CarriedMembersStay, CarriedMembersAreRestored, CarryingKeepsWindows, RestoredMembersAreCarried};
+ghost use Rattle.pfair_admission.specs.Laws.{NamesStayApart, MembersKeepRoom, RefusalsChangeNothing, OrderIsKept, OneDecisionEach, DelaysMoveLaterSubtasks, LeaversHoldTheirClaim, EarlyReleaseKeepsBorders, CarriedMembersStay, CarriedMembersAreRestored, CarryingKeepsWindows, PeriodsStayInFrame, RestoredMembersAreCarried};
 
 use crate::incarnation::Incarnation;
 use pfair_order::Key;
@@ -64,6 +64,12 @@ pub fn carried_members_stay()
 /// ran and of all later ones, its next key, and the slot in which it is freed if it departs.
 pub fn carrying_keeps_windows()
     ensures { CarryingKeepsWindows }
+{}
+
+/// If the members' periods divide the frame, they do so after each boundary and each quantum, and in
+/// the next run.
+pub fn periods_stay_in_frame()
+    ensures { PeriodsStayInFrame }
 {}
 
 /// Members that are restored one behind the other have distinct names and weights that add to no more
