@@ -99,8 +99,8 @@ pub trait Ready: Drop {
             held self.new ≡ without first.items (held self.old)) }
         ensures err { OnErr result (held self.new ≡ held self.old) };
 
-    /// Does what [`Ready::insert`] does, and notes where the task stands in the caller's list. With the
-    /// seats that the task's last key was taken with no name is looked up.
+    /// Does what [`Ready::insert`] does, and notes where the task stands in the caller's list. The name
+    /// is looked up unless `seats.ready` is what the last selection of this task gave.
     ///
     /// # Errors
     /// As of [`Ready::insert`].

@@ -117,7 +117,7 @@ impl TaskName {
         u128::from_be_bytes(self.bytes)
     }
 
-    /// Returns the name that has a number.
+    /// Returns the name of a number that [`TaskName::number`] gives. O(1).
     pub fn of_number(number: u128) -> TaskName
         requires { IsNumber number }
         ensures { result ≡ name_of number }
