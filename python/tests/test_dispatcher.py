@@ -43,7 +43,6 @@ def test_windows(cost, more, first, count, theta):
         assert row == wanted
 
 
-
 LOG = [pfair.arrive("a", 1, 2, at=1), pfair.late("a", 2, 1, at=2, floor=2), pfair.depart("a", at=3, floor=3)]
 LOG.append(pfair.promise(6))
 
@@ -123,7 +122,6 @@ def test_what_is_missing():
             assert one.missing(0) == missing
         one.take(0, 2, pfair.promise(0))
         assert one.missing(0) is None and one.faults() == ([(0, 2)], [])
-
 
 
 def test_absorbing():
@@ -231,7 +229,6 @@ def test_forgotten_slots():
         assert stay.tolist() == planned().lags(7, 8)[["task", "numerator", "period"]].tolist() and len(stay) == 2
         one.forget(2**64 - 1)
         refusal(pfair.NotPlanned, f"{NOT_PLANNED}: slot 7", one.table, 7)
-
 
 
 def test_two_locks_are_taken_in_one_order():

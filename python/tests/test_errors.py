@@ -56,7 +56,6 @@ def test_what_they_have_in_common():
     assert pfair.PickPastHorizon.__doc__ == said and pfair.NotOpen.__doc__ == "the dispatcher is closed"
 
 
-
 WITHOUT_DOCSTRINGS = """
 import pfair
 

@@ -33,7 +33,6 @@ def test_all_of_eight_slots():
                     assert pfair.first_late(cost, period, picks, 8) == wanted(cost, period, picks, 8, True)
 
 
-
 @pytest.mark.parametrize(
     "kind", [list, tuple, lambda p: np.array(p, "u8"), lambda p: np.array(p, "i4"), lambda p: np.array([p, p]).T[:, 0]]
 )

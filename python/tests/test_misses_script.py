@@ -86,7 +86,6 @@ def test_statuses(call, decided, lags, words):
     assert call(MISSES, "--let-pass", *words, given=rows) == (1 if status == 1 else 0, text, "")
 
 
-
 def test_lags_alone(call):
     rows = rows_of_lags([(1, "a", 1, 2), (2, "a", 3, 2), (2, "b", -1, 3), (3, "b", 1, 1), (4, "c", 0, 1)])
     text = "a,2,1/2,3/2,2,?\nb,2,-1/3,1,3,?\nc,1,0,0,-,?\nall 3 tasks,5,-1/3,3/2,2 at or past 1,late releases not known"

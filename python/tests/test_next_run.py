@@ -167,7 +167,6 @@ def test_a_next_run_is_refused():
     assert one.planned == 4 and one.table(2) == [("a", 2)]
 
 
-
 def test_what_a_next_run_begins_with():
     one = begun(pfair.arrive("a", 1, 2), pfair.arrive("b", 1, 4), pfair.depart("b", at=2), slots=5)
     one.plan()

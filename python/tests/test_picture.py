@@ -176,7 +176,6 @@ def test_no_two_names_are_cut_alike(names, room):
         assert words == name or _figure.name_width(name) * 3 // 4 > room
 
 
-
 def test_numbers_of_a_scale_have_room():
     for wide in (2, 4, 8, 12, 18, 28, 40):
         for end in (1, 9, 10, 999, 1000, 9999, 10_000, 1_000_000):

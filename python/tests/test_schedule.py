@@ -21,7 +21,6 @@ FILES = sorted(EXAMPLES.glob("*.toml"))
 NAMED = {0: "admitted", 1: "departing", 2: "delayed"}
 
 
-
 def rows_of_table(quanta, *more):
     head = ",".join(["slot,processor,task,index", *more])
     rows = [[q["slot"], q["row"], q["task"].decode(), q["index"], *(q[key] for key in more)] for q in quanta]
@@ -116,8 +115,6 @@ AGAIN = [
     pfair.arrive("a", 1, 6, at=20, floor=20), pfair.arrive("c", 1, 5, at=21, floor=21),
     pfair.depart("x", at=22, floor=22), pfair.late("b", 20, 5, at=23, floor=23),
 ]
-
-
 SMALL = [AGAIN], [], [[pfair.arrive("a", 1, 6), pfair.late("a", 2, 5, at=1, floor=1)]]
 SCRIPTS = [drawn(1, 2, 60), drawn(2, 3, 80), drawn(3, 4, 60, True), *(pfair.Script(1, 6, 60, logs) for logs in SMALL)]
 
@@ -140,7 +137,6 @@ def test_lags_by_pieces(limit, monkeypatch):
     assert schedule.counts() == counts and (np.concatenate(pieces) == lags).all()
     slots = max(1, limit // 10)
     assert [len(set(piece["time"].tolist())) for piece in pieces[:-1]] == [slots] * (59 // slots)
-
 
 
 NAMES = some.lists(some.text("ab", max_size=4).map(lambda end: ("longname" + end).encode()), max_size=12)
@@ -214,15 +210,8 @@ def test_text_and_back(file, tmp_path):
     script = script_of(file)
     again = tmp_path / "again.toml"
     again.write_text(script.text())
-    for given_ in (file, again, script.text().encode()):
-        assert pfair.read_task_file(given_) == script == script_of(again)
-
-
-def test_what_a_schedule_is_made_of():
-    file = EXAMPLES / "two_processors.toml"
-    for given_ in (file, str(file), file.read_bytes(), script_of(file)):
-        assert pfair.schedule(given_).counts() == pfair.Counts(4, 0, 8, 0, 2, 1)
-        assert isinstance(pfair.schedule(given_), pfair.Schedule)
+    for given_ in (file, again, str(again), script.text().encode()):
+        assert pfair.read_task_file(given_) == pfair.schedule(given_).script == script == script_of(again)
 
 
 HEAD = b"version = 1\nprocessors = 2\nframe = 6\nslots = 6\n"
@@ -314,12 +303,9 @@ def test_pictures_know_the_settings():
     assert "processors: 2, frame: 6, slots: 0 to 8 of 9" in drawn
 
 
-ONE = pfair.Script(1, 4, 5000, [[pfair.arrive("a", 1, 4)]])
-
-
 def test_slots_of_pictures():
     """At most 4,096 slots of the run; a notebook shows the first 400."""
-    schedule = pfair.schedule(ONE)
+    schedule = pfair.schedule(pfair.Script(1, 4, 5000, [[pfair.arrive("a", 1, 4)]]))
     assert schedule._repr_svg_() == schedule.svg(0, 400) == schedule.svg(stop=400)
     assert len(schedule.svg(900, 4996)) > 1 << 18 and schedule.svg(7, 9, "lags") != schedule.svg(7, 10, "lags")
     refused = {(0, None): "0 to 4999", (903, 5000): "903 to 4999", (7, 7): "7 to 6", (8, 7): "8 to 6"}
@@ -334,10 +320,8 @@ def test_slots_of_pictures():
 
 
 def test_plots_are_made_of_the_picture(monkeypatch):
-    def plot(svg, width):
-        return types.SimpleNamespace(figure=(svg, width))
-
-    monkeypatch.setitem(sys.modules, "pfair._plot", types.SimpleNamespace(Plot=plot))
+    plot = types.SimpleNamespace(Plot=lambda svg, width: types.SimpleNamespace(figure=(svg, width)))
+    monkeypatch.setitem(sys.modules, "pfair._plot", plot)
     schedule = pfair.schedule(pfair.Script(2, 6, 9, [[pfair.arrive("a", 1, 2)], []]))
     assert schedule.plot() == (schedule.svg(), 7.0)
     assert schedule.plot(1, 3, "lags", 4.0) == (schedule.svg(1, 3, "lags"), 4.0)

@@ -247,7 +247,6 @@ def test_generators_keep_the_sum(draw):
         assert np.allclose(sets.mean(axis=0), load / tasks, atol=0.06)
 
 
-
 @pytest.mark.parametrize("draw", (study.uunifast_discard, study.rand_fixed_sum))
 def test_one_weight_has_its_distribution(draw):
     """If each set with the sum u is as likely as any other, the density of a weight x of n is in proportion to that of

@@ -216,7 +216,6 @@ class Draws:
         return periods[0]
 
 
-
 def test_draws_are_given_up():
     draws = Draws()
     said = "no 2 tasks were found whose weights add to 1.5: give more tasks, or a smaller load"

@@ -80,7 +80,6 @@ def test_refused_files(call, stand_in, tmp_path):
     assert done == (1, "", "scripts/trace: 60 not TOML\n")
 
 
-
 def test_nothing_is_kept_beside(monkeypatch):
     """Whoever runs it may not be allowed to write into the repository: no compiled module is."""
     monkeypatch.setattr(sys, "dont_write_bytecode", False)
