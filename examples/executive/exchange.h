@@ -15,6 +15,10 @@
  * when it has planned the one before. It plans below all floors, and another processor's floor is at most LEAD slots
  * past the end of its run. So the other is in the same run, the one before or the one after. Messages say of which run
  * they are.
+ *
+ * DIGESTS. If two processors took different entries of a log under one number, and neither hears the other's, nothing is
+ * torn, and their tables differ from then on. So each message has a digest of one of the logs, each log in turn, and
+ * whoever knows as much of that log compares it.
  */
 #ifndef EXCHANGE_H
 #define EXCHANGE_H
@@ -59,7 +63,11 @@ struct exchange {
         struct pfair_name name;
         uint64_t subtasks;
     } taken_off[MOST_TASKS]; /* from the indexes of a task since it joined, as runs ended */
-    uint64_t floor;          /* everything that is stamped before this slot is said */
+    struct {
+        uint32_t count;                    /* how many entries of the log's sound beginning are hashed */
+        uint64_t hashes[MOST_ENTRIES + 1]; /* hashes[n] is that of the first n */
+    } digests[MOST_PROCESSORS];            /* of each log in this run */
+    uint64_t floor;                        /* everything that is stamped before this slot is said */
     uint64_t asked_at;
     bool is_silent; /* a trial: all that it sends is lost */
     uint32_t tries[MOST_PROCESSORS];
@@ -103,7 +111,7 @@ static uint64_t whole_index(struct exchange *x, const struct pfair_pick *row) {
     return row->index + *subtasks;
 }
 
-/* ---- saying and sending */
+/* ---- saying */
 
 /* Gives the dispatcher an entry of this run, and returns what that met. */
 static uint64_t take(struct exchange *x, unsigned from, uint32_t number, const struct pfair_entry *entry) {
@@ -149,6 +157,48 @@ static void announce(struct exchange *x, const struct announcement *table, unsig
     while (x->floor < x->slots && x->floor + FLOOR_EVERY <= end + LEAD) raise_floor(x, table, rows, slot);
 }
 
+/* ---- digests */
+
+/* The hash of one value more: FNV-1a of 64 bits. It tells accidents apart; against forgeries take a cryptographic one. */
+static uint64_t hash_value(uint64_t hash, uint64_t value) {
+    for (unsigned byte = 0; byte < 8; byte++) hash = (hash ^ (value >> 8 * byte & 0xff)) * 0x100000001b3;
+    return hash;
+}
+
+static uint64_t hash_entry(uint64_t hash, const struct pfair_entry *e) {
+    const uint64_t values[] = {e->floor, e->kind, e->at, e->name.length, e->cost, e->period, e->early, e->index, e->by};
+    for (unsigned k = 0; k < sizeof values / sizeof *values; k++) hash = hash_value(hash, values[k]);
+    for (unsigned k = 0; k < sizeof e->name.bytes; k++) hash = hash_value(hash, e->name.bytes[k]);
+    return hash;
+}
+
+/* The digest of a log, as far as this processor knows it. */
+static struct digest digest_of(struct exchange *x, unsigned of) {
+    uint64_t mark, count, kind, *hashes = x->digests[of].hashes;
+    struct pfair_entry entry;
+    must(pfair_mark(&x->dispatcher, (uint8_t)of, &mark, &count));
+    for (uint32_t number = x->digests[of].count + 1; number <= count; number++) {
+        must(pfair_held(&x->dispatcher, (uint8_t)of, number, &kind, &entry));
+        hashes[number] = hash_entry(hashes[number - 1], &entry);
+        x->digests[of].count = number;
+    }
+    return (struct digest){.run = x->run, .hash = hashes[count], .of = of, .count = (uint32_t)count};
+}
+
+/* Ends all if the sender has other entries of a log than this processor, which knows as many. */
+static void compare(struct exchange *x, const struct message *message) {
+    const struct digest *other = &message->digest;
+    if (other->run != x->run || other->count > digest_of(x, other->of).count) return;
+    if (x->digests[other->of].hashes[other->count] == other->hash) return;
+    char what[] = "processors _ and _ hold different beginnings of the log of processor _, of so many entries";
+    what[11] = (char)('0' + x->number);
+    what[17] = (char)('0' + message->from);
+    what[69] = (char)('0' + other->of);
+    stop(what, other->count);
+}
+
+/* ---- sending */
+
 /* A number that looks like chance, and is the same in each run. */
 static uint64_t chance(unsigned from, unsigned to, uint32_t number) {
     uint64_t mixed = ((uint64_t)number * MOST_PROCESSORS + to) * MOST_PROCESSORS + from + 1;
@@ -157,16 +207,17 @@ static uint64_t chance(unsigned from, unsigned to, uint32_t number) {
     return mixed ^ mixed >> 33;
 }
 
-/* Sends a message, or loses it: one in 16, and any for which there is no room. */
-static void send_one(struct exchange *x, unsigned to, const struct message *message) {
+/* Sends a message with the digest of the next log, or loses it: one in 16, and any for which there is no room. */
+static void send_one(struct exchange *x, unsigned to, struct message message) {
+    message.digest = digest_of(x, x->tries[to] % x->processors);
     bool is_lost = chance(x->number, to, x->tries[to]++) % 16 == 0;
-    if (is_lost || x->is_silent || !push(&rings[x->number][to], message)) x->lost++;
+    if (is_lost || x->is_silent || !push(&rings[x->number][to], &message)) x->lost++;
     else give_hint(to);
 }
 
 static void send_entry(struct exchange *x, unsigned to, const struct log *log, uint32_t number) {
     struct message message = {.from = x->number, .run = log->run, .number = number, .entry = log->entries[number - 1]};
-    send_one(x, to, &message);
+    send_one(x, to, message);
 }
 
 /* Sends each entry of a log whose time has come, the last one first: after 0 to 5 slots, or 12 for one in 32; and one
@@ -213,9 +264,11 @@ static void receive(struct exchange *x, const struct message *message) {
 static void hear(struct exchange *x) {
     struct message message;
     for (unsigned from = 0; from < x->processors; from++)
-        while (pull(&rings[from][x->number], &message))
+        while (pull(&rings[from][x->number], &message)) {
             if (message.is_request) answer(x, &message);
             else receive(x, &message);
+            compare(x, &message);
+        }
 }
 
 /* Asks each processor whose log doesn't reach far enough past this slot, maybe into the next run. What it lacks may be
@@ -232,7 +285,7 @@ static void ask(struct exchange *x, uint64_t slot) {
             for (run++; (kept = kept_entry(x, from, missing)) != NULL; missing++) mark = end + kept->floor;
         if (missing == 0 || mark >= wanted || run * RUN >= x->slots) continue;
         struct message request = {.is_request = true, .from = x->number, .run = run, .number = (uint32_t)missing};
-        send_one(x, from, &request);
+        send_one(x, from, request);
         x->asked++;
     }
 }
@@ -269,6 +322,7 @@ static void begin_next_run(struct exchange *x) {
     must(pfair_members(&x->dispatcher, &members, after, MOST_TASKS));
     for (uint64_t k = 0; k < members; k++) *taken_off(x, &before[k].name) += before[k].next - after[k].next;
     must(pfair_reserve(&x->dispatcher, RUN, MOST_TASKS));
+    for (unsigned of = 0; of < x->processors; of++) x->digests[of].count = 0;
     uint32_t said = log->run == x->run ? log->said : 0; /* else it is that of an older run */
     for (uint32_t number = 1; number <= said; number++) take(x, x->number, number, &log->entries[number - 1]);
     for (unsigned k = 0; k < x->kept_count; k++) receive(x, &x->kept[k]);

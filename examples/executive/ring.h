@@ -9,13 +9,22 @@
 
 enum { RING = 256 }; /* messages; a power of two, so that the counters may wrap around */
 
-/* An entry of the sender's log of a run under its number, or a request for those of the receiver's from a number on. */
+/* The first `count` entries of the log of a processor in a run, in a number: equal entries have equal ones. */
+struct digest {
+    uint64_t run, hash;
+    unsigned of;
+    uint32_t count;
+};
+
+/* An entry of the sender's log of a run under its number, or a request for those of the receiver's from a number on. With
+   it comes the digest of one of the logs, as the sender knows it. */
 struct message {
     bool is_request;
     unsigned from;
     uint64_t run;
     uint32_t number;
     struct pfair_entry entry;
+    struct digest digest;
 };
 
 struct ring {
