@@ -79,9 +79,10 @@
  * MEMORY. These calls allocate, and answer 90 if an allocation fails; all others allocate nothing:
  *
  *     pfair_open, pfair_read_file, pfair_take, pfair_take_log, pfair_absorb, pfair_faults,
- *     pfair_plan_next, pfair_plan_to, pfair_reserve, pfair_reopen, pfair_next_run, pfair_lags
+ *     pfair_plan_next, pfair_plan_to, pfair_reserve, pfair_reopen, pfair_next_run, pfair_lags,
+ *     pfair_state
  *
- * pfair_faults and pfair_lags free all that they allocate. A dispatcher owns all other memory until pfair_close;
+ * pfair_faults, pfair_lags and pfair_state free all that they allocate. A dispatcher owns all other memory until pfair_close;
  * pfair_forget frees some of it earlier. The caller owns what its pointers lead to: the library copies what it needs,
  * and keeps no pointer of the caller's after a call.
  *
@@ -560,7 +561,7 @@ uint32_t pfair_reopen(struct pfair_dispatcher *d);
 
 /*
  * Writes the frontier, the least mark of all processors: every announcement below this slot is known, and the slots
- * below it are settled: they can be planned. It can fall only when an entry of a sound beginning becomes torn. O(M).
+ * below it are settled: they can be planned. It can fall only when an entry of a sound beginning becomes torn. O(1).
  */
 uint32_t pfair_frontier(struct pfair_dispatcher *d, uint64_t *slot);
 
@@ -698,6 +699,16 @@ struct pfair_member {
  * O(rows + l) for l late releases accepted of these tasks.
  */
 uint32_t pfair_members(struct pfair_dispatcher *d, uint64_t *count, struct pfair_member *rows, size_t room);
+
+/*
+ * Writes the state in which the dispatcher's run began, as text: what a run begins with, in lines of less than 256 bytes
+ * (docs/SPECIFICATION.md, "A state as rows"). After pfair_next_run it is what the run before has left. Two dispatchers
+ * whose runs began alike have the same bytes.
+ *   90   an allocation failed
+ *   103  there are more than `room` bytes; `length` is written
+ * O(bytes).
+ */
+uint32_t pfair_state(struct pfair_dispatcher *d, uint64_t *length, uint8_t *bytes, size_t room);
 
 #ifdef __cplusplus
 }

@@ -108,6 +108,17 @@ def check_run(run, one, long, said):
     return run.left(members)
 
 
+def check_state(text, begin, processors, members):
+    """The rows of a state are the members with which the run began."""
+    first, *rows, end = text.decode().splitlines()
+    assert first == f"state,1,{begin},{processors},{FRAME}" and end == f"end,{len(rows) + 2}"
+    fields = members[["task", "cost", "period", "early", "joined", "next", "freed_at"]]
+    carried = [[name.decode(), *map(str, more)] for name, *more in fields.tolist()]
+    for row, departs in zip(carried, members["is_departing"].tolist()):
+        row[3], row[6] = ("false", "true")[int(row[3])], row[6] if departs else "-"
+    assert [row.split(",")[1:] for row in rows if row.startswith("member,")] == carried
+
+
 def check_runs(lengths, processors, said, long):
     """Plans runs of these lengths, one after the other, and compares them with the long one."""
     one, begin, lowered = pfair.Dispatcher(processors, FRAME, lengths[0]), 0, {}
@@ -121,6 +132,7 @@ def check_runs(lengths, processors, said, long):
         before = one.members()
         one.next_run(lengths[place + 1])
         after = one.members()
+        check_state(one.state(), begin, processors, after)
         assert one.planned == 0 and (after[["task", "lag"]] == before[["task", "lag"]]).all()
         taken = dict(zip(before["task"].tolist(), (before["next"] - after["next"]).tolist()))
         assert (after["next"] <= after["cost"] + 1).all()

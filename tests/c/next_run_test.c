@@ -1,5 +1,6 @@
 /*
- * Runs that go on: what calls answer, each allocation refused in turn, and that memory doesn't grow from run to run.
+ * Runs that go on: what calls answer, each allocation refused in turn, and that memory doesn't grow from run to run; and
+ * the states in which they begin.
  *
  *   next_run_test [RUNS SLOTS]        else 12 runs of 3,000 slots each
  */
@@ -60,6 +61,35 @@ static void refused_in_turn(void) {
     ANSWERS(0, pfair_close(&d));
 }
 
+/* The text of a state, with too little room, and with each allocation refused in turn: it is as long as it says. */
+static void states(void) {
+    static uint8_t text[65536];
+    struct pfair_dispatcher d = PFAIR_NONE;
+    uint64_t length = 77, again = 0;
+    ANSWERS(102, pfair_state(&d, &length, text, sizeof text));
+    ANSWERS(0, pfair_open(&d, 3, 12, 5, 1));
+    ANSWERS(0, pfair_state(&d, &length, text, sizeof text));
+    CHECK(length == 21 && !memcmp(text, "state,1,0,3,12\nend,2\n", length), "%" PRIu64 " bytes", length);
+    ANSWERS(0, pfair_close(&d));
+    filled(&d, SHORT, SHORT / 2);
+    for (uint64_t slot = 0; slot < SHORT; slot++) plan_one(&d, slot);
+    ANSWERS(0, pfair_next_run(&d, SHORT));
+    memset(text, 0, sizeof text);
+    ANSWERS(103, pfair_state(&d, &length, text, 20));
+    ANSWERS(103, pfair_state(&d, &again, text, length - 1));
+    CHECK(length == again && length > 1000 && text[0] == 0, "%" PRIu64 " bytes, then %" PRIu64, length, again);
+    long in_use = bytes, at = 0;
+    uint32_t answer = 90;
+    for (again = 0; answer == 90; ample()) {
+        CHECK(again == 0 && text[0] == 0 && bytes == in_use, "something was written");
+        refuse(++at, 1);
+        answer = pfair_state(&d, &again, text, length);
+    }
+    CHECK(answer == 0 && at > 3 && again == length && bytes == in_use, "answer %u, %ld allocations", answer, at);
+    CHECK(!memcmp(text, "state,1,", 8) && text[length - 1] == '\n' && text[length] == 0, "no text of a state");
+    ANSWERS(0, pfair_close(&d));
+}
+
 /* What is wrong with a call, in the order of the checks. A spent dispatcher is refused by 31. */
 static void refusals(void) {
     struct pfair_dispatcher d = PFAIR_NONE;
@@ -102,6 +132,7 @@ int main(int count, char **words) {
     long at_first = blocks;
     refusals();
     refused_in_turn();
+    states();
     many_runs(count > 1 ? atol(words[1]) : 12, count > 2 ? strtoull(words[2], NULL, 10) : 3000);
     CHECK(blocks == at_first, "%ld blocks not freed", blocks - at_first);
     return told();

@@ -202,7 +202,7 @@ class Dispatcher:
     def frontier(self) -> int:
         """The frontier, the least mark of all processors: every announcement stamped below this slot is known.
 
-        It falls if an entry of a sound beginning is torn. O(M) for M processors.
+        It falls if an entry of a sound beginning is torn. O(1).
         """
         return self._number("pfair_frontier")
 
@@ -221,6 +221,7 @@ class Dispatcher:
     decisions = _planned.decisions
     lags = _planned.lags
     members = _planned.members
+    state = _planned.state
     table = _planned.table
     places = _planned.places
 

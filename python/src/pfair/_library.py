@@ -113,6 +113,7 @@ _CALLS: dict[str, list[Any]] = {
     "pfair_decisions_of": [_handle, _u64, _u64, _number, _array, _size],
     "pfair_lags": [_handle, _u64, _u64, _number, _array, _size],
     "pfair_members": [_handle, _number, _array, _size],
+    "pfair_state": [_handle, _number, _array, _size],
 }
 for _call, _types in _CALLS.items():
     getattr(library, _call).argtypes = _types

@@ -149,6 +149,25 @@ def members(self: Dispatcher) -> Rows:
     return rows
 
 
+def state(self: Dispatcher) -> bytes:
+    """Returns the state in which the run began, as text: after `next_run`, what the run before has left.
+
+    Two dispatchers whose runs began alike have the same bytes. They differ if the runs before did.
+
+    Returns
+    -------
+    bytes
+        Lines of less than 256 bytes each; docs/SPECIFICATION.md, "A state as rows", has the form.
+
+    Notes
+    -----
+    O(b) for b bytes.
+    """
+    answer, text = _rows(self, "pfair_state", np.dtype("u1"))
+    check(answer)
+    return text.tobytes()
+
+
 def table(self: Dispatcher, slot: int) -> list[tuple[str, int]]:
     """Returns the table of a slot: the task and the subtask of each row, in PD2 order.
 

@@ -18,6 +18,7 @@ mod open;
 mod plan;
 mod quanta;
 mod rows;
+mod state;
 mod table;
 mod take;
 mod version;
