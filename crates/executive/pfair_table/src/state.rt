@@ -16,8 +16,9 @@ use std::marker::Model;
 /// What a run begins with: the slot at which it does, counted from the first slot of the first run;
 /// its members; and the table of the slot before it, with the places of that one's rows.
 ///
-/// A finished run leaves a state to its next run, and [`Dispatcher::resume`](crate::Dispatcher::resume) begins one with it. No check
-/// tells whether a run has left a state: that no deadline is missed holds of one that a run left.
+/// A finished run leaves a state to its next run, and [`Dispatcher::resume`](crate::Dispatcher::resume)
+/// begins one with it. No check tells whether a run has left a state: that no deadline is missed holds
+/// of one that a run left.
 #[derive(Drop)]
 pub struct State {
     pub(crate) slot: u64,
@@ -32,9 +33,21 @@ impl Model for State {
 
     ghost Value = { Carried };
 
-    ghost view = { λ a. record { slot = a.slot; machine = a.members.machine; members = a.members.members; table = a.table.items; places = a.places.items } };
+    ghost view = { λ a. record {
+      slot = a.slot;
+      machine = a.members.machine;
+      members = a.members.members;
+      table = a.table.items;
+      places = a.places.items;
+    } };
 
-    ghost invariant = { λ a. IsState (record { slot = a.slot; machine = a.members.machine; members = a.members.members; table = a.table.items; places = a.places.items }) };
+    ghost invariant = { λ a. IsState (record {
+      slot = a.slot;
+      machine = a.members.machine;
+      members = a.members.members;
+      table = a.table.items;
+      places = a.places.items;
+    }) };
 }
 
 impl State {

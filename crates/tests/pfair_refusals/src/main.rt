@@ -14,6 +14,7 @@ mod lag;
 mod lattice;
 mod ready;
 mod replica;
+mod states;
 mod table;
 mod threads;
 
@@ -47,6 +48,7 @@ fn main(rt: HostRuntime) -> ExitCode {
         tell(&rt, "", &admission::looks(alloc)),
         tell(&rt, "over lists, ", &table::looks::<PlainReady>(alloc)),
         tell(&rt, "over heaps, ", &table::looks::<HeapReady>(alloc)),
+        tell(&rt, "", &states::looks(alloc)),
         tell(&rt, "", &book),
         tell(&rt, "", &board::looks(alloc)),
         tell(&rt, "", &threads::looks(&rt, alloc)),

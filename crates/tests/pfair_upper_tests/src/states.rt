@@ -25,28 +25,76 @@ end,8
 
 // What stands in a text, what is put in its place, and what is said of the text then.
 const DAMAGES: [(&str, &str, &str); 22] = [
-    ("state,1,", "state,2,", "state refused: line 1: another form"),
+    (
+        "state,1,",
+        "state,2,",
+        "state refused: line 1: another form",
+    ),
     ("12,2,12", "12,65,12", "state refused: line 1: out of range"),
     ("12,2,12", "12,0,12", "state refused: line 1: out of range"),
     ("12,2,12", "12,256,12", "no row of a state: line 1"),
-    ("12,2,12", "9,2,12", "state refused: line 2: not left by a run"),
-    ("12,2,12", "12,2,9", "state refused: line 2: period outside frame"),
+    (
+        "12,2,12",
+        "9,2,12",
+        "state refused: line 2: not left by a run",
+    ),
+    (
+        "12,2,12",
+        "12,2,9",
+        "state refused: line 2: period outside frame",
+    ),
     ("12,2,12", "12,1,12", "state refused: line 5: no room"),
     ("member,a,1,2", "member,a,01,2", "no row of a state: line 2"),
     ("member,a,1,2", "member,a,3,2", "no row of a state: line 2"),
     ("member,a", "member,b", "state refused: line 3: name taken"),
-    ("false,10,2,13", "false,10,3,13", "state refused: line 2: not left by a run"),
-    ("false,10,2,13", "false,10,2,11", "state refused: line 2: not left by a run"),
-    ("late,b,1,2", "late,b,2,2", "state refused: line 3: not left by a run"),
+    (
+        "false,10,2,13",
+        "false,10,3,13",
+        "state refused: line 2: not left by a run",
+    ),
+    (
+        "false,10,2,13",
+        "false,10,2,11",
+        "state refused: line 2: not left by a run",
+    ),
+    (
+        "late,b,1,2",
+        "late,b,2,2",
+        "state refused: line 3: not left by a run",
+    ),
     ("late,b,1,2", "late,c,1,2", "no row of a state: line 4"),
-    ("late,b,1,2\n", "", "state refused: line 7: rows are missing"),
-    ("ran,b,6,1", "ran,b,6,2", "state refused: line 7: no such quantum"),
-    ("ran,b,6,1\n", "ran,b,6,1\nran,b,6,0\n", "state refused: line 8: no such quantum"),
-    ("ran,b,6,1\n", "ran,b,6,1\nran,a,6,1\n", "state refused: line 8: no such quantum"),
+    (
+        "late,b,1,2\n",
+        "",
+        "state refused: line 7: rows are missing",
+    ),
+    (
+        "ran,b,6,1",
+        "ran,b,6,2",
+        "state refused: line 7: no such quantum",
+    ),
+    (
+        "ran,b,6,1\n",
+        "ran,b,6,1\nran,b,6,0\n",
+        "state refused: line 8: no such quantum",
+    ),
+    (
+        "ran,b,6,1\n",
+        "ran,b,6,1\nran,a,6,1\n",
+        "state refused: line 8: no such quantum",
+    ),
     ("end,8\n", "", "no row of a state: line 8"),
     ("end,8\n", "end,8", "no row of a state: line 8"),
-    ("end,8\n", "end,9\n", "state refused: line 8: rows are missing"),
-    ("end,8\n", "end,8\nend,8\n", "state refused: line 8: rows are missing"),
+    (
+        "end,8\n",
+        "end,9\n",
+        "state refused: line 8: rows are missing",
+    ),
+    (
+        "end,8\n",
+        "end,8\nend,8\n",
+        "state refused: line 8: rows are missing",
+    ),
 ];
 
 fn named(rt: &impl Abort, name: &str) -> TaskName {
@@ -135,7 +183,9 @@ fn go_on(rt: &impl Abort, dispatcher: &mut Dispatcher<HeapReady>) {
 #[test]
 fn a_run_begins_from_a_text(rt: HostRuntime) {
     let alloc = rt.alloc();
-    let mut next = finished(&rt, alloc).next_run(SLOTS).expect(&rt, "a next run");
+    let mut next = finished(&rt, alloc)
+        .next_run(SLOTS)
+        .expect(&rt, "a next run");
     let text = text_of(&rt, alloc, next.state().expect(&rt, "a state"));
     assert_eq!(&rt; str::from_utf8(&text), Ok(TEXT));
     let state = read_state(alloc, &text).expect(&rt, "a state");
@@ -171,9 +221,14 @@ fn a_first_run_has_a_state_too(rt: HostRuntime) {
 fn damaged_texts_are_refused(rt: HostRuntime) {
     let alloc = rt.alloc();
     for (there, instead, said) in DAMAGES {
-        let text = TEXT.replacen(alloc, there, instead, 1).expect(&rt, "memory");
+        let text = TEXT
+            .replacen(alloc, there, instead, 1)
+            .expect(&rt, "memory");
         let fault = fault_of(&rt, alloc, &text).expect(&rt, "a fault");
-        assert_eq!(&rt; format!(in alloc; "{fault}").expect(&rt, "memory").as_str(), said);
+        assert_eq!(&rt;
+            format!(in alloc; "{fault}").expect(&rt, "memory").as_str(),
+            said
+        );
         let number = if said.starts_with("no row") { 68 } else { 69 };
         assert_eq!(&rt; fault.number(), number);
     }
@@ -186,7 +241,9 @@ fn a_byte_more_or_less(rt: HostRuntime) {
     for at in 0..TEXT.len() {
         assert!(&rt; fault_of(&rt, alloc, &TEXT[..at]).is_some());
         for byte in ["", "0", "1", "3", ",", "\n", "-", "a", "z"] {
-            let text = format!(in alloc; "{}{byte}{}", &TEXT[..at], &TEXT[at + 1..]).expect(&rt, "memory");
+            let text = format!(in alloc; "{}{byte}{}", &TEXT[..at], &TEXT[at + 1..]).expect(
+                &rt, "memory",
+            );
             fault_of(&rt, alloc, &text);
         }
     }

@@ -43,7 +43,9 @@ fn add_first(writer: &mut Writer<Vec<u8>>, state: &State) -> Result<(), AllocErr
             b"state",
             b"1",
             Buffer::new().format(state.slot()).as_bytes(),
-            Buffer::new().format(state.members().processors()).as_bytes(),
+            Buffer::new()
+                .format(state.members().processors())
+                .as_bytes(),
             Buffer::new().format(state.members().frame()).as_bytes(),
         ],
     )
@@ -123,11 +125,7 @@ fn add_delays(
     Ok(())
 }
 
-fn add_delay(
-    writer: &mut Writer<Vec<u8>>,
-    name: &TaskName,
-    delay: &Delay,
-) -> Result<(), AllocError>
+fn add_delay(writer: &mut Writer<Vec<u8>>, name: &TaskName, delay: &Delay) -> Result<(), AllocError>
     requires { IsOpen writer.old }
     ensures open { OnOk result (IsOpen writer.new) }
     ensures text { OnOk result (text_so_far writer.new ≡ text_so_far writer.old ++ line (late_row name.now delay.now)) }
@@ -144,11 +142,7 @@ fn add_delay(
 }
 
 // Adds the rows of a table and its places.
-fn add_ran(
-    writer: &mut Writer<Vec<u8>>,
-    table: &[Pick],
-    places: &[u8],
-) -> Result<(), AllocError>
+fn add_ran(writer: &mut Writer<Vec<u8>>, table: &[Pick], places: &[u8]) -> Result<(), AllocError>
     requires open { IsOpen writer.old }
     requires places { length places.now ≡ length table.now }
     ensures open { OnOk result (IsOpen writer.new) }

@@ -13,7 +13,9 @@ pub fn new_text(alloc: Global) -> Writer<Vec<u8>>
     ensures text { text_so_far result ≡ [] }
     ensures sent { writer_pending result ≡ [] }
 {
-    WriterBuilder::new().flexible(true).from_writer(Vec::new(alloc))
+    WriterBuilder::new()
+        .flexible(true)
+        .from_writer(Vec::new(alloc))
 }
 
 /// Adds a line of fields, with commas between and a newline at the end.

@@ -7,4 +7,4 @@ use Rattle.pfair_state.proofs.write.rows_before_end.Given as goal
 abbrev pub invariant-loop-place : goal.invariant-loop-place
 invariant-loop-place l =
     min (l.rows + length (flat_map member_rows (drop l.place l.members.members))) 18446744073709551615
-        ≡ min (1 + length (flat_map member_rows l.members.members)) 18446744073709551615
+    ≡ min (1 + length (flat_map member_rows l.members.members)) 18446744073709551615

@@ -1,5 +1,4 @@
-use Rattle.std.proofs.Common.{sym, subst, List}
-use Rattle.pfair_admission.specs.Member.{Member}
+use Rattle.std.proofs.Common.{sym, subst}
 use Rattle.pfair_admission.specs.Roster.{Roster}
 use Rattle.pfair_table.specs.Limits.{AreCarried}
 use Rattle.pfair_table.proofs.States.{none_carried}
