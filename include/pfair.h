@@ -80,7 +80,7 @@
  *
  *     pfair_open, pfair_read_file, pfair_take, pfair_take_log, pfair_absorb, pfair_faults,
  *     pfair_plan_next, pfair_plan_to, pfair_reserve, pfair_reopen, pfair_next_run, pfair_lags,
- *     pfair_state
+ *     pfair_state, pfair_resume
  *
  * pfair_faults, pfair_lags and pfair_state free all that they allocate. A dispatcher owns all other memory until pfair_close;
  * pfair_forget frees some of it earlier. The caller owns what its pointers lead to: the library copies what it needs,
@@ -175,6 +175,8 @@ enum pfair_answer {
     PFAIR_FILE_ENTRY = 64,        /* each key of a table is valid, but together they make no entry */
     PFAIR_FILE_VERSION = 65,      /* the file's version is neither 1 nor 2 */
     PFAIR_FILE_TOO_LONG = 66,     /* a task file of more than 67,108,864 bytes */
+    PFAIR_NO_STATE_ROW = 68,      /* a line is no row of a state, or not in its place */
+    PFAIR_STATE_REFUSED = 69,     /* a row of a state says what no state has */
     PFAIR_MEMORY = 90,            /* an allocation failed */
     PFAIR_OUT_OF_RANGE = 100,     /* a number is out of the range that its call states, or two handles are one */
     PFAIR_OPEN_ALREADY = 101,     /* the handle already has a dispatcher */
@@ -709,6 +711,36 @@ uint32_t pfair_members(struct pfair_dispatcher *d, uint64_t *count, struct pfair
  * O(bytes).
  */
 uint32_t pfair_state(struct pfair_dispatcher *d, uint64_t *length, uint8_t *bytes, size_t room);
+
+/* Why a row of a state is refused. 20 to 22 are those of an arrival, which the member would be. */
+enum pfair_state_cause {
+    PFAIR_CAUSE_OTHER_FORM = 1,   /* the rows are of another form than this library's */
+    PFAIR_CAUSE_OUT_OF_RANGE = 2, /* processors, frame or slot are out of their ranges */
+    PFAIR_CAUSE_NOT_LEFT = 3,     /* no run leaves such a member */
+    PFAIR_CAUSE_QUANTUM = 4,      /* the slot before can't have had this quantum beside those above */
+    PFAIR_CAUSE_ROWS_MISSING = 5  /* the last row tells another number of rows */
+};
+
+/* Where the text of a state is at fault. */
+struct pfair_state_fault {
+    uint64_t line;  /* counted from 1 */
+    uint64_t cause; /* after 69: one of enum pfair_state_cause, or 20 to 22; else 0 */
+};
+
+/*
+ * Opens a dispatcher for a run of 1 to 1,000,000 slots that begins with the state of a text, with logs of at most
+ * `capacity` entries (1 to 4,096). It has no entries and has planned nothing. From the text that pfair_state gives after
+ * pfair_next_run it begins as that run did, in a process that has seen no run before. No check tells whether a run has
+ * left a state: compare the bytes of two machines.
+ *   101     the handle already has a dispatcher
+ *   100     a number is out of its range
+ *   66      `length` is over 67,108,864
+ *   68, 69  the text's first fault, which is written to `fault`
+ *   33      the run would end after slot 824,633,720,832, counted over all runs
+ *   90      an allocation failed
+ * The handle is as before unless the answer is 0. O(length + n log n + l log l) for n members with l late releases.
+ */
+uint32_t pfair_resume(struct pfair_dispatcher *d, uint64_t slots, uint32_t capacity, struct pfair_state_fault *fault, const uint8_t *bytes, size_t length);
 
 #ifdef __cplusplus
 }

@@ -19,12 +19,12 @@ TEXTS |= {102: "the dispatcher is closed"}
 # the names there, where they aren't those of the exceptions
 NAMES = {60: "FILE_NOT_TOML", 61: "FILE_MISSING", 62: "FILE_WRONG_KIND", 63: "FILE_RANGE", 64: "FILE_ENTRY"}
 NAMES |= {65: "FILE_VERSION", 90: "MEMORY"}
-VALUES = {*range(1, 16), 40, 41, 100}
+VALUES = {*range(1, 16), 40, 41, 68, 69, 100}
 FILES = {*range(60, 67)}
 
 
 def test_each_answer_has_its_exception():
-    assert set(TEXTS) - {101, 103} == set(pfair.BY_NUMBER) and len(pfair.BY_NUMBER) == 32
+    assert set(TEXTS) - {101, 103} == set(pfair.BY_NUMBER) and len(pfair.BY_NUMBER) == 34
     for number, kind in pfair.BY_NUMBER.items():
         assert (kind.number, kind.text) == (number, TEXTS[number]) and getattr(pfair, kind.__name__) is kind
         second = ValueError if number in VALUES else MemoryError if number == 90 else None

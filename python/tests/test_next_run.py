@@ -109,7 +109,6 @@ def check_run(run, one, long, said):
 
 
 def check_state(text, begin, processors, members):
-    """The rows of a state are the members with which the run began."""
     first, *rows, end = text.decode().splitlines()
     assert first == f"state,1,{begin},{processors},{FRAME}" and end == f"end,{len(rows) + 2}"
     fields = members[["task", "cost", "period", "early", "joined", "next", "freed_at"]]
@@ -133,6 +132,9 @@ def check_runs(lengths, processors, said, long):
         one.next_run(lengths[place + 1])
         after = one.members()
         check_state(one.state(), begin, processors, after)
+        if place % 2:
+            one = pfair.Dispatcher.resume(one.state(), lengths[place + 1])
+            assert (one.members() == after).all()
         assert one.planned == 0 and (after[["task", "lag"]] == before[["task", "lag"]]).all()
         taken = dict(zip(before["task"].tolist(), (before["next"] - after["next"]).tolist()))
         assert (after["next"] <= after["cost"] + 1).all()
@@ -177,6 +179,17 @@ def test_a_next_run_is_refused():
     one.take(0, 1, pfair.promise(4))
     refusal(pfair.Torn, "two different entries were taken for one number", one.next_run, 4)
     assert one.planned == 4 and one.table(2) == [("a", 2)]
+
+
+def test_a_state_is_refused():
+    resume, member = pfair.Dispatcher.resume, "state,1,9,1,6\nmember,a,1,4,true,0,1,-\nend,3\n"
+    for text, kind, where in (
+        ("state,1,0,1,6\n", pfair.NoStateRow, "line 2"), (member, pfair.StateRefused, "line 2: period outside frame"),
+        ("state,2,0,1,6\nend,2\n", pfair.StateRefused, "line 1: another form"),
+        ("state,1,824633720832,1,6\nend,2\n", pfair.PastLastSlot, ""),
+    ):
+        refusal(kind, ": ".join(filter(None, (kind.text, where))), resume, text.encode(), 1)
+    outside("slots", 0, resume, b"", 0, least=1, most=1_000_000)
 
 
 def test_what_a_next_run_begins_with():

@@ -3,6 +3,7 @@ import random
 import subprocess
 import sys
 import tomllib
+import types
 import zlib
 from fractions import Fraction
 
@@ -85,11 +86,8 @@ PAST_LIMITS = [
     ("\n# c\n a,1,2,3,4\n", "line 3: 'a,1,2,3,4' is not name,cost,period or name,cost,period,slot"),
     ("a,1,2\nb,one,2\n", "line 2: 'one' is no whole number"),
     ("a,1,x\n", "line 1: 'x' is no whole number"),
-    (
-        "a,1,999999937\nb,1,2\n",
-        "the least common multiple of the periods, 1999999874, is over 1000000000: "
-        "choose periods with more divisors in common",
-    ),
+    ("a,1,999999937\nb,1,2\n", "the least common multiple of the periods, 1999999874, is over 1000000000: "
+     "choose periods with more divisors in common"),
 ]
 
 
@@ -203,24 +201,12 @@ def test_seeds():
     assert zlib.crc32("".join(text_at_random(*one) for one in sets).encode()) == 4_170_284_551
 
 
-class Draws:
-    """In the place of a random generator: it gives zeros, and counts how many."""
-
-    asked = 0
-
-    def random(self):
-        self.asked += 1
-        return 0.0
-
-    def choice(self, periods):
-        return periods[0]
-
-
 def test_draws_are_given_up():
-    draws = Draws()
+    asked = []  # in the place of a random generator: it gives zeros
+    draws = types.SimpleNamespace(random=lambda: asked.append(1) or 0.0, choice=lambda periods: periods[0])
     said = "no 2 tasks were found whose weights add to 1.5: give more tasks, or a smaller load"
     refusal(TASK_FILE.Refused, said, TASK_FILE.drawn, 2, 75, 2, [10], draws)
-    assert draws.asked == 100_000
+    assert len(asked) == 100_000
 
 
 def test_shares_are_unbiased():

@@ -61,6 +61,62 @@ static void refused_in_turn(void) {
     ANSWERS(0, pfair_close(&d));
 }
 
+/* A run that begins with a text has the members and the slots of the one that begins with what the run before has left,
+   though each allocation is refused in turn. */
+static void resumed(struct pfair_dispatcher *next, const uint8_t *text, uint64_t length) {
+    static struct pfair_member before[TASKS], after[TASKS];
+    struct pfair_dispatcher d = PFAIR_NONE;
+    struct pfair_state_fault fault = {7, 7};
+    long in_use = bytes, at = 0;
+    uint32_t answer = 90;
+    for (; answer == 90; ample()) {
+        CHECK(bytes == in_use && !d.is_open && fault.line == 7, "something was opened");
+        refuse(++at, 1);
+        answer = pfair_resume(&d, SHORT, 64, &fault, text, length);
+    }
+    CHECK(answer == 0 && at > 10 && fault.line == 7, "answer %u, %ld allocations", answer, at);
+    ANSWERS(101, pfair_resume(&d, SHORT, 64, &fault, text, length));
+    uint64_t count = members_of(next, before);
+    CHECK(members_of(&d, after) == count && !memcmp(before, after, count * sizeof *after), "other members");
+    planned_on(&d, SHORT);
+    planned_on(next, SHORT);
+    CHECK(members_of(&d, after) == members_of(next, before), "other members after the run");
+    CHECK(!memcmp(before, after, count * sizeof *after), "other quanta");
+    ANSWERS(0, pfair_close(&d));
+}
+
+/* What is wrong with a text, or with the numbers beside it: nothing is opened. */
+static void no_states(void) {
+    static const struct {
+        const char *text;
+        uint32_t answer;
+        uint64_t line, cause;
+    } wrong[] = {{"", 68, 1, 0},
+                 {"state,1,0,1,6\nend,2", 68, 2, 0},
+                 {"state,1,00,1,6\nend,2\n", 68, 1, 0},
+                 {"state,2,0,1,6\nend,2\n", 69, 1, 1},
+                 {"state,1,0,65,6\nend,2\n", 69, 1, 2},
+                 {"state,1,9,1,6\nmember,a,1,2,true,9,1,-\nend,3\n", 69, 2, 3},
+                 {"state,1,9,1,6\nran,a,1,1\nend,3\n", 69, 2, 4},
+                 {"state,1,0,1,6\nend,3\n", 69, 2, 5},
+                 {"state,1,9,1,6\nmember,a,1,4,true,0,1,-\nend,3\n", 69, 2, 21},
+                 {"state,1,824633720832,1,6\nend,2\n", 33, 7, 7}};
+    struct pfair_dispatcher d = PFAIR_NONE;
+    for (size_t k = 0; k < sizeof wrong / sizeof wrong[0]; k++) {
+        struct pfair_state_fault fault = {7, 7};
+        ANSWERS(wrong[k].answer, pfair_resume(&d, 1, 1, &fault, (const uint8_t *)wrong[k].text, strlen(wrong[k].text)));
+        CHECK(fault.line == wrong[k].line && fault.cause == wrong[k].cause && !d.is_open, "fault of text %zu", k);
+    }
+    static uint8_t long_text[67108865];
+    struct pfair_state_fault fault = {7, 7};
+    ANSWERS(66, pfair_resume(&d, 1, 1, &fault, long_text, sizeof long_text));
+    ANSWERS(100, pfair_resume(&d, 0, 1, &fault, long_text, 1));
+    ANSWERS(100, pfair_resume(&d, 1000001, 1, &fault, long_text, 1));
+    ANSWERS(100, pfair_resume(&d, 1, 0, &fault, long_text, 1));
+    ANSWERS(100, pfair_resume(&d, 1, 4097, &fault, long_text, 1));
+    CHECK(fault.line == 7 && fault.cause == 7 && !d.is_open, "something was written");
+}
+
 /* The text of a state, with too little room, and with each allocation refused in turn: it is as long as it says. */
 static void states(void) {
     static uint8_t text[65536];
@@ -87,6 +143,7 @@ static void states(void) {
     }
     CHECK(answer == 0 && at > 3 && again == length && bytes == in_use, "answer %u, %ld allocations", answer, at);
     CHECK(!memcmp(text, "state,1,", 8) && text[length - 1] == '\n' && text[length] == 0, "no text of a state");
+    resumed(&d, text, length);
     ANSWERS(0, pfair_close(&d));
 }
 
@@ -133,6 +190,7 @@ int main(int count, char **words) {
     refusals();
     refused_in_turn();
     states();
+    no_states();
     many_runs(count > 1 ? atol(words[1]) : 12, count > 2 ? strtoull(words[2], NULL, 10) : 3000);
     CHECK(blocks == at_first, "%ld blocks not freed", blocks - at_first);
     return told();

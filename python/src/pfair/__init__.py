@@ -18,9 +18,10 @@ from ._dispatcher import Dispatcher
 from ._entries import Entry, Script, arrive, depart, late, promise, rows_of
 from .errors import (
     BY_NUMBER, BadDelay, BadIndex, CannotCarry, CostOverPeriod, EntryRefused, FileTooLong, KeyMissing, KeyOutOfRange,
-    KeyWrongKind, NameBadByte, NameEmpty, NameTooLong, NoSuchNumber, NoSuchProcessor, NotOpen, NotPlanned, NotToml,
-    OtherShape, OutOfMemory, OutOfRange, PastLastSlot, PeriodTooLong, PfairError, PickPastHorizon, PicksNotRising,
-    SlotTooFar, Spent, Stalled, StampBeforeFloor, TaskFileError, Torn, Unfinished, UnknownVersion, ZeroCost,
+    KeyWrongKind, NameBadByte, NameEmpty, NameTooLong, NoStateRow, NoSuchNumber, NoSuchProcessor, NotOpen, NotPlanned,
+    NotToml, OtherShape, OutOfMemory, OutOfRange, PastLastSlot, PeriodTooLong, PfairError, PickPastHorizon,
+    PicksNotRising, SlotTooFar, Spent, Stalled, StampBeforeFloor, StateRefused, TaskFileError, Torn, Unfinished,
+    UnknownVersion, ZeroCost,
 )
 from ._first_miss import Miss, first_late, first_miss
 from ._library import DECISION, ENTRY, LAG, MEMBER, OUTCOMES, QUANTUM, WINDOW
@@ -38,8 +39,9 @@ __all__ = [
     "depart", "errors", "first_late", "first_miss", "late", "promise", "read_task_file", "rows_of", "schedule", "study",
     "succeed", "windows",
     "BadDelay", "BadIndex", "CannotCarry", "CannotSucceed", "CostOverPeriod", "EntryRefused", "FileTooLong",
-    "KeyMissing", "KeyOutOfRange", "KeyWrongKind", "NameBadByte", "NameEmpty", "NameTooLong", "NoCycle", "NoSuchNumber",
-    "NoSuchProcessor", "NotHeld", "NotOpen", "NotPlanned", "NotToml", "OtherShape", "OutOfMemory", "OutOfRange",
-    "PastLastSlot", "PeriodTooLong", "PfairError", "PickPastHorizon", "PicksNotRising", "SlotTooFar", "Spent",
-    "Stalled", "StampBeforeFloor", "TaskFileError", "Torn", "Unfinished", "UnknownVersion", "ZeroCost",
+    "KeyMissing", "KeyOutOfRange", "KeyWrongKind", "NameBadByte", "NameEmpty", "NameTooLong", "NoCycle", "NoStateRow",
+    "NoSuchNumber", "NoSuchProcessor", "NotHeld", "NotOpen", "NotPlanned", "NotToml", "OtherShape", "OutOfMemory",
+    "OutOfRange", "PastLastSlot", "PeriodTooLong", "PfairError", "PickPastHorizon", "PicksNotRising", "SlotTooFar",
+    "Spent", "Stalled", "StampBeforeFloor", "StateRefused", "TaskFileError", "Torn", "Unfinished", "UnknownVersion",
+    "ZeroCost",
 ]

@@ -9,7 +9,7 @@ from typing import Any, Optional, TypeVar, Union
 
 from . import _contents, _digest, _planned, _plans, _take
 from .errors import NotOpen, check
-from ._library import FileFault, Handle, Settings, library
+from ._library import FileFault, Handle, OUTCOMES, Settings, StateFault, library
 from ._numbers import whole
 
 Own = TypeVar("Own", bound="Dispatcher")
@@ -21,6 +21,9 @@ _KEYS = (
     "", "version", "processors", "frame", "slots", "entry", "processor", "floor", "kind", "at", "name", "cost",
     "period", "early", "index", "by",
 )
+# why a row of a state is refused, by the cause of the fault
+_CAUSES = {0: "", 1: "another form", 2: "out of range", 3: "not left by a run", 4: "no such quantum"}
+_CAUSES |= {5: "rows are missing", **{number: text for number, text in OUTCOMES.items() if number >= 20}}
 
 
 class Dispatcher:
@@ -99,6 +102,56 @@ class Dispatcher:
         if fault.cause:
             where = f"entry {fault.number} of processor {fault.processor} for {fault.cause}"
         check(answer, where, **found)
+        return made
+
+    @classmethod
+    def resume(cls: type[Own], state: Union[bytes, bytearray, memoryview], slots: int, capacity: int = 4096) -> Own:
+        """Makes a dispatcher for a run that begins with a state, as the run did in which `state` gave it.
+
+        No check tells whether a run has left a state, so that no deadline is missed: compare the bytes of two machines.
+
+        Parameters
+        ----------
+        state : bytes, bytearray, memoryview or another buffer
+            The text of the state, at most 67,108,864 bytes.
+        slots : int
+            The number of slots to plan, 1 to 1,000,000.
+        capacity : int
+            The most entries of a log, 1 to 4,096.
+
+        Returns
+        -------
+        Dispatcher
+            With no entries and no planned slots.
+
+        Raises
+        ------
+        OutOfRange
+            If a number is out of its range.
+        FileTooLong
+            If the text is too long.
+        NoStateRow
+            If a line is no row of a state, or not in its place.
+        StateRefused
+            If a row says what no state has.
+        PastLastSlot
+            If the run would end after slot 824,633,720,832, counted over all runs.
+        OutOfMemory
+            If an allocation fails.
+        TypeError
+            If `state` is no buffer.
+
+        Notes
+        -----
+        O(b + n log n + l log l) for b bytes, n members and l late releases that are still to come.
+        """
+        lengths = whole(slots, "slots", 1, 1_000_000), whole(capacity, "capacity", 1, 4_096)
+        content = _bytes_of(state)
+        made, fault = cls.__new__(cls), StateFault()
+        made._begin()
+        answer = made._answer("pfair_resume", *lengths, fault, content, len(content))
+        found = {name: int(getattr(fault, name)) for name in ("line", "cause") if getattr(fault, name)}
+        check(answer, ": ".join([f"line {fault.line}", *filter(None, [_CAUSES[fault.cause]])] if found else []), **found)
         return made
 
     def _begin(self) -> None:

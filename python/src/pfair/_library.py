@@ -35,6 +35,10 @@ class FileFault(c.Structure):
     _fields_ = [(name, c.c_uint64) for name in ("place", "field", "processor", "number", "cause")]
 
 
+class StateFault(c.Structure):
+    _fields_ = [("line", c.c_uint64), ("cause", c.c_uint64)]
+
+
 # Arrays have the layout of the library's structs. A name is 16 bytes and its length, which users don't see: zeros
 # follow a name, and none is in it.
 _NAME, _NUMBER = ("S16", 24), ("u8", 8)
@@ -114,6 +118,7 @@ _CALLS: dict[str, list[Any]] = {
     "pfair_lags": [_handle, _u64, _u64, _number, _array, _size],
     "pfair_members": [_handle, _number, _array, _size],
     "pfair_state": [_handle, _number, _array, _size],
+    "pfair_resume": [_handle, _u64, _u32, c.POINTER(StateFault), c.c_char_p, _size],
 }
 for _call, _types in _CALLS.items():
     getattr(library, _call).argtypes = _types

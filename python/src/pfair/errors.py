@@ -172,6 +172,16 @@ class FileTooLong(TaskFileError):
     text = "a task file of more than 67,108,864 bytes"
 
 
+class NoStateRow(PfairError, ValueError, found='"line", from 1'):
+    number = 68
+    text = "a line is no row of a state, or not in its place"
+
+
+class StateRefused(PfairError, ValueError, found='"line", from 1, and "cause", its number in C'):
+    number = 69
+    text = "a row of a state says what no state has"
+
+
 class OutOfMemory(PfairError, MemoryError):
     number = 90
     text = "an allocation failed"
@@ -200,7 +210,7 @@ BY_NUMBER: dict[int, type[PfairError]] = {
         NameEmpty, NameTooLong, NameBadByte, ZeroCost, CostOverPeriod, PeriodTooLong, StampBeforeFloor, SlotTooFar,
         BadDelay, BadIndex, NoSuchProcessor, NoSuchNumber, OtherShape, Torn, Spent, Unfinished, PastLastSlot,
         CannotCarry, PicksNotRising, PickPastHorizon, Stalled, NotToml, KeyMissing, KeyWrongKind, KeyOutOfRange,
-        EntryRefused, UnknownVersion, FileTooLong, OutOfMemory, OutOfRange, NotOpen, NotPlanned,
+        EntryRefused, UnknownVersion, FileTooLong, NoStateRow, StateRefused, OutOfMemory, OutOfRange, NotOpen, NotPlanned,
     )
 }
 

@@ -1,5 +1,6 @@
 mod LagFacts
 mod Onward
+mod Resumed
 mod SlotRows
 mod TakingFacts
 mod Written

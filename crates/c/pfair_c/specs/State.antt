@@ -1,10 +1,25 @@
--- The state in which a run began, as C has it.
-use Rattle.std.specs.Prelude.{ℕ, ◌≡◌, List, Some, None}
+-- The state in which a run began, as C has it, and a run that begins with one.
+use Rattle.std.specs.Prelude.{ℕ, ◌≡◌, ◌+◌, ◌≤◌, ◌<◌, ◌⊎◌, true, false, List, length, Some, None}
 use Rattle.pfair_state.specs.Rows.{state_text}
-use Rattle.pfair_table.specs.Limits.{first_state}
-use Rattle.pfair_table.specs.Refinement.{Dispatch}
+use Rattle.pfair_state.specs.Faults.{read_fault_number}
+use Rattle.pfair_state.specs.declared.fault.ReadFault.{ReadFault}
+use Rattle.pfair_state.specs.declared.fault.ReadFault.TheVariants as fault
+use Rattle.pfair_state.specs.declared.fault.Why.{Why}
+use Rattle.pfair_state.specs.declared.fault.Why.TheVariants as why
+use Rattle.pfair_admission.specs.Refusal.{refusal_number}
+use Rattle.pfair_admission.specs.declared.member_state.RestoreFault.TheVariants.{NotAdmitted, NotLeft}
+use Rattle.pfair_admission.specs.declared.member_state.RestoreFault.TheVariants as restore
+use Rattle.pfair_admission.specs.declared.members.TheConstants.Members.{LAST_SLOT}
+use Rattle.pfair_table.specs.Events.{begin_at}
+use Rattle.pfair_table.specs.Limits.{first_state, settings_from}
+use Rattle.pfair_table.specs.Refinement.{Dispatch, course_of}
 use Rattle.pfair_table.specs.Table.{Carried, Origin, Settings}
-use Rattle.pfair_c.specs.declared.answer.TheConstants.{MEMORY}
+use Rattle.pfair_table.specs.declared.settings.TheConstants.Settings.{MAX_SLOTS}
+use Rattle.pfair_file.specs.declared.input.TheConstants.{LONGEST_FILE}
+use Rattle.pfair_handle.specs.Kept.{Kept, is_kept}
+use Rattle.pfair_handle.specs.Behind.{Of}
+use Rattle.pfair_c.specs.declared.answer.TheConstants.{DONE, FILE_TOO_LONG, MEMORY, OPEN_ALREADY, OUT_OF_RANGE}
+use Rattle.pfair_c.specs.declared.resume.PfairStateFault.{PfairStateFault}
 use Rattle.pfair_c.specs.Told.{AreTold, rows_count}
 
 abbrev pub state_at : Settings → Origin → Carried
@@ -18,3 +33,42 @@ began d = state_at d.settings d.origin
 pub record AreBytesTold (d : Dispatch) (answer : ℕ) (old new : ℕ × List ℕ) : Type 0 where
   pub told : (answer ≡ MEMORY → ⊥) → AreTold rows_count (λ e. Some (state_text (began e))) d answer old new
   pub memory : answer ≡ MEMORY → new ≡ old
+
+-- ---- a run that begins with a text
+
+-- why a row of a state is refused, as C has it
+abbrev pub cause_of : Why → ℕ
+cause_of why.OtherForm = 1
+cause_of why.OutOfRange = 2
+cause_of (why.Member (NotAdmitted refusal)) = refusal_number refusal
+cause_of (why.Member NotLeft) = 3
+cause_of (why.Member restore.Memory) = 3
+cause_of why.Quantum = 4
+cause_of why.Incomplete = 5
+
+abbrev pub state_fault_row : ReadFault → PfairStateFault
+state_fault_row (fault.NoRow line) = record { line = line; cause = 0 }
+state_fault_row (fault.Refused line why) = record { line = line; cause = cause_of why }
+state_fault_row fault.Memory = record { line = 0; cause = 0 }
+
+abbrev pub IsRunnable : (slots capacity : ℕ) → Type 0
+IsRunnable slots capacity = (1 ≤ slots) × (slots ≤ MAX_SLOTS) × (1 ≤ capacity) × (capacity ≤ 4096)
+
+-- the bytes are the text of a state, and d is a new dispatcher of a run that begins with it
+pub record IsResumedFrom (bytes : List ℕ) (slots capacity : ℕ) (d : Dispatch) : Type 0 where
+  pub state : Carried
+  pub text : bytes ≡ state_text state
+  pub settings : d.settings ≡ settings_from state slots
+  pub course : course_of d ≡ begin_at (Some state) (settings_from state slots) capacity
+  pub whole : (d.forgotten ≡ 0) × (d.spent ≡ false)
+
+-- what `pfair_resume` answers
+pub record IsResumeAnswer (bytes : List ℕ) (slots capacity : ℕ) (before after : Kept) (answer : ℕ) (old new : PfairStateFault) : Type 0 where
+  pub already : is_kept before ≡ true → answer ≡ OPEN_ALREADY
+  pub out_of_range : answer ≡ OUT_OF_RANGE → IsRunnable slots capacity → ⊥
+  pub too_long : answer ≡ FILE_TOO_LONG → LONGEST_FILE < length bytes
+  pub resumed : answer ≡ DONE → IsRunnable slots capacity × Of after (IsResumedFrom bytes slots capacity)
+  pub late : answer ≡ 33 → (c : Carried) × (bytes ≡ state_text c) × (LAST_SLOT < c.slot + slots)
+  pub fault : (answer ≡ 68) ⊎ (answer ≡ 69) → (f : ReadFault) × (answer ≡ read_fault_number f) × (new ≡ state_fault_row f)
+  pub unchanged : (answer ≡ DONE → ⊥) → after ≡ before
+  pub untold : ((answer ≡ 68) ⊎ (answer ≡ 69) → ⊥) → new ≡ old

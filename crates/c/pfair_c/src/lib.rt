@@ -17,6 +17,7 @@ mod name;
 mod open;
 mod plan;
 mod quanta;
+mod resume;
 mod rows;
 mod state;
 mod table;
@@ -41,6 +42,8 @@ pub use plan::{
     pfair_reopen, pfair_reserve,
 };
 pub use quanta::{PfairQuantum, pfair_quanta};
+pub use resume::{PfairStateFault, pfair_resume};
+pub use state::pfair_state;
 pub use table::{PfairPick, pfair_places, pfair_table};
 pub use take::{PfairTakenLog, pfair_take, pfair_take_log};
 pub use version::pfair_version;
