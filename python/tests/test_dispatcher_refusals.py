@@ -76,9 +76,9 @@ def test_memory(program):
 # what each call and property is tried with, in an order in which none is refused
 CALLS = {"take": (0, 1, pfair.arrive("a", 1, 2)), "take_log": (0, [pfair.promise(6)], 2), "held": (0, 1), "mark": (0,)}
 CALLS |= {"missing": (0,), "reserve": (1, 1), "plan": (), "table": (0,), "places": (0,), "quanta": (), "lags": ()}
-CALLS |= {name: () for name in ("decisions", "members", "faults", "planned", "frontier", "processors", "frame")}
+CALLS |= {name: () for name in ("decisions", "members", "state", "faults", "planned", "frontier", "frame")}
 CALLS |= {"slots": (), "capacity": (), "absorb": "other", "is_below": "other", "forget": (1,), "reopen": ()}
-CALLS |= {"digest": (0, 1), "next_run": (6,), "close": ()}
+CALLS |= {"processors": (), "digest": (0, 1), "next_run": (6,), "close": ()}
 
 
 def called(one, name, other):
@@ -90,7 +90,7 @@ def called(one, name, other):
 def test_each_call_is_one_step():
     """No other thread comes between what a call asks of the library."""
     one, other = pfair.Dispatcher(1, 6, 6), pfair.Dispatcher(1, 6, 6)
-    assert set(CALLS) == {name for name in dir(one) if name[0] != "_"} - {"of_file"}
+    assert set(CALLS) == {name for name in dir(one) if name[0] != "_"} - {"of_file", "resume"}
     told = []
     one._lock = Told(one._lock, "one", told)
     for name in (*CALLS, "__repr__"):

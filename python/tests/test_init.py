@@ -11,7 +11,7 @@ TABLES = "BY_NUMBER DECISION ENTRY LAG MEMBER OUTCOMES QUANTUM WINDOW errors stu
 def test_public_names():
     errors = {name for name, kind in vars(pfair).items() if isinstance(kind, type) and issubclass(kind, Exception)}
     wanted = {*TYPES.split(), *CALLS.split(), *TABLES.split(), *errors}
-    assert set(pfair.__all__) >= wanted and len(pfair.__all__) == len(set(pfair.__all__)) and len(errors) == 37
+    assert set(pfair.__all__) >= wanted and len(pfair.__all__) == len(set(pfair.__all__)) and len(errors) == 39
     assert all(hasattr(pfair, name) for name in pfair.__all__) and isinstance(pfair.study, types.ModuleType)
     names = {}
     exec("from pfair import *", names)

@@ -18,7 +18,7 @@ SIMPLE = {"uint64_t": "u8", "int64_t": "i8"}
 # names of the package for those of the header
 ROWS = {name: name.upper() for name in ("quantum", "decision", "lag", "member", "window", "entry", "key")}
 KEPT = {"dispatcher": "Handle", "step": "Step", "settings": "Settings", "taken_log": "TakenLog", "miss": "Miss"}
-KEPT["file_fault"] = "FileFault"
+KEPT |= {"file_fault": "FileFault", "state_fault": "StateFault"}
 
 
 def fields_of(struct):
@@ -138,13 +138,13 @@ def type_of(declared, module):
     if words[0] == "struct":
         struct = KEPT.get(words[1].removeprefix("pfair_"))
         return ctypes.POINTER(getattr(module, struct)) if struct else ctypes.c_void_p
-    return ctypes.POINTER(NUMBERS[words[0]])
+    return ctypes.c_void_p if words[0] == "uint8_t" else ctypes.POINTER(NUMBERS[words[0]])
 
 
 def test_types_of_calls(monkeypatch):
     module, _ = loaded(monkeypatch, NUMBER_OF_VERSION)
     declared = dict(re.findall(r"^uint32_t (pfair_\w+)\(([^)]*)\);", HEADER, re.M))
-    assert len(module._CALLS) == 27 and set(module._CALLS) <= set(declared)
+    assert len(module._CALLS) == 29 and set(module._CALLS) <= set(declared)
     for name in module._CALLS:
         types = [type_of(one, module) for one in declared[name].split(",") if one != "void"]
         call = getattr(module.library, name)

@@ -141,7 +141,7 @@ static void states(void) {
         refuse(++at, 1);
         answer = pfair_state(&d, &again, text, length);
     }
-    CHECK(answer == 0 && at > 3 && again == length && bytes == in_use, "answer %u, %ld allocations", answer, at);
+    CHECK(answer == 0 && at > 1 && again == length && bytes == in_use, "answer %u, %ld allocations", answer, at);
     CHECK(!memcmp(text, "state,1,", 8) && text[length - 1] == '\n' && text[length] == 0, "no text of a state");
     resumed(&d, text, length);
     ANSWERS(0, pfair_close(&d));

@@ -22,8 +22,8 @@ _KEYS = (
     "period", "early", "index", "by",
 )
 # why a row of a state is refused, by the cause of the fault
-_CAUSES = {0: "", 1: "another form", 2: "out of range", 3: "not left by a run", 4: "no such quantum"}
-_CAUSES |= {5: "rows are missing", **{number: text for number, text in OUTCOMES.items() if number >= 20}}
+_CAUSES = {0: "", 1: ": another form", 2: ": out of range", 3: ": not left by a run", 4: ": no such quantum"}
+_CAUSES |= {5: ": rows are missing", **{number: f": {text}" for number, text in OUTCOMES.items() if number >= 20}}
 
 
 class Dispatcher:
@@ -151,7 +151,8 @@ class Dispatcher:
         made._begin()
         answer = made._answer("pfair_resume", *lengths, fault, content, len(content))
         found = {name: int(getattr(fault, name)) for name in ("line", "cause") if getattr(fault, name)}
-        check(answer, ": ".join([f"line {fault.line}", *filter(None, [_CAUSES[fault.cause]])] if found else []), **found)
+        where = f"line {fault.line}{_CAUSES[fault.cause]}" if found else ""
+        check(answer, where, **found)
         return made
 
     def _begin(self) -> None:

@@ -210,7 +210,8 @@ BY_NUMBER: dict[int, type[PfairError]] = {
         NameEmpty, NameTooLong, NameBadByte, ZeroCost, CostOverPeriod, PeriodTooLong, StampBeforeFloor, SlotTooFar,
         BadDelay, BadIndex, NoSuchProcessor, NoSuchNumber, OtherShape, Torn, Spent, Unfinished, PastLastSlot,
         CannotCarry, PicksNotRising, PickPastHorizon, Stalled, NotToml, KeyMissing, KeyWrongKind, KeyOutOfRange,
-        EntryRefused, UnknownVersion, FileTooLong, NoStateRow, StateRefused, OutOfMemory, OutOfRange, NotOpen, NotPlanned,
+        EntryRefused, UnknownVersion, FileTooLong, NoStateRow, StateRefused, OutOfMemory, OutOfRange, NotOpen,
+        NotPlanned,
     )
 }
 
