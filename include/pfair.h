@@ -62,8 +62,10 @@
  * STACK. A call uses at most this many bytes of stack, from its return address on, for every input (computed from the
  * archive). What malloc, realloc, free, memcpy, memmove, memset, __udivti3 and a dynamic linker use comes on top.
  *
- *      6,500  pfair_open
- *     10,000  pfair_next_run
+ *     49,000  pfair_resume
+ *     43,500  pfair_state
+ *      7,000  pfair_open
+ *     14,500  pfair_next_run
  *     13,500  pfair_read_file, and 4,000 for each level of nested keys; it reads at most 80 levels
  *      3,600  pfair_reopen
  *      2,300  pfair_plan_next, pfair_plan_to
