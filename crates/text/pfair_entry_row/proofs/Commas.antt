@@ -6,15 +6,8 @@ use Rattle.std.proofs.lemmas.List.Splits.{slice_split_at, slice_split_first, sli
 use Rattle.std.proofs.lemmas.List.Sums.{fails_before_first}
 use Rattle.std.proofs.lemmas.Bool.Decides.{nat_tests}
 use Rattle.std.proofs.lemmas.Grind.{common_steps}
-use Rattle.pfair_entry_row.specs.Fields.{parts}
-use Rattle.pfair_entry_row.specs.Row.{HasNoComma}
-
--- the first comma, or the end
-abbrev pub first_comma : List ℕ → ℕ
-first_comma row = position_or_len (λ b. b == 44) row
-
-pub no_comma_before : (row : List ℕ) → HasNoComma (take (first_comma row) row)
-no_comma_before row k d inside = grind (arith, common_steps, get_or-take, fails_before_first)
+use Rattle.pfair_entry_row.specs.Fields.{parts, parts_at}
+use Rattle.pfair_entry_row.specs.Row.{HasNoComma, HasNone}
 
 -- no field has a comma
 abbrev pub HaveNoCommas : List (List ℕ) → Type 0
@@ -26,14 +19,24 @@ pub parts-join : (first : List ℕ) (rest : List (List ℕ)) → HasNoComma firs
 parts-join first [] h more = slice_split_none (λ b. b == 44) first h
 parts-join first (next ∷ rest) h more = grind (arith, slice_split_at, parts-join next rest more.0 more.1)
 
--- if a place is found, it is that of the first comma
-pub place_is : (row : List ℕ) (at : ℕ) (r : Option ℕ) → r ≡ cond (ltb (first_comma row) (length row)) (Some (first_comma row)) None → r ≡ Some at → (first_comma row ≡ at) × (first_comma row < length row)
-place_is row at r found is = (grind (arith, nat_tests), grind (arith, nat_tests))
+-- ---- where a text is cut
 
-pub no_place : (row : List ℕ) (r : Option ℕ) → r ≡ cond (ltb (first_comma row) (length row)) (Some (first_comma row)) None → r ≡ None → length row ≤ first_comma row
-no_place row r found is = grind (arith, nat_tests)
+module _ (separator : ℕ) where
+  -- the first separator, or the end
+  abbrev pub first_of : List ℕ → ℕ
+  first_of text = position_or_len (λ b. b == separator) text
 
--- what is cut at a place that was found
-pub cut_there : (row : List ℕ) (at : ℕ) (r : Option ℕ) → r ≡ cond (ltb (first_comma row) (length row)) (Some (first_comma row)) None → r ≡ Some at
-    → HasNoComma (take at row) × (parts row ≡ take at row ∷ parts (take (length row - (at + 1)) (drop (at + 1) row)))
-cut_there row at r found is = grind (arith, place_is, common_steps, no_comma_before, slice_split_first)
+  none_before : (text : List ℕ) → HasNone separator (take (first_of text) text)
+  none_before text k d inside = grind (arith, common_steps, get_or-take, fails_before_first)
+
+  -- if a place is found, it is that of the first separator
+  place_is : (text : List ℕ) (at : ℕ) (r : Option ℕ) → r ≡ cond (ltb (first_of text) (length text)) (Some (first_of text)) None → r ≡ Some at → (first_of text ≡ at) × (first_of text < length text)
+  place_is text at r found is = (grind (arith, nat_tests), grind (arith, nat_tests))
+
+  pub no_place : (text : List ℕ) (r : Option ℕ) → r ≡ cond (ltb (first_of text) (length text)) (Some (first_of text)) None → r ≡ None → length text ≤ first_of text
+  no_place text r found is = grind (arith, nat_tests)
+
+  -- what is cut at a place that was found
+  pub cut_there : (text : List ℕ) (at : ℕ) (r : Option ℕ) → r ≡ cond (ltb (first_of text) (length text)) (Some (first_of text)) None → r ≡ Some at
+      → HasNone separator (take at text) × (parts_at separator text ≡ take at text ∷ parts_at separator (take (length text - (at + 1)) (drop (at + 1) text)))
+  cut_there text at r found is = grind (arith, place_is, common_steps, none_before, slice_split_first)

@@ -1,10 +1,13 @@
--- What stands between the commas of a row.
+-- What stands between the separators of a text, and between the commas of a row.
 use Rattle.std.specs.Prelude.{ℕ, List, [], ◌∷◌, ◌==◌}
 use Rattle.std.specs.List.{slice_split}
 use Rattle.pfair_entry_row.specs.declared.fields.Fields.{Fields}
 
+abbrev pub parts_at : (separator : ℕ) → List ℕ → List (List ℕ)
+parts_at separator text = slice_split (λ b. b == separator) text
+
 abbrev pub parts : List ℕ → List (List ℕ)
-parts row = slice_split (λ b. b == 44) row
+parts row = parts_at 44 row
 
 abbrev pub texts : Fields → List (List ℕ)
 texts f =

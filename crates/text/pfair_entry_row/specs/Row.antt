@@ -41,8 +41,11 @@ entry_row processor number e = join_with_byte 44 (entry_fields processor number 
 
 -- ---- what the fields of a row may say
 
+abbrev pub HasNone : ℕ → List ℕ → Type 0
+HasNone separator bytes = All (λ b. (b == separator) ≡ false) bytes
+
 abbrev pub HasNoComma : List ℕ → Type 0
-HasNoComma bytes = All (λ b. (b == 44) ≡ false) bytes
+HasNoComma bytes = HasNone 44 bytes
 
 -- any numbers of 64 bits, and any name in which no field ends
 abbrev pub IsSpelled : Announcement → Type 0

@@ -1,7 +1,7 @@
 //! The fields of a row, before they are read.
-ghost use Rattle.std.specs.Prelude.{◌≡◌, ◌≢◌, [], ◌∷◌, length, MatchOption};
-ghost use Rattle.pfair_entry_row.specs.Fields.{parts, texts};
-ghost use Rattle.pfair_entry_row.specs.Row.{HasNoComma};
+ghost use Rattle.std.specs.Prelude.{◌≡◌, ◌≢◌, ◌<◌, [], ◌∷◌, length, MatchOption, IfSome};
+ghost use Rattle.pfair_entry_row.specs.Fields.{parts, parts_at, texts};
+ghost use Rattle.pfair_entry_row.specs.Row.{HasNoComma, HasNone};
 
 /// What stands between the commas of a row.
 #[derive(Clone, Copy)]
@@ -23,17 +23,17 @@ pub(crate) struct Fields<'a> {
 pub(crate) fn cut_fields(row: &[u8]) -> Option<Fields<'_>>
     ensures { MatchOption result (length (parts row.now) ≢ 11) (λ fields. HasNoComma fields.name.now × (parts row.now ≡ texts fields)) }
 {
-    let (processor, rest) = cut(row)?;
-    let (number, rest) = cut(rest)?;
-    let (floor, rest) = cut(rest)?;
-    let (at, rest) = cut(rest)?;
-    let (kind, rest) = cut(rest)?;
-    let (name, rest) = cut(rest)?;
-    let (cost, rest) = cut(rest)?;
-    let (period, rest) = cut(rest)?;
-    let (early, rest) = cut(rest)?;
-    let (index, by) = cut(rest)?;
-    if cut(by).is_some() {
+    let (processor, rest) = cut(row, b',')?;
+    let (number, rest) = cut(rest, b',')?;
+    let (floor, rest) = cut(rest, b',')?;
+    let (at, rest) = cut(rest, b',')?;
+    let (kind, rest) = cut(rest, b',')?;
+    let (name, rest) = cut(rest, b',')?;
+    let (cost, rest) = cut(rest, b',')?;
+    let (period, rest) = cut(rest, b',')?;
+    let (early, rest) = cut(rest, b',')?;
+    let (index, by) = cut(rest, b',')?;
+    if cut(by, b',').is_some() {
         return None;
     }
     Some(Fields {
@@ -51,10 +51,11 @@ pub(crate) fn cut_fields(row: &[u8]) -> Option<Fields<'_>>
     })
 }
 
-// What is before the first comma and what is after it, if there is one.
-fn cut(row: &[u8]) -> Option<(&[u8], &[u8])>
-    ensures { MatchOption result (parts row.now ≡ row.now ∷ []) (λ p. HasNoComma p.0.now × (parts row.now ≡ p.0.now ∷ parts p.1.now)) }
+/// Returns what is before the first separator of a text and what is after it, if it has one. O(bytes).
+pub fn cut(text: &[u8], separator: u8) -> Option<(&[u8], &[u8])>
+    ensures parts { MatchOption result (parts_at separator text.now ≡ text.now ∷ []) (λ p. HasNone separator p.0.now × (parts_at separator text.now ≡ p.0.now ∷ parts_at separator p.1.now)) }
+    ensures less { IfSome result (λ p. length p.1.now < length text.now) }
 {
-    let at = row.iter().position(|byte| *byte == b',')?;
-    Some((&row[..at], &row[at + 1..]))
+    let at = text.iter().position(|byte| *byte == separator)?;
+    Some((&text[..at], &text[at + 1..]))
 }

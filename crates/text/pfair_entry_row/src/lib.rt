@@ -10,6 +10,7 @@ mod read;
 mod write;
 
 pub use fault::RowFault;
+pub use fields::cut;
 pub use number::{is_dash, read_number, read_truth};
 pub use read::{LONGEST_ROW, read_row};
 pub use write::{add_entry, truth_word};
