@@ -1,7 +1,7 @@
-mod Commas
+pub mod Commas
 mod Lengths
-mod Lines
-mod Names
+pub mod Lines
+pub mod Names
 mod Numbers
 mod OneWay
 mod Refused

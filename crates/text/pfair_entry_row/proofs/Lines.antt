@@ -30,7 +30,7 @@ unmarked (b ∷ bytes) h = grind (arith, or_parts, eqb-false, unmarked bytes)
 plain : (field : List ℕ) → is_plain field ≡ true → IsOneLine field
 plain field h = unmarked field (not-true (list_any is_mark field) (and_parts (not (length field == 0)) (not (list_any is_mark field)) h).1)
 
-joined : (fields : List (List ℕ)) → list_all is_plain fields ≡ true → IsOneLine (join_with_byte 44 fields)
+pub joined : (fields : List (List ℕ)) → list_all is_plain fields ≡ true → IsOneLine (join_with_byte 44 fields)
 joined [] h = tt
 joined (f ∷ []) h = plain f (and_parts (is_plain f) true h).0
 joined (f ∷ g ∷ fs) h =
@@ -39,7 +39,7 @@ joined (f ∷ g ∷ fs) h =
 
 -- ---- the fields of an entry are plain
 
-truth_is_plain : (b : Bool) → is_plain (truth b) ≡ true
+pub truth_is_plain : (b : Bool) → is_plain (truth b) ≡ true
 truth_is_plain true = refl
 truth_is_plain false = refl
 
@@ -63,7 +63,7 @@ rows_are_lines p n e h = joined (entry_fields p n e) (fields_are_plain p n e h)
 
 -- ---- texts
 
-at_each : (bytes : List ℕ) → IsOneLine bytes → All (λ b. (b == 10) ≡ false) bytes
+pub at_each : (bytes : List ℕ) → IsOneLine bytes → All (λ b. (b == 10) ≡ false) bytes
 at_each [] h k d inside = absurd (omega arith)
 at_each (b ∷ bytes) h zero d inside = ne_eqb b 10 h.0
 at_each (b ∷ bytes) h (suc k) d inside = at_each bytes h.1 k d (omega arith)

@@ -72,3 +72,18 @@ impl From<AllocError> for ReadFault {
         ReadFault::Memory
     }
 }
+
+// The line at a place, counted from 0, isn't a row that a state has there.
+pub(crate) fn no_row(at: usize) -> ReadFault {
+    ReadFault::NoRow {
+        line: (at as u64).saturating_add(1),
+    }
+}
+
+// The row at a place is refused.
+pub(crate) fn refused(at: usize, why: Why) -> ReadFault {
+    ReadFault::Refused {
+        line: (at as u64).saturating_add(1),
+        why,
+    }
+}

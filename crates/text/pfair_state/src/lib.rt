@@ -5,6 +5,7 @@
 mod fault;
 mod read;
 mod row;
+mod rows;
 mod write;
 
 pub use fault::{ReadFault, Why};

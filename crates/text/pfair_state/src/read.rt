@@ -1,10 +1,17 @@
 //! A state from its text.
-ghost use Rattle.std.specs.Prelude.{◌≡◌, None, IfOk, OnOk};
+ghost use Rattle.std.specs.Prelude.{◌≡◌, ◌+◌, ◌≤◌, [], ◌++◌, ◌∷◌, None, drop, length, IfErr, IfOk, OnOk};
+ghost use Rattle.pfair_admission.specs.Restored.{CanBeRestored};
+ghost use Rattle.pfair_admission.specs.declared.member_state.RestoreFault.TheVariants.{Memory as OutOfMemory};
 ghost use Rattle.pfair_table.specs.Limits.{AreCarried};
+ghost use Rattle.pfair_table.specs.Table.{Carried};
+ghost use Rattle.pfair_state.specs.Reading.{IfDelaysFrom, IfMembersBehindFirst, IfQuantaFrom};
+ghost use Rattle.pfair_state.specs.Reading.{IsReadAs, IsWritable, member_of, said_of};
 ghost use Rattle.pfair_state.specs.Rows.{state_text};
+ghost use Rattle.pfair_state.specs.declared.fault.ReadFault.TheVariants.{Memory};
 
-use crate::fault::{ReadFault, Why};
-use crate::row::{MemberRow, Row, read_row};
+use crate::fault::{ReadFault, Why, no_row, refused};
+use crate::row::{MemberRow, Row};
+use crate::rows::{begin_at, end_at, late_at, member_at, quantum_at, read_rows};
 use crate::write::add_state;
 use pfair_admission::{Delay, MemberState, Members, RestoreFault};
 use pfair_table::{Settings, State};
@@ -14,15 +21,17 @@ use std::alloc::{AllocError, Global};
 
 /// Returns the state that a text is of.
 ///
-/// Only the texts that [`add_state`] writes are read. No check tells whether a run has left the state:
-/// compare its bytes with those of another machine. O(bytes).
+/// Only the texts that [`add_state`] writes are read, and of a state that a run can leave the text is
+/// read as that state. No check tells whether a run has left it: compare its bytes with those of
+/// another machine. O(bytes).
 ///
 /// # Errors
 /// [`ReadFault::NoRow`] at the first line that isn't a row which a state has there;
 /// [`ReadFault::Refused`] at the first row that says what no state has; [`ReadFault::Memory`] if an
 /// allocation fails.
 pub fn read_state(alloc: Global, text: &[u8]) -> Result<State, ReadFault>
-    ensures { IfOk result (λ state. text.now ≡ state_text state) }
+    ensures text { IfOk result (λ state. text.now ≡ state_text state) }
+    ensures back { (c : Carried) → IsWritable c → text.now ≡ state_text c → IsReadAs result (λ state. state ≡ c) }
 {
     let rows = read_rows(alloc, text)?;
     let state = state_of(alloc, &rows)?;
@@ -49,44 +58,11 @@ fn first_other_line(own: &[u8], text: &[u8]) -> usize {
     lines
 }
 
-// The rows of a text, each of which ends with a newline.
-fn read_rows(alloc: Global, text: &[u8]) -> Result<Vec<Row>, ReadFault> {
-    let mut rows = Vec::new(alloc);
-    let mut begin = 0;
-    for at in 0..text.len() {
-        if text[at] != b'\n' {
-            continue;
-        }
-        let Some(row) = read_row(&text[begin..at]) else {
-            return Err(no_row(rows.len()));
-        };
-        if let Err(error) = rows.push(row) {
-            return Err(AllocError::from(error).into());
-        }
-        begin = at + 1;
-    }
-    if begin < text.len() {
-        return Err(no_row(rows.len()));
-    }
-    Ok(rows)
-}
-
-fn no_row(at: usize) -> ReadFault {
-    ReadFault::NoRow {
-        line: (at as u64).saturating_add(1),
-    }
-}
-
-fn refused(at: usize, why: Why) -> ReadFault {
-    ReadFault::Refused {
-        line: (at as u64).saturating_add(1),
-        why,
-    }
-}
-
 // The state that rows are of: the first row, each member with its late releases, the quanta, and the end.
-fn state_of(alloc: Global, rows: &[Row]) -> Result<State, ReadFault> {
-    let Some(Row::First(first)) = rows.first() else {
+fn state_of(alloc: Global, rows: &[Row]) -> Result<State, ReadFault>
+    ensures { (c : Carried) → IsWritable c → rows.now ≡ said_of c → IsReadAs result (λ state. state ≡ c) }
+{
+    let Some(first) = begin_at(rows) else {
         return Err(no_row(0));
     };
     if first.form != 1 {
@@ -102,10 +78,10 @@ fn state_of(alloc: Global, rows: &[Row]) -> Result<State, ReadFault> {
     let quanta = read_members(alloc, &mut members, first.slot, rows)?;
     let mut state = State::new(alloc, first.slot, members);
     let end = read_quanta(&mut state, rows, quanta)?;
-    match rows.get(end) {
-        Some(Row::End(count)) if *count == rows.len() as u64 && rows.len() == end + 1 => Ok(state),
-        Some(Row::End(_)) => Err(refused(end, Why::Incomplete)),
-        _ => Err(no_row(end)),
+    match end_at(rows, end) {
+        Some(count) if count == rows.len() as u64 && rows.len() == end + 1 => Ok(state),
+        Some(_) => Err(refused(end, Why::Incomplete)),
+        None => Err(no_row(end)),
     }
 }
 
@@ -117,22 +93,25 @@ fn read_members(
     slot: u64,
     rows: &[Row],
 ) -> Result<usize, ReadFault>
+    requires some { 1 ≤ length rows.now }
     requires carried { AreCarried members.old.members }
     requires before { members.old.last_slot ≡ None }
     ensures carried { OnOk result (AreCarried members.new.members) }
     ensures machine { OnOk result (members.new.machine ≡ members.old.machine) }
+    ensures inside { IfOk result (λ at. at ≤ length rows.now) }
+    ensures back { IfMembersBehindFirst rows.now slot members.old (λ all behind.
+        IsReadAs result (λ at. (drop at rows.now ≡ behind) × (members.new ≡ record members.old { members = all }))) }
 {
-    for at in 1..rows.len() {
-        match rows[at] {
-            Row::Member(member) => {
-                let delays = delays_behind(alloc, rows, at + 1, &member.name)?;
-                restore(members, slot, member, delays).map_err(|why| not_restored(at, why))?;
-            }
-            Row::Late(_) => {}
-            _ => return Ok(at),
+    let mut at = 1;
+    while let Some(member) = member_at(rows, at) {
+        let delays = delays_behind(alloc, rows, at + 1, &member.name)?;
+        let behind = at + 1 + delays.len();
+        if let Err(why) = restore(members, slot, member, delays) {
+            return Err(not_restored(at, why));
         }
+        at = behind;
     }
-    Ok(rows.len())
+    Ok(at)
 }
 
 // The late releases of a task in the rows from a place on.
@@ -141,20 +120,25 @@ fn delays_behind(
     rows: &[Row],
     from: usize,
     task: &TaskName,
-) -> Result<Vec<Delay>, AllocError> {
+) -> Result<Vec<Delay>, AllocError>
+    requires { from ≤ length rows.now }
+    ensures inside { IfOk result (λ delays. from + length delays.items ≤ length rows.now) }
+    ensures back { IfDelaysFrom rows.now from task.now (λ delays. IfOk result (λ read. read.items ≡ delays)) }
+{
     let mut delays = Vec::new(alloc);
-    for at in from..rows.len() {
-        match rows[at] {
-            Row::Late(late) if late.name == *task => delays.push(Delay {
-                index: late.index,
-                by: late.by,
-            })?,
-            _ => break,
+    while let Some(late) = late_at(rows, from + delays.len()) {
+        if late.name != *task {
+            break;
         }
+        delays.push(Delay {
+            index: late.index,
+            by: late.by,
+        })?;
     }
     Ok(delays)
 }
 
+// Restores the member of a row.
 fn restore(
     members: &mut Members,
     slot: u64,
@@ -164,7 +148,8 @@ fn restore(
     requires carried { AreCarried members.old.members }
     requires before { members.old.last_slot ≡ None }
     ensures carried { OnOk result (AreCarried members.new.members) }
-    ensures rest { OnOk result ((members.new.machine ≡ members.old.machine) × (members.new.last_slot ≡ None)) }
+    ensures members { OnOk result (members.new ≡ record members.old { members = members.old.members ++ member_of row delays.items ∷ [] }) }
+    ensures back { CanBeRestored members.old.machine slot members.old.members (member_of row delays.items) → IfErr result (λ fault. fault ≡ OutOfMemory) }
 {
     let state = MemberState {
         name: row.name,
@@ -178,7 +163,10 @@ fn restore(
     members.restore(slot, state)
 }
 
-fn not_restored(at: usize, why: RestoreFault) -> ReadFault {
+// What a member that isn't restored makes of the text.
+fn not_restored(at: usize, why: RestoreFault) -> ReadFault
+    ensures { why ≡ OutOfMemory → result ≡ Memory }
+{
     match why {
         RestoreFault::Memory => ReadFault::Memory,
         _ => refused(at, Why::Member(why)),
@@ -186,14 +174,17 @@ fn not_restored(at: usize, why: RestoreFault) -> ReadFault {
 }
 
 // Adds the quanta of the rows from a place on, and returns where the next rows begin.
-fn read_quanta(state: &mut State, rows: &[Row], from: usize) -> Result<usize, ReadFault> {
-    for at in from..rows.len() {
-        let Row::Ran(pick, place) = rows[at] else {
-            return Ok(at);
-        };
+fn read_quanta(state: &mut State, rows: &[Row], from: usize) -> Result<usize, ReadFault>
+    requires { from ≤ length rows.now }
+    ensures back { IfQuantaFrom rows.now from state.old (λ table places behind.
+        IsReadAs result (λ end. (drop end rows.now ≡ behind) × (state.new ≡ record state.old { table = table; places = places }))) }
+{
+    let mut at = from;
+    while let Some((pick, place)) = quantum_at(rows, at) {
         if !state.add_row(pick, place)? {
             return Err(refused(at, Why::Quantum));
         }
+        at += 1;
     }
-    Ok(rows.len())
+    Ok(at)
 }

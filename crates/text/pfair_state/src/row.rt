@@ -1,6 +1,16 @@
 //! One row of a state, read.
+ghost use Rattle.std.specs.Prelude.{◌≡◌, ◌<◌, ◌^◌, List, Some, IfSome, Option, ℕ};
+ghost use Rattle.pfair_entry_row.specs.Fields.{parts};
+ghost use Rattle.pfair_state.specs.Reading.{IsSpelled, fields_of, first_fields, late_fields, member_fields, ran_fields};
+ghost use Rattle.pfair_state.specs.Rows.{slot_field};
+ghost use Rattle.pfair_state.specs.declared.row.FirstRow.{FirstRow};
+ghost use Rattle.pfair_state.specs.declared.row.LateRow.{LateRow};
+ghost use Rattle.pfair_state.specs.declared.row.MemberRow.{MemberRow};
+ghost use Rattle.pfair_state.specs.declared.row.Row.{Row};
+ghost use Rattle.pfair_state.specs.declared.row.Row.TheVariants.{First, Member, Late, Ran};
+ghost use Rattle.pfair_table.specs.declared.pick.Pick.{Pick};
 
-use pfair_entry_row::{is_dash, read_number, read_truth};
+use pfair_entry_row::{cut, is_dash, read_number, read_truth};
 use pfair_table::Pick;
 use pfair_weight::{TaskName, Weight};
 
@@ -44,8 +54,10 @@ pub(crate) struct LateRow {
 }
 
 /// What a line says, if it is a row of a state.
-pub(crate) fn read_row(line: &[u8]) -> Option<Row> {
-    let (word, fields) = cut(line)?;
+pub(crate) fn read_row(line: &[u8]) -> Option<Row>
+    ensures { (row : Row) → IsSpelled row → parts line.now ≡ fields_of row → result ≡ Some row }
+{
+    let (word, fields) = cut(line, b',')?;
     match word {
         b"state" => Some(Row::First(read_first(fields)?)),
         b"member" => Some(Row::Member(read_member(fields)?)),
@@ -56,10 +68,12 @@ pub(crate) fn read_row(line: &[u8]) -> Option<Row> {
     }
 }
 
-fn read_first(fields: &[u8]) -> Option<FirstRow> {
-    let (form, rest) = cut(fields)?;
-    let (slot, rest) = cut(rest)?;
-    let (processors, frame) = cut(rest)?;
+fn read_first(fields: &[u8]) -> Option<FirstRow>
+    ensures { (row : FirstRow) → IsSpelled (First row) → parts fields.now ≡ first_fields row → result ≡ Some row }
+{
+    let (form, rest) = cut(fields, b',')?;
+    let (slot, rest) = cut(rest, b',')?;
+    let (processors, frame) = cut(rest, b',')?;
     Some(FirstRow {
         form: read_number(form)?,
         slot: read_number(slot)?,
@@ -68,13 +82,15 @@ fn read_first(fields: &[u8]) -> Option<FirstRow> {
     })
 }
 
-fn read_member(fields: &[u8]) -> Option<MemberRow> {
-    let (name, rest) = cut(fields)?;
-    let (cost, rest) = cut(rest)?;
-    let (period, rest) = cut(rest)?;
-    let (early, rest) = cut(rest)?;
-    let (joined, rest) = cut(rest)?;
-    let (next, freed_at) = cut(rest)?;
+fn read_member(fields: &[u8]) -> Option<MemberRow>
+    ensures { (row : MemberRow) → IsSpelled (Member row) → parts fields.now ≡ member_fields row → result ≡ Some row }
+{
+    let (name, rest) = cut(fields, b',')?;
+    let (cost, rest) = cut(rest, b',')?;
+    let (period, rest) = cut(rest, b',')?;
+    let (early, rest) = cut(rest, b',')?;
+    let (joined, rest) = cut(rest, b',')?;
+    let (next, freed_at) = cut(rest, b',')?;
     Some(MemberRow {
         name: TaskName::from_bytes(name).ok()?,
         weight: Weight::new(read_number(cost)?, read_number(period)?).ok()?,
@@ -86,16 +102,20 @@ fn read_member(fields: &[u8]) -> Option<MemberRow> {
 }
 
 // A slot, or none if the field is a dash.
-fn read_slot(field: &[u8]) -> Option<Option<u64>> {
+fn read_slot(field: &[u8]) -> Option<Option<u64>>
+    ensures { (slot : Option ℕ) → IfSome slot (λ t. t < 2 ^ 64) → field.now ≡ slot_field slot → result ≡ Some slot }
+{
     if is_dash(field) {
         return Some(None);
     }
     Some(Some(read_number(field)?))
 }
 
-fn read_late(fields: &[u8]) -> Option<LateRow> {
-    let (name, rest) = cut(fields)?;
-    let (index, by) = cut(rest)?;
+fn read_late(fields: &[u8]) -> Option<LateRow>
+    ensures { (row : LateRow) → IsSpelled (Late row) → parts fields.now ≡ late_fields row → result ≡ Some row }
+{
+    let (name, rest) = cut(fields, b',')?;
+    let (index, by) = cut(rest, b',')?;
     Some(LateRow {
         name: TaskName::from_bytes(name).ok()?,
         index: read_number(index)?,
@@ -103,18 +123,15 @@ fn read_late(fields: &[u8]) -> Option<LateRow> {
     })
 }
 
-fn read_ran(fields: &[u8]) -> Option<Row> {
-    let (name, rest) = cut(fields)?;
-    let (index, place) = cut(rest)?;
+fn read_ran(fields: &[u8]) -> Option<Row>
+    ensures { (pick : Pick) → (place : ℕ) → IsSpelled (Ran pick place) → parts fields.now ≡ ran_fields pick place →
+        result ≡ Some (Ran pick place) }
+{
+    let (name, rest) = cut(fields, b',')?;
+    let (index, place) = cut(rest, b',')?;
     let pick = Pick {
         name: TaskName::from_bytes(name).ok()?,
         index: read_number(index)?,
     };
     Some(Row::Ran(pick, u8::try_from(read_number(place)?).ok()?))
-}
-
-// What is before the first comma and what is after it, if there is one.
-fn cut(fields: &[u8]) -> Option<(&[u8], &[u8])> {
-    let at = fields.iter().position(|byte| *byte == b',')?;
-    Some((&fields[..at], &fields[at + 1..]))
 }

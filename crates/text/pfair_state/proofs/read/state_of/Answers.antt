@@ -1,8 +1,60 @@
-use Rattle.std.proofs.Common.{sym, subst}
+use Rattle.std.proofs.Common.{◌≡◌, ◌<◌, arith, rules, sym, subst, ◌∙◌, length, slice_get}
+use Rattle.std.proofs.lemmas.Option.{slice_get_within}
 use Rattle.pfair_admission.specs.Roster.{Roster}
 use Rattle.pfair_table.specs.Limits.{AreCarried}
+use Rattle.pfair_table.specs.Table.{Carried}
 use Rattle.pfair_state.proofs.Carried.{none_carried}
+use Rattle.pfair_state.specs.declared.row.Row.TheVariants.{End}
+use Rattle.pfair_state.proofs.RowKinds.{end_is}
+use Rattle.pfair_state.proofs.StateRead.{by_members, by_quanta, ends, memory, whole}
+use Rattle.pfair_state.proofs.read.state_of.Goals.{then-count-rows+else-rows-end, else-count-rows}
 use Rattle.pfair_state.proofs.read.state_of.Goals as goal
 
 pub read_members-requires-clause-carried : goal.read_members-requires-clause-carried
 read_members-requires-clause-carried c = subst (λ (r : Roster). AreCarried r.members) (sym c.new-members.ensures) none_carried
+
+pub returns-in_err-quanta : goal.returns-in_err-quanta
+returns-in_err-quanta c all can is =
+    memory (λ (state : Carried). state ≡ all) c.from_residual.result c.in_err-quanta.field-0.0 (search rules)
+    (by_members c.args.rows.now c.in-Some.first c.begin_at.result c.begin_at.ensures c.in-Some.is c.new-members.result c.new-members.ensures all can is c.in_err-quanta.ensures.back)
+
+pub returns-in_err-end : goal.returns-in_err-end
+returns-in_err-end c all can is =
+    let members = by_members c.args.rows.now c.in-Some.first c.begin_at.result c.begin_at.ensures c.in-Some.is c.new-members.result c.new-members.ensures all can is c.in_ok-quanta.ensures.back in
+    memory (λ (state : Carried). state ≡ all) c.from_residual-in_err-end.result c.in_err-end.field-0.0 (let gave = c.from_residual-in_err-end.ensures in search (rules, gave))
+    (by_quanta c.args.rows.now c.in-Some.first c.begin_at.result c.begin_at.ensures c.in-Some.is c.new-members.result c.new-members.ensures all can is c.in_ok-quanta.quanta c.read_members.new.members members c.new-state.result c.new-state.ensures c.in_err-end.ensures.back)
+
+pub overflow_add-end : goal.overflow_add-end
+overflow_add-end c =
+    let rows = c.args.rows.now in
+    let inside = slice_get_within rows c.in_ok-end.end (End c.in-Some-end_at.count) (end_is (slice_get rows c.in_ok-end.end) c.in-Some-end_at.count (sym c.end_at.ensures ∙ c.in-Some-end_at.is)) in
+    search (rules, arith, inside)
+
+pub returns-in-Some-end_at : goal.returns-in-Some-end_at
+returns-in-Some-end_at c all can is =
+    let members = by_members c.args.rows.now c.in-Some.first c.begin_at.result c.begin_at.ensures c.in-Some.is c.new-members.result c.new-members.ensures all can is c.in_ok-quanta.ensures.back in
+    let quanta = by_quanta c.args.rows.now c.in-Some.first c.begin_at.result c.begin_at.ensures c.in-Some.is c.new-members.result c.new-members.ensures all can is c.in_ok-quanta.quanta c.read_members.new.members members c.new-state.result c.new-state.ensures c.in_ok-end.ensures.back in
+    whole c.args.rows.now c.in-Some.first c.begin_at.result c.begin_at.ensures c.in-Some.is c.new-members.result c.new-members.ensures all can is c.in_ok-quanta.quanta c.read_members.new.members members c.new-state.result c.new-state.ensures c.read_quanta.new.state quanta.1
+
+pub returns-in-Some-2 : goal.returns-in-Some-2
+returns-in-Some-2 c all can is =
+    let rows = c.args.rows.now in
+    let few : length rows < 18446744073709551616 = search (rules, arith) in
+    let members = by_members rows c.in-Some.first c.begin_at.result c.begin_at.ensures c.in-Some.is c.new-members.result c.new-members.ensures all can is c.in_ok-quanta.ensures.back in
+    let quanta = by_quanta rows c.in-Some.first c.begin_at.result c.begin_at.ensures c.in-Some.is c.new-members.result c.new-members.ensures all can is c.in_ok-quanta.quanta c.read_members.new.members members c.new-state.result c.new-state.ensures c.in_ok-end.ensures.back in
+    let last = ends rows all is c.in_ok-end.end quanta.0 few in
+    let some = c.end_at.ensures ∙ last.0 in
+    let long = last.1 in
+    elim c.if-count-rows.branch [
+      | then-count-rows+else-rows-end w ↦ absurd (let other = w.if-rows-end.false in omega (arith, other, long))
+      | else-count-rows w ↦ absurd (let other = w.if-count-rows.false in let seen = c.in-Some-end_at.is in other cc)
+    ]
+
+pub returns-in-None : goal.returns-in-None
+returns-in-None c all can is =
+    let rows = c.args.rows.now in
+    let few : length rows < 18446744073709551616 = search (rules, arith) in
+    let members = by_members rows c.in-Some.first c.begin_at.result c.begin_at.ensures c.in-Some.is c.new-members.result c.new-members.ensures all can is c.in_ok-quanta.ensures.back in
+    let quanta = by_quanta rows c.in-Some.first c.begin_at.result c.begin_at.ensures c.in-Some.is c.new-members.result c.new-members.ensures all can is c.in_ok-quanta.quanta c.read_members.new.members members c.new-state.result c.new-state.ensures c.in_ok-end.ensures.back in
+    let last = ends rows all is c.in_ok-end.end quanta.0 few in
+    absurd (let none = c.in-None.is in let some = c.end_at.ensures ∙ last.0 in cc)

@@ -1,0 +1,42 @@
+-- The rows of a state say what the state has.
+use Rattle.std.proofs.Common.{ℕ, ◌+◌, ◌≡◌, arith, refl, sym, ap, ◌∙◌, min, List, [], ◌∷◌, ◌++◌, length, map}
+use Rattle.std.specs.Prelude.{codes}
+use Rattle.std.specs.Fmt.{decimal}
+use Rattle.std.specs.List.{flat_map}
+use Rattle.std.proofs.lemmas.Fmt.{decimal_digit}
+use Rattle.std.proofs.lemmas.List.{length-map, map-append}
+use Rattle.pfair_admission.specs.Member.{Member}
+use Rattle.pfair_admission.specs.declared.delay.Delay.{Delay}
+use Rattle.pfair_table.specs.Table.{Carried, Table}
+use Rattle.pfair_state.specs.Reading.{fields_of, first_said, late_said, member_said, ran_said, said_before_end, said_of}
+use Rattle.pfair_state.specs.Rows.{first_row, end_row, late_row, member_row, member_rows, ran_row, ran_rows, rows_before_end, state_rows}
+use Rattle.pfair_state.specs.declared.row.Row.TheVariants.{End}
+
+delays_say : (name : List ℕ) (delays : List Delay) → map fields_of (map (late_said name) delays) ≡ map (late_row name) delays
+delays_say name [] = refl
+delays_say name (d ∷ delays) = ap (λ rows. late_row name d ∷ rows) (delays_say name delays)
+
+members_say : (members : List Member) → map fields_of (flat_map member_said members) ≡ flat_map member_rows members
+members_say [] = refl
+members_say (m ∷ members) =
+    ap (λ rows. member_row m ∷ rows) (map-append fields_of (map (late_said m.name) m.delays) (flat_map member_said members) ∙ (λ i. delays_say m.name m.delays i ++ members_say members i))
+
+ran_say : (table : Table) (places : List ℕ) → map fields_of (ran_said table places) ≡ ran_rows table places
+ran_say [] places = refl
+ran_say (p ∷ table) [] = refl
+ran_say (p ∷ table) (k ∷ places) = ap (λ rows. ran_row p k ∷ rows) (ran_say table places)
+
+first_says : (c : Carried) → fields_of (first_said c) ≡ first_row c
+first_says c = let one : decimal 1 ≡ codes "1" = decimal_digit 1 (omega arith) in ap (λ form. codes "state" ∷ form ∷ decimal c.slot ∷ decimal c.machine.processors ∷ decimal c.machine.frame ∷ []) one
+
+before_end_say : (c : Carried) → map fields_of (said_before_end c) ≡ rows_before_end c
+before_end_say c =
+    let behind = map-append fields_of (flat_map member_said c.members) (ran_said c.table c.places) ∙ (λ i. members_say c.members i ++ ran_say c.table c.places i) in
+    let first = first_says c in
+    λ i. first i ∷ behind i
+
+pub rows_say : (c : Carried) → map fields_of (said_of c) ≡ state_rows c
+rows_say c =
+    let before = before_end_say c in
+    let long : length (said_before_end c) ≡ length (rows_before_end c) = sym (length-map (said_before_end c) fields_of) ∙ ap length before in
+    map-append fields_of (said_before_end c) (End (min (length (said_before_end c) + 1) 18446744073709551615) ∷ []) ∙ (λ i. before i ++ end_row (long i + 1) ∷ [])

@@ -1,0 +1,124 @@
+-- Rows that are spelled stand in a text as they are: no field has a comma, and no row a line break.
+use Rattle.std.proofs.Common.{ℕ, Bool, true, false, List, [], ◌∷◌, ◌++◌, ◌≡◌, ◌≢◌, ◌+◌, ◌%◌, ◌<◌, ◌^◌, ◌∙◌, arith, refl, sym, ap, length, map, Option, None, Some, append_assoc}
+use Rattle.std.specs.Prelude.{IfSome, ◌==◌}
+use Rattle.std.specs.Fmt.{decimal}
+use Rattle.std.specs.List.{AllByRecursion, join_with_byte, list_all, list_any}
+use Rattle.std.proofs.lemmas.Bool.{and_from, and_parts, ne_eqb}
+use Rattle.std.proofs.lemmas.Fmt.{decimal_by_steps, decimal_injective}
+use Rattle.std.proofs.lemmas.List.Folds.{list_any-append}
+use Rattle.std.proofs.lemmas.List.Splits.{join_with_byte-slice_split, slice_split_at}
+use Rattle.pfair_weight.specs.Name.{IsTaskName}
+use Rattle.pfair_weight.specs.Share.{IsWeight}
+use Rattle.pfair_weight.specs.NameFault.{IsFaultOf as IsNameFaultOf}
+use Rattle.pfair_weight.specs.WeightFault.{IsFaultOf as IsWeightFaultOf}
+use Rattle.pfair_weight.specs.declared.name.NameFault.{NameFault}
+use Rattle.pfair_weight.specs.declared.name.NameFault.TheVariants.{Empty, TooLong, BadByte}
+use Rattle.pfair_weight.specs.declared.weight.WeightFault.{WeightFault}
+use Rattle.pfair_weight.specs.declared.weight.WeightFault.TheVariants.{ZeroCost, CostOverPeriod, PeriodTooLong}
+use Rattle.pfair_text.specs.Rows.{is_plain, lines_text}
+use Rattle.pfair_text.proofs.RowFacts.{is_plain-decimal}
+use Rattle.pfair_text.proofs.NameFacts.{is_plain-name}
+use Rattle.pfair_entry_row.specs.Fields.{parts, parts_at}
+use Rattle.pfair_entry_row.specs.Row.{dash, truth, HasNone}
+use Rattle.pfair_entry_row.proofs.Commas.{HaveNoCommas, parts-join}
+use Rattle.pfair_entry_row.proofs.Lines.{at_each, joined, truth_is_plain}
+use Rattle.pfair_entry_row.proofs.Names.{no_comma-plain}
+use Rattle.pfair_state.specs.Reading.{IsSpelled, fields_of, line_of}
+use Rattle.pfair_state.specs.Rows.{slot_field}
+use Rattle.pfair_state.specs.declared.row.MemberRow.{MemberRow}
+use Rattle.pfair_state.specs.declared.row.Row.{Row}
+use Rattle.pfair_state.specs.declared.row.Row.TheVariants.{First, Member, Late, Ran, End}
+
+-- ---- what is right has no fault
+
+pub no_name_fault : (bytes : List ℕ) (f : NameFault) → IsTaskName bytes → IsNameFaultOf bytes f → ⊥
+no_name_fault bytes Empty h is = (let some = h.not_empty in let none = ap length is in omega (arith, some, none))
+no_name_fault bytes TooLong h is = (let few = h.not_too_long in omega (arith, few, is))
+no_name_fault bytes (BadByte at) h is = (let may = h.each_may_stand at is.inside in let bad = is.bad in cc)
+
+pub no_weight_fault : (cost period : ℕ) (f : WeightFault) → IsWeight cost period → IsWeightFaultOf cost period f → ⊥
+no_weight_fault cost period ZeroCost h is = (let some = h.some_cost in omega (arith, some, is))
+no_weight_fault cost period CostOverPeriod h is = (let most = h.at_most_one in omega (arith, most, is.1))
+no_weight_fault cost period PeriodTooLong h is = (let range = h.period_in_range in omega (arith, range, is.2))
+
+-- ---- fields
+
+slot_is_plain : (slot : Option ℕ) → IfSome slot (λ t. t < 2 ^ 64) → is_plain (slot_field slot) ≡ true
+slot_is_plain None h = refl
+slot_is_plain (Some t) h = is_plain-decimal t h
+
+pub plain_fields : (row : Row) → IsSpelled row → list_all is_plain (fields_of row) ≡ true
+plain_fields (First f) h = grind (arith, is_plain-decimal)
+plain_fields (Member m) h =
+    let weight = h.1 in
+    let cost = weight.some_cost in
+    let most = weight.at_most_one in
+    let range = weight.period_in_range in
+    and_from _ _ (is_plain-name m.name h.0) (and_from _ _ (is_plain-decimal m.weight.cost (omega (arith, most, range))) (and_from _ _ (is_plain-decimal m.weight.period (omega (arith, range)))
+    (and_from _ _ (truth_is_plain m.early) (and_from _ _ (is_plain-decimal m.joined h.2) (and_from _ _ (is_plain-decimal m.next h.3) (and_from _ _ (slot_is_plain m.freed_at h.4) refl))))))
+plain_fields (Late l) h = and_from _ _ (is_plain-name l.name h.0) (and_from _ _ (is_plain-decimal l.index h.1) (and_from _ _ (is_plain-decimal l.by h.2) refl))
+plain_fields (Ran p place) h = and_from _ _ (is_plain-name p.name h.0) (and_from _ _ (is_plain-decimal p.index h.1) (and_from _ _ (is_plain-decimal place (let small = h.2 in omega (arith, small))) refl))
+plain_fields (End rows) h = and_from _ _ (is_plain-decimal rows h) refl
+
+no_commas : (fields : List (List ℕ)) → list_all is_plain fields ≡ true → HaveNoCommas fields
+no_commas [] h = tt
+no_commas (f ∷ fields) h =
+    let each = and_parts (is_plain f) (list_all is_plain fields) h in
+    (no_comma-plain f each.0, no_commas fields each.1)
+
+word_and_more : (row : Row) → IsSpelled row → (word : List ℕ) × (more : List (List ℕ)) × (fields_of row ≡ word ∷ more)
+word_and_more (First f) h = (_, _, refl)
+word_and_more (Member m) h = (_, _, refl)
+word_and_more (Late l) h = (_, _, refl)
+word_and_more (Ran p place) h = (_, _, refl)
+word_and_more (End rows) h = (_, _, refl)
+
+joined_parts : (fields : List (List ℕ)) (word : List ℕ) (more : List (List ℕ)) → fields ≡ word ∷ more → HaveNoCommas fields → parts (join_with_byte 44 fields) ≡ fields
+joined_parts [] word more is h = absurd (cc)
+joined_parts (f ∷ fields) word more is h = parts-join f fields h.0 h.1
+
+-- what stands between the commas of a row's line are its fields
+pub parts_of_line : (row : Row) → IsSpelled row → parts (line_of row) ≡ fields_of row
+parts_of_line row h =
+    let w = word_and_more row h in
+    joined_parts (fields_of row) w.0 w.1 w.2 (no_commas (fields_of row) (plain_fields row h))
+
+-- a text that is one part is that part
+pub whole : (text part : List ℕ) → parts text ≡ part ∷ [] → text ≡ part
+whole text part is = sym (join_with_byte-slice_split 44 text) ∙ ap (join_with_byte 44) is
+
+-- ---- a dash is no number
+
+not_hyphen : (n : ℕ) → n < 10 → list_any (λ b. b == 45) ((48 + n) ∷ []) ≡ false
+not_hyphen n h = rw (ne_eqb (48 + n) 45 (omega arith)) refl
+
+no_hyphen : (n : ℕ) → n < 2 ^ 64 → list_any (λ b. b == 45) (decimal n) ≡ false
+no_hyphen = decimal_by_steps (λ n ds. list_any (λ b. b == 45) ds ≡ false) not_hyphen
+    (λ n ds big h. rw (list_any-append (λ b. b == 45) ds ((48 + n % 10) ∷ []), h) (not_hyphen (n % 10) (omega arith)))
+
+pub dash_is_no_number : (n : ℕ) → n < 2 ^ 64 → dash ≢ decimal n
+dash_is_no_number n h is = (let none = no_hyphen n h in let same = ap (list_any (λ b. b == 45)) is in cc)
+
+truth_injective : (a b : Bool) → truth a ≡ truth b → a ≡ b
+truth_injective true true is = refl
+truth_injective false false is = refl
+truth_injective _ _ is = absurd (cc)
+
+-- numbers and a truth of equal texts are equal
+pub same_member : (a b : MemberRow) → a.name ≡ b.name → a.weight ≡ b.weight → truth a.early ≡ truth b.early → decimal a.joined ≡ decimal b.joined → decimal a.next ≡ decimal b.next → a.freed_at ≡ b.freed_at
+    → a.joined < 2 ^ 64 → b.joined < 2 ^ 64 → a.next < 2 ^ 64 → b.next < 2 ^ 64 → a ≡ b
+same_member a b name weight early joined next freed_at a_joined b_joined a_next b_next =
+    let e = truth_injective a.early b.early early in
+    let j = decimal_injective a.joined b.joined a_joined b_joined joined in
+    let n = decimal_injective a.next b.next a_next b_next next in
+    λ i. record { name = name i; weight = weight i; early = e i; joined = j i; next = n i; freed_at = freed_at i }
+
+-- ---- lines
+
+one_line : (row : Row) → IsSpelled row → HasNone 10 (line_of row)
+one_line row h = at_each (line_of row) (joined (fields_of row) (plain_fields row h))
+
+-- a text of lines is cut into them, and nothing is behind them
+pub parts_of_text : (rows : List Row) → AllByRecursion IsSpelled rows → parts_at 10 (lines_text (map fields_of rows)) ≡ map line_of rows ++ [] ∷ []
+parts_of_text [] h = refl
+parts_of_text (row ∷ rows) h = grind (arith, append_assoc, slice_split_at, one_line, parts_of_text rows h.1)

@@ -1,0 +1,99 @@
+-- The state of rows, from the first to the end.
+use Rattle.std.proofs.Common.{ℕ, ◌+◌, ◌<◌, ◌≤◌, ◌≡◌, refl, sym, ap, subst, ◌∙◌, arith, List, [], ◌∷◌, ◌++◌, Option, Some, None, Result, Err, MatchResult, length, min, drop, slice_get, append_assoc}
+use Rattle.std.specs.List.{flat_map}
+use Rattle.std.proofs.lemmas.List.{length-append, length-drop}
+use Rattle.pfair_admission.specs.Admission.{Machine}
+use Rattle.pfair_admission.specs.Member.{Member}
+use Rattle.pfair_admission.specs.Roster.{Roster}
+use Rattle.pfair_table.specs.Places.{ArePlacesOf, IsFit}
+use Rattle.pfair_table.specs.Table.{Carried, Table}
+use Rattle.pfair_state.specs.Reading.{AreLeftAt, IsBehindMembers, IsWritable, as_first, as_end, member_said, as_quantum, ran_said, said_before_end, said_of}
+use Rattle.pfair_state.specs.declared.fault.ReadFault.{ReadFault}
+use Rattle.pfair_state.specs.declared.fault.ReadFault.TheVariants.{Memory}
+use Rattle.pfair_state.specs.declared.row.FirstRow.{FirstRow}
+use Rattle.pfair_state.specs.declared.row.Row.{Row}
+use Rattle.pfair_state.specs.declared.row.Row.TheVariants.{End}
+use Rattle.pfair_state.proofs.Behind.{first_at}
+
+-- the number of all rows, as the last one says it
+abbrev pub count_of : Carried → ℕ
+count_of c = min (length (said_before_end c) + 1) 18446744073709551615
+
+abbrev pub last_of : Carried → List Row
+last_of c = End (count_of c) ∷ []
+
+-- what is behind the members
+abbrev pub behind_members : Carried → List Row
+behind_members c = ran_said c.table c.places ++ last_of c
+
+pub ends_members : (c : Carried) → IsBehindMembers (behind_members c)
+ends_members c = by c.table c.places
+  where
+    by : (table : Table) (places : List ℕ) → IsBehindMembers (ran_said table places ++ last_of c)
+    by [] places = (refl, refl)
+    by (p ∷ table) [] = (refl, refl)
+    by (p ∷ table) (k ∷ places) = (refl, refl)
+
+module _ (rows : List Row) (c : Carried) (is : rows ≡ said_of c) where
+  pub begins : as_first (slice_get rows 0) ≡ Some (record { form = 1; slot = c.slot; processors = c.machine.processors; frame = c.machine.frame })
+  begins = ap (λ (r : List Row). as_first (slice_get r 0)) is
+
+  pub members_there : drop 1 rows ≡ flat_map member_said c.members ++ behind_members c
+  members_there = ap (drop 1) is ∙ append_assoc (flat_map member_said c.members) (ran_said c.table c.places) (last_of c)
+
+  -- the last row is the only one behind the others
+  pub ends : (end : ℕ) → drop end rows ≡ last_of c → length rows < 18446744073709551616 → (as_end (slice_get rows end) ≡ Some (length rows)) × (length rows ≡ end + 1)
+  ends end there few =
+      let first = first_at rows end (End (count_of c)) [] there in
+      let long = ap length is ∙ length-append (said_before_end c) (last_of c) in
+      let count : count_of c ≡ length rows = omega (arith, long, few) in
+      let past : length rows ≤ end + 1 = none_left rows (end + 1) first.1 in
+      let inside = first.2 in
+      (ap as_end first.0 ∙ ap Some count, omega (arith, past, inside))
+    where
+      none_left : (xs : List Row) (n : ℕ) → drop n xs ≡ [] → length xs ≤ n
+      none_left xs n nothing = (let same = ap length nothing in let short = length-drop n xs in omega (arith, same, short))
+
+-- ---- what is read of the rows of a state that can be written
+
+module _ (rows : List Row) (first : FirstRow) (got : Option FirstRow) (looked : got ≡ as_first (slice_get rows 0)) (there : got ≡ Some first) (roster : Roster) (made : roster ≡ record { machine = record { processors = first.processors; frame = first.frame }; members = []; heard = 0; last_slot = None }) (c : Carried) (can : IsWritable c) (is : rows ≡ said_of c) where
+  -- the first row is the state's
+  first_is : first ≡ record { form = 1; slot = c.slot; processors = c.machine.processors; frame = c.machine.frame }
+  first_is = (let some = sym there ∙ looked ∙ begins rows c is in cc)
+
+  slot_is : first.slot ≡ c.slot
+  slot_is = ap (λ (f : FirstRow). f.slot) first_is
+
+  machine_is : roster.machine ≡ c.machine
+  machine_is = ap (λ (r : Roster). r.machine) made ∙ ap (λ (f : FirstRow). record { processors = f.processors; frame = f.frame }) first_is
+
+  -- then its members can be restored
+  pub by_members : {P : List Member → List Row → Type 0} → ((all : List Member) (behind : List Row) → roster.members ≡ [] → AreLeftAt first.slot roster.machine all → drop 1 rows ≡ flat_map member_said all ++ behind → IsBehindMembers behind → P all behind) → P c.members (behind_members c)
+  by_members back =
+      back c.members (behind_members c) (ap (λ (r : Roster). r.members) made)
+      (subst (λ (m : Machine). AreLeftAt first.slot m c.members) (sym machine_is) (subst (λ slot. AreLeftAt slot c.machine c.members) (sym slot_is) can.members))
+      (members_there rows c is) (ends_members c)
+
+  module _ (at : ℕ) (now : Roster) (read : (drop at rows ≡ behind_members c) × (now ≡ record roster { members = c.members })) (state : Carried) (begun : state ≡ record { slot = first.slot; machine = now.machine; members = now.members; table = []; places = [] }) where
+    state_machine : state.machine ≡ c.machine
+    state_machine = ap (λ (s : Carried). s.machine) begun ∙ ap (λ (r : Roster). r.machine) read.1 ∙ machine_is
+
+    -- then its quanta can be added
+    pub by_quanta : {P : Table → List ℕ → List Row → Type 0} → ((table : Table) (places : List ℕ) (behind : List Row) → (state.table ≡ []) × (state.places ≡ []) → IsFit state.machine.processors table → ArePlacesOf state.machine.processors table places → drop at rows ≡ ran_said table places ++ behind → as_quantum (slice_get behind 0) ≡ None → P table places behind)
+        → P c.table c.places (last_of c)
+    by_quanta back =
+        let processors : c.machine.processors ≡ state.machine.processors = ap (λ (m : Machine). m.processors) (sym state_machine) in
+        back c.table c.places (last_of c) (ap (λ (s : Carried). s.table) begun, ap (λ (s : Carried). s.places) begun)
+        (subst (λ m. IsFit m c.table) processors can.state.rows) (subst (λ m. ArePlacesOf m c.table c.places) processors can.state.places) read.0 refl
+
+    -- and all of it is the state
+    pub whole : (after : Carried) → after ≡ record state { table = c.table; places = c.places } → after ≡ c
+    whole after grown =
+        let members = ap (λ (s : Carried). s.members) begun ∙ ap (λ (r : Roster). r.members) read.1 in
+        let slot = ap (λ (s : Carried). s.slot) begun ∙ slot_is in
+        let m = state_machine in
+        grown ∙ (λ i. record { slot = slot i; machine = m i; members = members i; table = c.table; places = c.places })
+
+-- what failed for want of memory
+pub memory : {A : Type 0} (P : A → Type 0) (r : Result A ReadFault) (f : ReadFault) → r ≡ Err f → f ≡ Memory → MatchResult r P (λ fault. fault ≡ Memory)
+memory P r f is told = subst (λ x. MatchResult x P (λ fault. fault ≡ Memory)) (sym is) told
