@@ -84,9 +84,9 @@
  *     pfair_plan_next, pfair_plan_to, pfair_reserve, pfair_reopen, pfair_next_run, pfair_lags,
  *     pfair_state, pfair_resume
  *
- * pfair_faults, pfair_lags and pfair_state free all that they allocate. A dispatcher owns all other memory until pfair_close;
- * pfair_forget frees some of it earlier. The caller owns what its pointers lead to: the library copies what it needs,
- * and keeps no pointer of the caller's after a call.
+ * pfair_faults, pfair_lags and pfair_state free all that they allocate. A dispatcher owns all other memory until
+ * pfair_close; pfair_forget frees some of it earlier. The caller owns what its pointers lead to: the library copies
+ * what it needs, and keeps no pointer of the caller's after a call.
  *
  * The calendar of releases takes 920 KB of each dispatcher, in blocks of at most 14 KB. The plan that admits the first
  * task allocates it, or pfair_reserve before that.
@@ -220,7 +220,8 @@ uint32_t pfair_window(uint64_t cost, uint64_t period, uint64_t index, uint64_t t
  *   103     `room` is less than `count`
  * O(count).
  */
-uint32_t pfair_windows(uint64_t cost, uint64_t period, uint64_t first, uint64_t count, uint64_t theta, struct pfair_window *rows, size_t room);
+uint32_t pfair_windows(uint64_t cost, uint64_t period, uint64_t first, uint64_t count, uint64_t theta,
+    struct pfair_window *rows, size_t room);
 
 /* ---- whether the slots in which a task ran are right */
 
@@ -251,13 +252,15 @@ struct pfair_miss {
  *   41      a slot isn't before the horizon
  * After 40 and 41, whichever fault is first in the list, `place` is that slot's place in it, from 0. O(length).
  */
-uint32_t pfair_first_miss(uint64_t cost, uint64_t period, uint64_t horizon, struct pfair_miss *miss, uint64_t *place, const uint64_t *picks, size_t length);
+uint32_t pfair_first_miss(uint64_t cost, uint64_t period, uint64_t horizon, struct pfair_miss *miss, uint64_t *place,
+    const uint64_t *picks, size_t length);
 
 /*
  * Writes the first subtask that is late, PFAIR_TARDY or PFAIR_UNSERVED: a task may run ahead of its windows here, as
  * with early release. There is none exactly if the lag stays below 1. All else is as with pfair_first_miss.
  */
-uint32_t pfair_first_late(uint64_t cost, uint64_t period, uint64_t horizon, struct pfair_miss *miss, uint64_t *place, const uint64_t *picks, size_t length);
+uint32_t pfair_first_late(uint64_t cost, uint64_t period, uint64_t horizon, struct pfair_miss *miss, uint64_t *place,
+    const uint64_t *picks, size_t length);
 
 /* ---- entries of logs */
 
@@ -351,7 +354,8 @@ struct pfair_file_fault {
  * The handle is as before unless the answer is 0. Time is O(length + e log e) and memory O(length + e) for e entries;
  * the dispatcher keeps O(e).
  */
-uint32_t pfair_read_file(struct pfair_dispatcher *d, struct pfair_file_fault *fault, const uint8_t *bytes, size_t length);
+uint32_t pfair_read_file(struct pfair_dispatcher *d, struct pfair_file_fault *fault, const uint8_t *bytes,
+    size_t length);
 
 /*
  * Frees the dispatcher, with all its memory. The handle is then PFAIR_NONE, and may be opened again. O(e + n + s + q)
@@ -387,7 +391,8 @@ enum pfair_taken {
  * Nothing has changed unless the answer is 0. A few look-ups, and one more for each entry by which the log's sound
  * beginning (pfair_mark) grows. Only a new entry needs memory: see MEMORY.
  */
-uint32_t pfair_take(struct pfair_dispatcher *d, uint8_t processor, uint32_t number, const struct pfair_entry *entry, uint64_t *taken);
+uint32_t pfair_take(struct pfair_dispatcher *d, uint8_t processor, uint32_t number, const struct pfair_entry *entry,
+    uint64_t *taken);
 
 /* How many entries were taken: `fresh` of them as PFAIR_NEW, `known` as PFAIR_KNOWN, and `torn` as PFAIR_TORN_NOW. */
 struct pfair_taken_log {
@@ -402,7 +407,8 @@ struct pfair_taken_log {
  * Whatever the answer, the first `taken` entries are taken, and no others. Time and memory are those of pfair_take for
  * each.
  */
-uint32_t pfair_take_log(struct pfair_dispatcher *d, uint8_t processor, uint32_t first, struct pfair_taken_log *counted, const struct pfair_entry *entries, size_t length);
+uint32_t pfair_take_log(struct pfair_dispatcher *d, uint8_t processor, uint32_t first, struct pfair_taken_log *counted,
+    const struct pfair_entry *entries, size_t length);
 
 /*
  * Takes all entries of another dispatcher, which stays as it is. A number is torn then if it is torn there, or if both
@@ -439,7 +445,8 @@ enum pfair_held_kind {
  *   13, 14  there is no such processor; no such number
  * One look-up.
  */
-uint32_t pfair_held(struct pfair_dispatcher *d, uint8_t processor, uint32_t number, uint64_t *kind, struct pfair_entry *entry);
+uint32_t pfair_held(struct pfair_dispatcher *d, uint8_t processor, uint32_t number, uint64_t *kind,
+    struct pfair_entry *entry);
 
 /*
  * Writes how far the log of `processor` is known: to `count` the length of its sound beginning, and to `slot` its mark.
@@ -471,7 +478,8 @@ struct pfair_key {
  *   103  there are more than `room` keys; `torn` and `fallen` are written
  * A look-up for each number of each log, up to the capacity. It allocates a list of these keys, and frees it.
  */
-uint32_t pfair_faults(struct pfair_dispatcher *d, uint64_t *torn, uint64_t *fallen, struct pfair_key *rows, size_t room);
+uint32_t pfair_faults(struct pfair_dispatcher *d, uint64_t *torn, uint64_t *fallen, struct pfair_key *rows,
+    size_t room);
 
 /*
  * Writes to `is_below` 1 if another dispatcher has all that this one has, each number with the same entry or torn;
@@ -480,7 +488,8 @@ uint32_t pfair_faults(struct pfair_dispatcher *d, uint64_t *torn, uint64_t *fall
  * A look-up in the other for each entry here, up to the first that the other doesn't have.
  */
 uint32_t pfair_below(struct pfair_dispatcher *d, struct pfair_dispatcher *other, uint64_t *is_below);
-static inline uint32_t pfair_below_another(struct pfair_dispatcher *d, struct pfair_dispatcher *other, uint64_t *is_below) {
+static inline uint32_t pfair_below_another(struct pfair_dispatcher *d, struct pfair_dispatcher *other,
+    uint64_t *is_below) {
     return d == other ? 100 : pfair_below(d, other, is_below);
 }
 #define pfair_below pfair_below_another
@@ -511,8 +520,8 @@ struct pfair_step {
  * since the last plan. Entries taken before that cost nothing.
  *
  * It allocates a table and places for each slot in which a task runs, and room for what is announced. Two things double
- * now and then: the list of slots that aren't forgotten, which moves 72 bytes for each, and the room for tasks when more
- * are members than ever before. pfair_reserve allocates ahead.
+ * now and then: the list of slots that aren't forgotten, which moves 72 bytes for each, and the room for tasks when
+ * more are members than ever before. pfair_reserve allocates ahead.
  */
 uint32_t pfair_plan_next(struct pfair_dispatcher *d, struct pfair_step *step);
 
@@ -545,12 +554,12 @@ uint32_t pfair_reserve(struct pfair_dispatcher *d, uint64_t slots, uint64_t task
  * Forgets the tables, places and decisions of all slots below `slots`, or of all that are planned if these are fewer.
  * Calls answer 104 for these slots from now on. Plans, members and entries are as if they were still there.
  *
- * pfair_lags then answers 104 for all slots of the run, since it counts from slot 0 on; pfair_members still has the lags
- * after the last planned slot.
+ * pfair_lags then answers 104 for all slots of the run, since it counts from slot 0 on; pfair_members still has the
+ * lags after the last planned slot.
  *
- * The call frees the memory of these slots or keeps it for slots to come, but for that of the last planned slot. The list
- * of slots keeps 72 bytes for each of the most that it had at once. So the memory of a run doesn't grow if this is called
- * again and again. O(slots freed).
+ * The call frees the memory of these slots or keeps it for slots to come, but for that of the last planned slot. The
+ * list of slots keeps 72 bytes for each of the most that it had at once. So the memory of a run doesn't grow if this is
+ * called again and again. O(slots freed).
  */
 uint32_t pfair_forget(struct pfair_dispatcher *d, uint64_t slots);
 
@@ -573,17 +582,17 @@ uint32_t pfair_frontier(struct pfair_dispatcher *d, uint64_t *slot);
 uint32_t pfair_next_slot(struct pfair_dispatcher *d, uint64_t *slot);
 
 /*
- * Begins the next run, of 1 to 1,000,000 slots, once all slots of this one are planned. Its dispatcher takes the place of
- * this one, which is freed: it has the same processors, frame and capacity, no entries, and no planned slots. The members
- * stay, and a task that runs on stays on its processor. Each dispatcher can do so by itself: once all slots are planned,
- * those whose runs began alike, with entries that agree, know the same members.
+ * Begins the next run, of 1 to 1,000,000 slots, once all slots of this one are planned. Its dispatcher takes the place
+ * of this one, which is freed: it has the same processors, frame and capacity, no entries, and no planned slots. The
+ * members stay, and a task that runs on stays on its processor. Each dispatcher can do so by itself: once all slots are
+ * planned, those whose runs began alike, with entries that agree, know the same members.
  *
  * Slots, stamps and floors count from the next run's own slot 0, and entries from 1; `joined`, `theta` and `freed_at`
- * count from slot 0 of the first run. What is stamped after the last slot of this run isn't taken over: whoever announced
- * it announces it again, in the next run's logs. Of each member the jobs before that of its last quantum are counted no
- * more: `joined` is so many periods later, and all its indexes are so many costs lower. Its windows and lags stay. In a
- * next run an index is at most 2,000,001. Of one over 1,000,001, ask pfair_window for the index a whole number of costs
- * lower, with the offset as many periods later.
+ * count from slot 0 of the first run. What is stamped after the last slot of this run isn't taken over: whoever
+ * announced it announces it again, in the next run's logs. Of each member the jobs before that of its last quantum are
+ * counted no more: `joined` is so many periods later, and all its indexes are so many costs lower. Its windows and lags
+ * stay. In a next run an index is at most 2,000,001. Of one over 1,000,001, ask pfair_window for the index a whole
+ * number of costs lower, with the offset as many periods later.
  *   100  the number of slots is out of its range
  *   30   a number is torn
  *   31   the dispatcher is spent
@@ -628,7 +637,8 @@ struct pfair_decided {
  */
 uint32_t pfair_table(struct pfair_dispatcher *d, uint64_t slot, uint64_t *count, struct pfair_pick *rows, size_t room);
 uint32_t pfair_places(struct pfair_dispatcher *d, uint64_t slot, uint64_t *count, uint8_t *rows, size_t room);
-uint32_t pfair_decisions(struct pfair_dispatcher *d, uint64_t slot, uint64_t *count, struct pfair_decided *rows, size_t room);
+uint32_t pfair_decisions(struct pfair_dispatcher *d, uint64_t slot, uint64_t *count, struct pfair_decided *rows,
+    size_t room);
 
 /* A quantum of one of several slots. */
 struct pfair_quantum {
@@ -644,7 +654,8 @@ struct pfair_quantum {
  *   103  there are more than `room` rows; `count` is written
  * O(slots + rows).
  */
-uint32_t pfair_quanta(struct pfair_dispatcher *d, uint64_t from, uint64_t to, uint64_t *count, struct pfair_quantum *rows, size_t room);
+uint32_t pfair_quanta(struct pfair_dispatcher *d, uint64_t from, uint64_t to, uint64_t *count,
+    struct pfair_quantum *rows, size_t room);
 
 /* A decision at the boundary of one of several slots. */
 struct pfair_decision {
@@ -656,7 +667,8 @@ struct pfair_decision {
  * Writes the decisions at the boundaries of the slots `from` to `to` - 1, slot by slot, each slot's in the order of
  * processor and number. Answers and cost are those of pfair_quanta.
  */
-uint32_t pfair_decisions_of(struct pfair_dispatcher *d, uint64_t from, uint64_t to, uint64_t *count, struct pfair_decision *rows, size_t room);
+uint32_t pfair_decisions_of(struct pfair_dispatcher *d, uint64_t from, uint64_t to, uint64_t *count,
+    struct pfair_decision *rows, size_t room);
 
 /* The lag of a task at a time, numerator/period in quanta: its fluid share of the slots since it joined, less the
    quanta that it had. If it was never delayed, its lag is below 1, and above -1 unless the task is early. */
@@ -677,7 +689,8 @@ struct pfair_lag {
  * Each call counts the lags from slot 0 on: O(rows + s + q + x n) for s slots, q quanta and decisions, and x
  * departures before slot `to`. It allocates a few words for each task, and a copy of at most `room` rows.
  */
-uint32_t pfair_lags(struct pfair_dispatcher *d, uint64_t from, uint64_t to, uint64_t *count, struct pfair_lag *rows, size_t room);
+uint32_t pfair_lags(struct pfair_dispatcher *d, uint64_t from, uint64_t to, uint64_t *count, struct pfair_lag *rows,
+    size_t room);
 
 /* A member: a task that was admitted and isn't freed. */
 struct pfair_member {
@@ -690,7 +703,7 @@ struct pfair_member {
                               to this subtask */
     uint64_t is_departing; /* 1 if it is departing, and gets no more quanta, else 0 */
     uint64_t freed_at;     /* if it is departing: the slot from which weight and name are free; else 0 */
-    int64_t lag;           /* its lag after the planned slots, as a numerator over `period`: what it is due since it joined
+    int64_t lag;           /* its lag after the planned slots, a numerator over `period`: what it is due since it joined
                               less what it has had, both times `period` */
 };
 
@@ -705,9 +718,9 @@ struct pfair_member {
 uint32_t pfair_members(struct pfair_dispatcher *d, uint64_t *count, struct pfair_member *rows, size_t room);
 
 /*
- * Writes the state in which the dispatcher's run began, as text: what a run begins with, in lines of less than 256 bytes
- * (docs/SPECIFICATION.md, "A state as rows"). After pfair_next_run it is what the run before has left. Two dispatchers
- * whose runs began alike have the same bytes.
+ * Writes the state in which the dispatcher's run began, as text: what a run begins with, in lines of less than 256
+ * bytes (docs/SPECIFICATION.md, "A state as rows"). After pfair_next_run it is what the run before has left. Two
+ * dispatchers whose runs began alike have the same bytes.
  *   90   an allocation failed
  *   103  there are more than `room` bytes; `length` is written
  * O(bytes).
@@ -731,9 +744,9 @@ struct pfair_state_fault {
 
 /*
  * Opens a dispatcher for a run of 1 to 1,000,000 slots that begins with the state of a text, with logs of at most
- * `capacity` entries (1 to 4,096). It has no entries and has planned nothing. From the text that pfair_state gives after
- * pfair_next_run it begins as that run did, in a process that has seen no run before. No check tells whether a run has
- * left a state: compare the bytes of two machines.
+ * `capacity` entries (1 to 4,096). It has no entries and has planned nothing. From the text that pfair_state gives
+ * after pfair_next_run it begins as that run did, in a process that has seen no run before. No check tells whether a
+ * run has left a state: compare the bytes of two machines.
  *   101     the handle already has a dispatcher
  *   100     a number is out of its range
  *   66      `length` is over 67,108,864
@@ -742,7 +755,8 @@ struct pfair_state_fault {
  *   90      an allocation failed
  * The handle is as before unless the answer is 0. O(length + n log n + l log l) for n members with l late releases.
  */
-uint32_t pfair_resume(struct pfair_dispatcher *d, uint64_t slots, uint32_t capacity, struct pfair_state_fault *fault, const uint8_t *bytes, size_t length);
+uint32_t pfair_resume(struct pfair_dispatcher *d, uint64_t slots, uint32_t capacity, struct pfair_state_fault *fault,
+    const uint8_t *bytes, size_t length);
 
 #ifdef __cplusplus
 }
