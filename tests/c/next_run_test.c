@@ -85,6 +85,63 @@ static void resumed(struct pfair_dispatcher *next, const uint8_t *text, uint64_t
     ANSWERS(0, pfair_close(&d));
 }
 
+static uint64_t chance(uint64_t below) {
+    return (uint64_t)rand() % below;
+}
+
+/* Where the line begins that a place of a text is in. */
+static uint64_t line_of(const uint8_t *text, uint64_t at) {
+    while (at > 0 && text[at - 1] != '\n') at--;
+    return at;
+}
+
+/* Damages a text in one of six ways: a byte is another one, or another digit, is lost, or doubled; a line is lost, or
+   doubled. Answers how long it is then. */
+static uint64_t damage(uint8_t *text, uint64_t length) {
+    uint64_t at = chance(length), way = chance(6), from = line_of(text, at), to = at;
+    if (way > 3) while (text[to++] != '\n');
+    else from = at, to = at + 1;
+    if (way == 0) text[at] = (uint8_t)chance(256);
+    if (way == 1 && text[at] >= '0' && text[at] <= '9') text[at] = (uint8_t)('0' + chance(10));
+    if (way < 2) return length;
+    if (way % 2 == 0) {
+        memmove(text + from, text + to, length - to);
+        return length - (to - from);
+    }
+    memmove(text + to, text + from, length - from);
+    return length + (to - from);
+}
+
+/* A text that is damaged opens nothing, unless it is a state's: then it is the text of the state with which the run began. A
+   text that is cut anywhere is never one. */
+static void damaged(const uint8_t *text, uint64_t length, int times) {
+    static uint8_t other[65536], again[65536];
+    struct pfair_dispatcher d = PFAIR_NONE;
+    struct pfair_state_fault fault;
+    int opened = 0;
+    for (uint64_t cut = 0; cut < length; cut++) {
+        uint32_t answer = pfair_resume(&d, 1, 1, &fault, text, cut);
+        CHECK((answer == 68 || answer == 69) && !d.is_open, "cut to %" PRIu64 " bytes: %u", cut, answer);
+    }
+    for (int k = 0; k < times; k++) {
+        memcpy(other, text, length);
+        uint64_t now = damage(other, length), lines = 1, told = 0;
+        for (uint64_t at = 0; at < now; at++) lines += other[at] == '\n';
+        uint32_t answer = pfair_resume(&d, SHORT, 64, &fault, other, now);
+        CHECK((answer == 0) == d.is_open, "answer %u", answer);
+        if (answer == 0) {
+            opened++;
+            ANSWERS(0, pfair_state(&d, &told, again, sizeof again));
+            CHECK(told == now && !memcmp(other, again, now), "another state is begun with");
+            ANSWERS(0, pfair_close(&d));
+        } else if (answer != 33) {
+            CHECK((answer == 68) != (answer == 69) && fault.line >= 1 && fault.line <= lines, "answer %u", answer);
+        }
+    }
+    CHECK(opened > times / 100 && opened < times / 2, "%d of %d opened", opened, times);
+    printf("%d of %d damaged texts are of states\n", opened, times);
+}
+
 /* What is wrong with a text, or with the numbers beside it: nothing is opened. */
 static void no_states(void) {
     static const struct {
@@ -144,6 +201,7 @@ static void states(void) {
     CHECK(answer == 0 && at > 1 && again == length && bytes == in_use, "answer %u, %ld allocations", answer, at);
     CHECK(!memcmp(text, "state,1,", 8) && text[length - 1] == '\n' && text[length] == 0, "no text of a state");
     resumed(&d, text, length);
+    damaged(text, length, 20000);
     ANSWERS(0, pfair_close(&d));
 }
 
