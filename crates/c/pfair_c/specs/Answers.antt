@@ -19,6 +19,7 @@ use Rattle.pfair_table.specs.declared.answer.Step.TheVariants.{Planned, Waiting,
 use Rattle.pfair_table.specs.declared.answer.PlanFault.TheVariants.{Torn, Spent, Memory}
 use Rattle.pfair_table.specs.declared.answer.PlanFault.{PlanFault}
 use Rattle.pfair_table.specs.declared.event.Event.TheVariants.{Plan}
+use Rattle.pfair_table.specs.declared.script.TheConstants.Script.{LONGEST_LOG}
 use Rattle.pfair_table.specs.declared.settings.TheConstants.Settings.{MAX_SLOTS}
 use Rattle.pfair_table.specs.Table.{Settings}
 use Rattle.pfair_table.specs.Limits.{IsSettings}
@@ -49,7 +50,7 @@ windows_answer cost period first count theta room =
 
 -- settings and a capacity that a dispatcher can have
 abbrev pub IsOpenable : Settings → ℕ → Type 0
-IsOpenable s capacity = IsSettings s × (1 ≤ capacity) × (capacity ≤ 4096)
+IsOpenable s capacity = IsSettings s × (1 ≤ capacity) × (capacity ≤ LONGEST_LOG)
 
 -- a new dispatcher
 abbrev pub IsStarted : Settings → ℕ → Kept → Type 0

@@ -14,6 +14,7 @@ use Rattle.pfair_table.specs.Events.{begin_at}
 use Rattle.pfair_table.specs.Limits.{first_state, settings_from}
 use Rattle.pfair_table.specs.Refinement.{Dispatch, course_of}
 use Rattle.pfair_table.specs.Table.{Carried, Origin, Settings}
+use Rattle.pfair_table.specs.declared.script.TheConstants.Script.{LONGEST_LOG}
 use Rattle.pfair_table.specs.declared.settings.TheConstants.Settings.{MAX_SLOTS}
 use Rattle.pfair_file.specs.declared.input.TheConstants.{LONGEST_FILE}
 use Rattle.pfair_handle.specs.Kept.{Kept, is_kept}
@@ -52,7 +53,7 @@ state_fault_row (fault.Refused line why) = record { line = line; cause = cause_o
 state_fault_row fault.Memory = record { line = 0; cause = 0 }
 
 abbrev pub IsRunnable : (slots capacity : ℕ) → Type 0
-IsRunnable slots capacity = (1 ≤ slots) × (slots ≤ MAX_SLOTS) × (1 ≤ capacity) × (capacity ≤ 4096)
+IsRunnable slots capacity = (1 ≤ slots) × (slots ≤ MAX_SLOTS) × (1 ≤ capacity) × (capacity ≤ LONGEST_LOG)
 
 -- the bytes are the text of a state, and d is a new dispatcher of a run that begins with it
 pub record IsResumedFrom (bytes : List ℕ) (slots capacity : ℕ) (d : Dispatch) : Type 0 where
@@ -62,13 +63,18 @@ pub record IsResumedFrom (bytes : List ℕ) (slots capacity : ℕ) (d : Dispatch
   pub course : course_of d ≡ begin_at (Some state) (settings_from state slots) capacity
   pub whole : (d.forgotten ≡ 0) × (d.spent ≡ false)
 
+-- what becomes of a text that isn't too long, where a run can be asked for: a run begins with it, the run would end too late, an
+-- allocation failed, or the text isn't a state's
+pub record IsBegunBy (bytes : List ℕ) (slots capacity : ℕ) (after : Kept) (answer : ℕ) (new : PfairStateFault) : Type 0 where
+  pub resumed : answer ≡ DONE → Of after (IsResumedFrom bytes slots capacity)
+  pub late : answer ≡ 33 → (c : Carried) × (bytes ≡ state_text c) × (LAST_SLOT < c.slot + slots)
+  pub refused : (answer ≡ DONE → ⊥) → (answer ≡ 33 → ⊥) → (answer ≡ MEMORY → ⊥) → (f : ReadFault) × (answer ≡ read_fault_number f) × (new ≡ state_fault_row f)
+
 -- what `pfair_resume` answers
 pub record IsResumeAnswer (bytes : List ℕ) (slots capacity : ℕ) (before after : Kept) (answer : ℕ) (old new : PfairStateFault) : Type 0 where
   pub already : is_kept before ≡ true → answer ≡ OPEN_ALREADY
-  pub out_of_range : answer ≡ OUT_OF_RANGE → IsRunnable slots capacity → ⊥
-  pub too_long : answer ≡ FILE_TOO_LONG → LONGEST_FILE < length bytes
-  pub resumed : answer ≡ DONE → IsRunnable slots capacity × Of after (IsResumedFrom bytes slots capacity)
-  pub late : answer ≡ 33 → (c : Carried) × (bytes ≡ state_text c) × (LAST_SLOT < c.slot + slots)
-  pub fault : (answer ≡ 68) ⊎ (answer ≡ 69) → (f : ReadFault) × (answer ≡ read_fault_number f) × (new ≡ state_fault_row f)
+  pub out_of_range : is_kept before ≡ false → (IsRunnable slots capacity → ⊥) → answer ≡ OUT_OF_RANGE
+  pub too_long : is_kept before ≡ false → IsRunnable slots capacity → LONGEST_FILE < length bytes → answer ≡ FILE_TOO_LONG
+  pub begun : is_kept before ≡ false → IsRunnable slots capacity → length bytes ≤ LONGEST_FILE → IsBegunBy bytes slots capacity after answer new
   pub unchanged : (answer ≡ DONE → ⊥) → after ≡ before
   pub untold : ((answer ≡ 68) ⊎ (answer ≡ 69) → ⊥) → new ≡ old
