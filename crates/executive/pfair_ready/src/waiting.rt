@@ -24,14 +24,15 @@ type Entries = IndexMap<TaskName, Entry>;
 /// Under each name the release and the key that wait.
 ///
 /// A name keeps its entry when its key is taken, since the next key of its task mostly follows. Such
-/// entries are dropped when they are more than half of all and a new name comes.
+/// entries are dropped when a new name comes and more than half of the names are new since the last
+/// time. So at most twice as many names have an entry as waited at once.
 ///
 /// Calls take hints. They change no answer: a wrong one costs a look-up.
 #[derive(Drop)]
 pub(crate) struct Waiting {
     entries: Entries,
-    // how many names have an entry without a key
-    vacant: usize,
+    // how many names came since then
+    added: usize,
 }
 
 impl Model for Waiting {
@@ -51,7 +52,7 @@ impl Waiting {
     {
         Waiting {
             entries: IndexMap::new(alloc),
-            vacant: 0,
+            added: 0,
         }
     }
 
@@ -83,7 +84,6 @@ impl Waiting {
         if !fill(&mut self.entries, index, seats.member, release, key) {
             return Ok(None);
         }
-        self.vacant = self.vacant.saturating_sub(1);
         Ok(Some(index))
     }
 
@@ -99,6 +99,7 @@ impl Waiting {
         let name = key.name;
         let held = Some((release, key));
         self.entries.insert(name, Entry { held, member })?;
+        self.added = self.added.saturating_add(1);
         Ok(index)
     }
 
@@ -110,7 +111,6 @@ impl Waiting {
     {
         let ready = find(&self.entries, hint, &key.name)?;
         let member = vacate(&mut self.entries, ready, slot, key)?;
-        self.vacant = self.vacant.saturating_add(1);
         Some(Seats { ready, member })
     }
 
@@ -136,17 +136,17 @@ impl Waiting {
             .reserve(room.saturating_sub(self.entries.len()))
     }
 
-    // Drops the entries without a key if they are more than half of all.
+    // Drops the entries without a key if more than half of the names are new since the last time.
     fn drop_vacant(&mut self)
         ensures { self.new ≡ self.old }
     {
-        if self.vacant > self.entries.len() / 2 {
+        if self.added > self.entries.len() / 2 {
             self.entries.retain(
                 |_name: &TaskName, entry: &mut Entry| -> bool
                     ensures { (result ≡ is_some entry.old.held) × (entry.new ≡ entry.old) }
                 { entry.held.is_some() },
             );
-            self.vacant = 0;
+            self.added = 0;
         }
     }
 }
