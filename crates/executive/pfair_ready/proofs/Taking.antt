@@ -24,9 +24,11 @@ use Rattle.pfair_ready.specs.declared.far_dates.Date.{Date}
 use Rattle.pfair_ready.specs.Names.{NameValue}
 use Rattle.pfair_ready.specs.Queue.{Queue, released, without}
 use Rattle.pfair_ready.specs.Calendar.{HasTurn, IsCovered, IsNoted}
+use Rattle.pfair_ready.specs.TurnOrder.{task_cmp}
 use Rattle.pfair_ready.specs.Turns.{IsFirst}
 use Rattle.pfair_ready.specs.Waiting.{is_due}
 use Rattle.pfair_ready.proofs.CoverLemmas.{covered_less, covered_popped, still_there}
+use Rattle.pfair_ready.proofs.TurnLemmas.{same_order}
 use Rattle.pfair_ready.proofs.Released.{IsReleased, each_released, released_remove, without_none, without_push}
 
 pub record IsTaking (slot m room : ℕ) (start held : Queue) (dates : Calendar) (turns : List (Key × ℕ)) (first : List Key) : Type 0 where
@@ -112,10 +114,11 @@ module _ (slot m room : ℕ) (start held : Queue) (dates : Calendar) (turns : Li
         let kept = still_there held top.0.name w.name (w.release, k) w.at in
         let named : k.name ≡ w.name = t.covered.named w.name w.release k kept.1 in
         let turn = has_turn w.name w.release k kept.1 w.due in
-        let not_before : is_lt (pd2_cmp k top.0) ≡ false = All-contains (λ (y : Key × ℕ). is_lt (pd2_cmp y.0 top.0) ≡ false) turns (k, turn.0) least turn.1 in
+        let apart : k.name ≡ top.0.name → ⊥ = λ same. kept.0 (sym named ∙ same) in
+        let not_before : is_lt (pd2_cmp k top.0) ≡ false = ap is_lt (same_order k top.0 apart) ∙ All-contains (λ (y : Key × ℕ). is_lt (task_cmp y.0 top.0) ≡ false) turns (k, turn.0) least turn.1 in
         let not_same : is_eq (pd2_cmp k top.0) ≡ false =
         elim (is_eq (pd2_cmp k top.0)) as (λ b. is_eq (pd2_cmp k top.0) ≡ b → b ≡ false) [
-          | true ↦ λ v. absurd (kept.0 (sym named ∙ ap (λ (x : Key). x.name) (keys_exact k top.0 ((Equal-is (pd2_cmp k top.0)).0 v))))
+          | true ↦ λ v. absurd (apart (ap (λ (x : Key). x.name) (keys_exact k top.0 ((Equal-is (pd2_cmp k top.0)).0 v))))
           | false ↦ λ _. refl
         ] refl in
         less_of keys_total (pd2_cmp k top.0) (pd2_cmp top.0 k) (keys_total.antisymm k top.0) not_before not_same

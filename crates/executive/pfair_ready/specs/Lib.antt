@@ -2,5 +2,6 @@ pub mod Calendar
 pub mod Names
 pub mod PlainList
 pub mod Queue
+pub mod TurnOrder
 pub mod Turns
 pub mod Waiting

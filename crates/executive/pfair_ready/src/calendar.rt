@@ -128,7 +128,7 @@ fn release_all(dates: &mut Vec<Date>, released: &mut Turns, slot: u64) -> Result
     ensures done { OnOk result (dates.new.items ≡ []) }
 {
     while let Some(date) = dates.last() {
-        released.push(date.key, date.hint)?;
+        released.push(&date.key, date.hint)?;
         let _ = dates.pop();
     }
     Ok(())

@@ -86,7 +86,7 @@ fn release_come(
     ensures done { OnOk result (All (λ d. slot < d.release) (dates_of (heap_items dates.new))) }
 {
     while let Some(date) = first_come(dates, slot) {
-        released.push(date.key, date.hint)?;
+        released.push(&date.key, date.hint)?;
         let _ = dates.pop();
     }
     Ok(())

@@ -95,11 +95,11 @@ impl HeapReady {
         first.clear();
         first.reserve(m.min(self.released.len()))?;
         'turns: while first.len() < m {
-            let Some((key, hint)) = self.released.pop() else {
+            let Some(turn) = self.released.pop() else {
                 break;
             };
-            if let Some(seats) = self.waiting.take(hint, slot, &key) {
-                first.push(T::of(Seated { key, seats }))?;
+            if let Some(seated) = self.waiting.take(slot, &turn) {
+                first.push(T::of(seated))?;
             }
         }
         Ok(first)
@@ -134,11 +134,11 @@ impl Ready for HeapReady {
     }
 
     fn insert_seated(&mut self, seats: Seats, release: u64, key: Key) -> Result<bool, AllocError> {
-        let Some(place) = self.waiting.put(seats, release, key)? else {
+        let Some(place) = self.waiting.put(seats, release, &key)? else {
             return Ok(false);
         };
         let noted = if release <= self.now {
-            self.released.push(key, place)
+            self.released.push(&key, place)
         } else {
             let date = Date {
                 release,

@@ -6,7 +6,8 @@ ghost use Rattle.std.specs.Cmp.{eq_by_cmp_equiv, partial_equiv_from_equiv, parti
 ghost use Rattle.std.specs.Cmp.Rules.{comparing};
 ghost use Rattle.std.specs.Ordering.{as_partial_cmp, eq_by_cmp};
 ghost use Rattle.pfair_order.specs.declared.Key.{Key};
-ghost use Rattle.pfair_order.specs.Order.{tie_group_of};
+ghost use Rattle.pfair_order.specs.Order.{pd2_cmp, tie_group_of};
+ghost use Rattle.pfair_ready.specs.Names.{name_eq};
 ghost use Rattle.pfair_ready.specs.Turns.{turn_cmp, turns_total, IsFirst};
 
 use pfair_order::Key;
@@ -16,15 +17,15 @@ use std::cmp::{Ordering, Reverse};
 use std::collections::BinaryHeap;
 use std::marker::Model;
 
-// What the order looks at in a released key, with its name as the number that orders names, and a hint
-// where the name stands.
+/// What the order looks at in a released key, with its name as the number that orders names, and a hint
+/// where the name stands.
 #[derive(Debug, Drop)]
-struct Turn {
+pub(crate) struct Turn {
     d: u64,
     b: u64,
     group: u64,
-    name: u128,
     hint: usize,
+    name: u128,
 }
 
 impl Model for Turn {
@@ -50,21 +51,36 @@ impl Turn {
             d: key.d,
             b: key.b,
             group: key.group,
-            name: key.name.number(),
             hint,
+            name: key.name.number(),
         }
     }
 
-    fn key_and_hint(&self) -> (Key, usize)
-        ensures { result ≡ self.now }
+    pub(crate) fn hint(&self) -> usize
+        ensures { result ≡ self.now.1 }
     {
-        let key = Key {
-            d: self.d,
-            b: self.b,
-            group: self.group,
-            name: TaskName::of_number(self.name),
-        };
-        (key, self.hint)
+        self.hint
+    }
+
+    /// Returns the name of the key, from its number.
+    pub(crate) fn name(&self) -> TaskName
+        ensures { result ≡ self.now.0.name }
+    {
+        TaskName::of_number(self.name)
+    }
+
+    /// Whether the name is that of the key.
+    pub(crate) fn is_named(&self, name: &TaskName) -> bool
+        ensures { result ≡ name_eq name.now self.now.0.name }
+    {
+        name.number() == self.name
+    }
+
+    /// Whether the turn is that of the key.
+    pub(crate) fn is_of(&self, key: &Key) -> bool
+        ensures { result ≡ eq_by_cmp pd2_cmp key.now self.now.0 }
+    {
+        key.d == self.d && key.b == self.b && key.group == self.group && self.is_named(&key.name)
     }
 
     // The group deadline if the order looks at it, else 0.
@@ -98,7 +114,7 @@ impl Ord for Turn {
 
     ghost matches_eq = { Prim.search (comparing, rules) };
 
-    // The order of the keys.
+    // The PD2 order of the keys, up to the names: a name has at most one key that waits.
     fn cmp(&self, other: &Turn) -> Ordering {
         if self.d != other.d {
             return self.d.cmp(&other.d);
@@ -110,11 +126,7 @@ impl Ord for Turn {
         if groups != Ordering::Equal {
             return groups;
         }
-        let names = self.name.cmp(&other.name);
-        if names != Ordering::Equal {
-            return names;
-        }
-        self.group.cmp(&other.group)
+        self.name.cmp(&other.name)
     }
 }
 
@@ -172,16 +184,16 @@ impl Turns {
         self.heap.reserve(turns.saturating_sub(self.heap.len()))
     }
 
-    pub(crate) fn push(&mut self, key: Key, hint: usize) -> Result<(), AllocError>
+    pub(crate) fn push(&mut self, key: &Key, hint: usize) -> Result<(), AllocError>
         ensures kept { (turn : Key × ℕ) → Contains self.old turn → Contains self.new turn }
-        ensures there { OnOk result (Contains self.new (key, hint)) }
+        ensures there { OnOk result (Contains self.new (key.now, hint)) }
     {
-        self.heap.push(Reverse(Turn::of(&key, hint)))?;
+        self.heap.push(Reverse(Turn::of(key, hint)))?;
         Ok(())
     }
 
     /// Takes out the first turn.
-    pub(crate) fn pop(&mut self) -> Option<(Key, usize)>
+    pub(crate) fn pop(&mut self) -> Option<Turn>
         ensures some { IfSome result (λ turn. IsPermutation self.old (turn ∷ self.new)) }
         ensures first { IfSome result (λ turn. IsFirst turn self.old) }
         ensures shorter { IfSome result (λ turn. length self.new + 1 ≡ length self.old) }
@@ -189,6 +201,6 @@ impl Turns {
         ensures same { IfNone result (self.new ≡ self.old) }
     {
         let Reverse(turn) = self.heap.pop()?;
-        Some(turn.key_and_hint())
+        Some(turn)
     }
 }

@@ -5,7 +5,8 @@ ghost use Rattle.indexmap.specs.IndexMap.{get as at_name, IsUnique, Updates};
 ghost use Rattle.pfair_ready.specs.Names.{NameValue, name_eq};
 ghost use Rattle.pfair_ready.specs.Waiting.{is_due, queue_in, IsEntryOf};
 
-use crate::Seats;
+use crate::turns::Turn;
+use crate::{Seated, Seats};
 use indexmap::IndexMap;
 use pfair_order::Key;
 use pfair_weight::TaskName;
@@ -71,12 +72,12 @@ impl Waiting {
         &mut self,
         seats: Seats,
         release: u64,
-        key: Key,
+        key: &Key,
     ) -> Result<Option<usize>, AllocError>
-        ensures answer { IfOk result (λ place. finmap.contains_key self.old key.name ≡ not (is_some place)) }
-        ensures content { IfOk result (λ place. self.new ≡ (if is_some place then finmap.insert self.old key.name (release, key) else self.old)) }
+        ensures answer { IfOk result (λ place. finmap.contains_key self.old key.now.name ≡ not (is_some place)) }
+        ensures content { IfOk result (λ place. self.new ≡ (if is_some place then finmap.insert self.old key.now.name (release, key.now) else self.old)) }
         ensures same { OnErr result (self.new ≡ self.old) }
-        ensures vacant { OnErr result (finmap.contains_key self.old key.name ≡ false) }
+        ensures vacant { OnErr result (finmap.contains_key self.old key.now.name ≡ false) }
     {
         let Some(index) = find(&self.entries, seats.ready, &key.name) else {
             return Ok(Some(self.put_new(seats.member, release, key)?));
@@ -88,8 +89,8 @@ impl Waiting {
     }
 
     // The same of a name that has no entry.
-    fn put_new(&mut self, member: usize, release: u64, key: Key) -> Result<usize, AllocError>
-        ensures put { OnOk result (self.new ≡ finmap.insert self.old key.name (release, key)) }
+    fn put_new(&mut self, member: usize, release: u64, key: &Key) -> Result<usize, AllocError>
+        ensures put { OnOk result (self.new ≡ finmap.insert self.old key.now.name (release, key.now)) }
         ensures same { OnErr result (self.new ≡ self.old) }
     {
         self.drop_vacant();
@@ -97,21 +98,24 @@ impl Waiting {
         prove!(self.entries.len() < usize::MAX);
         let index = self.entries.len();
         let name = key.name;
-        let held = Some((release, key));
+        let held = Some((release, *key));
         self.entries.insert(name, Entry { held, member })?;
         self.added = self.added.saturating_add(1);
         Ok(index)
     }
 
-    /// Takes the key out if it is the one under its name, and released by the slot, and returns where
-    /// its task stands.
-    pub(crate) fn take(&mut self, hint: usize, slot: u64, key: &Key) -> Option<Seats>
-        ensures answer { is_some result ≡ is_due key.now slot (finmap.get self.old key.now.name) }
-        ensures content { self.new ≡ (if is_some result then finmap.remove self.old key.now.name else self.old) }
+    /// Takes out the key of a turn if it is the one under its name, and released by the slot.
+    pub(crate) fn take(&mut self, slot: u64, turn: &Turn) -> Option<Seated>
+        ensures answer { is_some result ≡ is_due turn.now.0 slot (finmap.get self.old turn.now.0.name) }
+        ensures key { IfSome result (λ seated. seated.key ≡ turn.now.0) }
+        ensures content { self.new ≡ (if is_some result then finmap.remove self.old turn.now.0.name else self.old) }
     {
-        let ready = find(&self.entries, hint, &key.name)?;
-        let member = vacate(&mut self.entries, ready, slot, key)?;
-        Some(Seats { ready, member })
+        let ready = find_turn(&self.entries, turn)?;
+        let (key, member) = vacate(&mut self.entries, ready, slot, turn)?;
+        Some(Seated {
+            key,
+            seats: Seats { ready, member },
+        })
     }
 
     /// Removes what waits under a name, and returns whether there was something.
@@ -167,11 +171,11 @@ fn find(entries: &Entries, hint: usize, name: &TaskName) -> Option<usize>
 
 // Puts a release and a key under the key's name, whose entry is at the index, unless something waits
 // there. Returns whether it did.
-fn fill(entries: &mut Entries, index: usize, member: usize, release: u64, key: Key) -> bool
-    requires { IsEntryOf entries.old.entries key.name index }
-    ensures answer { finmap.contains_key (queue_in entries.old.entries) key.name ≡ not result }
+fn fill(entries: &mut Entries, index: usize, member: usize, release: u64, key: &Key) -> bool
+    requires { IsEntryOf entries.old.entries key.now.name index }
+    ensures answer { finmap.contains_key (queue_in entries.old.entries) key.now.name ≡ not result }
     ensures content { queue_in entries.new.entries ≡
-        (if result then finmap.insert (queue_in entries.old.entries) key.name (release, key) else queue_in entries.old.entries) }
+        (if result then finmap.insert (queue_in entries.old.entries) key.now.name (release, key.now) else queue_in entries.old.entries) }
 {
     let Some(entry) = entries.get_index_mut(index) else {
         return false;
@@ -179,33 +183,46 @@ fn fill(entries: &mut Entries, index: usize, member: usize, release: u64, key: K
     if entry.held.is_some() {
         return false;
     }
-    let held = Some((release, key));
+    let held = Some((release, *key));
     *entry = Entry { held, member };
     true
 }
 
-// Takes out what waits under the key's name, whose entry is at the index, if it is the key, released by
-// the slot. Returns where its task stands in the caller's list.
-fn vacate(entries: &mut Entries, index: usize, slot: u64, key: &Key) -> Option<usize>
-    requires { IsEntryOf entries.old.entries key.now.name index }
-    ensures answer { is_some result ≡ is_due key.now slot (finmap.get (queue_in entries.old.entries) key.now.name) }
+// Where the name of a turn stands.
+fn find_turn(entries: &Entries, turn: &Turn) -> Option<usize>
+    ensures some { IfSome result (IsEntryOf entries.now.entries turn.now.0.name) }
+    ensures none { IfNone result (at_name name_eq entries.now turn.now.0.name ≡ None) }
+    ensures unique { IsUnique name_eq entries.now }
+{
+    // no name stands twice
+    prove!(entries.len() < usize::MAX);
+    match entries.get_index(turn.hint()) {
+        Some((there, _)) if turn.is_named(there) => Some(turn.hint()),
+        _ => entries.get_index_of(&turn.name()),
+    }
+}
+
+// Takes out what waits under a turn's name, whose entry is at the index, if it is the turn's key,
+// released by the slot. Returns it, and where its task stands in the caller's list.
+fn vacate(entries: &mut Entries, index: usize, slot: u64, turn: &Turn) -> Option<(Key, usize)>
+    requires { IsEntryOf entries.old.entries turn.now.0.name index }
+    ensures answer { is_some result ≡ is_due turn.now.0 slot (finmap.get (queue_in entries.old.entries) turn.now.0.name) }
+    ensures key { IfSome result (λ r. r.0 ≡ turn.now.0) }
     ensures content { queue_in entries.new.entries ≡
-        (if is_some result then finmap.remove (queue_in entries.old.entries) key.now.name else queue_in entries.old.entries) }
+        (if is_some result then finmap.remove (queue_in entries.old.entries) turn.now.0.name else queue_in entries.old.entries) }
 {
     let entry = entries.get_index_mut(index)?;
-    if !is_held_due(&entry.held, slot, key) {
+    let (release, key) = entry.held?;
+    if !is_key_due(release, &key, slot, turn) {
         return None;
     }
     entry.held = None;
-    Some(entry.member)
+    Some((key, entry.member))
 }
 
-// Whether the contents are the key, and released by the slot.
-fn is_held_due(held: &Option<(u64, Key)>, slot: u64, key: &Key) -> bool
-    ensures { result ≡ is_due key.now slot held.now }
+// Whether a key that waits is the turn's, and released by the slot.
+fn is_key_due(release: u64, key: &Key, slot: u64, turn: &Turn) -> bool
+    ensures { result ≡ is_due turn.now.0 slot (Some (release, key.now)) }
 {
-    match held {
-        Some((release, there)) => *release <= slot && *there == *key,
-        None => false,
-    }
+    release <= slot && turn.is_of(key)
 }

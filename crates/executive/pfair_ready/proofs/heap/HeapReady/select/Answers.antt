@@ -35,9 +35,9 @@ pub turns-preserved-in-Continue-branch-3 : goal.turns-preserved-in-Continue-bran
 turns-preserved-in-Continue-branch-3 g c =
     let given : List Key = map g.T.Given.key c.turns.first.items in
     let room : length given < c.args.m = omega (arith, length-map c.turns.first.items g.T.Given.key) in (
-      rw (one_more g.T.Given.key c.turns.first.items c.push.new.self.items c.of.result c.in-Some.key c.in_ok-push.ensures.items c.of.ensures)
+      rw (one_more g.T.Given.key c.turns.first.items c.push.new.self.items c.of.result c.in-Some.turn.0 c.in_ok-push.ensures.items (c.of.ensures ∙ c.in-Some-take.ensures.key))
           (taking_live c.args.slot c.args.m (length c.release.new.released) c.self.inside.waiting c.turns.self-inside.waiting c.turns.self-inside.calendar c.turns.self-inside.released given c.turns.invariant.0
-          (c.in-Some.key, c.in-Some.hint) c.pop.new.self c.in-Some.ensures.some c.in-Some.ensures.shorter c.take.new.self c.in-Some-take.ensures.content
+          c.in-Some.turn c.pop.new.self c.in-Some.ensures.some c.in-Some.ensures.shorter c.take.new.self c.in-Some-take.ensures.content
           room c.in-Some.ensures.first (sym c.in-Some-take.ensures.answer)),
       c.turns.invariant.1,
       omega (arith, c.turns.invariant.2, c.in_ok-push.ensures.capacity),
@@ -48,7 +48,7 @@ turns-preserved g c = (
   subst (λ (h : Queue). IsTaking c.args.slot c.args.m (length c.release.new.released) c.self.inside.waiting h c.turns.self-inside.calendar c.pop.new.self (map g.T.Given.key c.turns.first.items))
       (sym c.in_default-take.ensures.content)
       (taking_dead c.args.slot c.args.m (length c.release.new.released) c.self.inside.waiting c.turns.self-inside.waiting c.turns.self-inside.calendar c.turns.self-inside.released (map g.T.Given.key c.turns.first.items) c.turns.invariant.0
-      (c.in-Some.key, c.in-Some.hint) c.pop.new.self c.in-Some.ensures.some c.in-Some.ensures.shorter (sym c.in_default-take.ensures.answer)),
+      c.in-Some.turn c.pop.new.self c.in-Some.ensures.some c.in-Some.ensures.shorter (sym c.in_default-take.ensures.answer)),
   c.turns.invariant.1,
   c.turns.invariant.2,
 )

@@ -1,18 +1,17 @@
-use Rattle.std.proofs.Common.{◌≡◌, ◌==◌, ℕ, true, false, not, true≢false, refl, sym, ap, ◌∙◌}
+use Rattle.std.proofs.Common.{◌≡◌, ◌==◌, ℕ, false, not, true≢false, refl, sym, ap, ◌∙◌}
 use Rattle.std.specs.declared.cmp.Ordering.{Ordering}
 use Rattle.std.specs.declared.cmp.Ordering.TheVariants.{Less, Equal, Greater}
-use Rattle.std.specs.Ordering.{nat_cmp, ordering_index, ordering_then}
+use Rattle.std.specs.Ordering.{nat_cmp, ordering_index}
 use Rattle.std.specs.Cmp.{nat_cmp_total, tied_itself}
 use Rattle.pfair_weight.specs.Number.{IsNumber}
 use Rattle.pfair_weight.proofs.ByteOrder.{numbers_order}
 use Rattle.pfair_order.specs.Order.{tie_group_of}
 use Rattle.pfair_ready.specs.Turns.{key_numbered, turn_cmp}
 use Rattle.pfair_ready.proofs.turns.TurnOrd.cmp.Goals as goal
-use Rattle.pfair_ready.proofs.turns.TurnOrd.cmp.Goals.{After-ne-2}
 
 -- what decides at equal deadlines, b-bits and groups
 by_names : (d b g n h d' b' g' n' h' : ℕ) → d ≡ d' → b ≡ b' → nat_cmp (tie_group_of (key_numbered d' b' g' n')) (tie_group_of (key_numbered d b g n)) ≡ Equal → IsNumber n → IsNumber n'
-    → turn_cmp (key_numbered d b g n, h) (key_numbered d' b' g' n', h') ≡ ordering_then (nat_cmp n n') (nat_cmp g g')
+    → turn_cmp (key_numbered d b g n, h) (key_numbered d' b' g' n', h') ≡ nat_cmp n n'
 by_names d b g n h d' b' g' n' h' same_d same_b same_g p q =
     let one : nat_cmp d d' ≡ Equal = ap (nat_cmp d) (sym same_d) ∙ tied_itself nat_cmp_total d in
     let two : nat_cmp b' b ≡ Equal = ap (nat_cmp b') same_b ∙ tied_itself nat_cmp_total b' in
@@ -23,26 +22,12 @@ is_equal Less e = absurd (true≢false e)
 is_equal Equal e = refl
 is_equal Greater e = absurd (true≢false e)
 
-decided : (r s : Ordering) → not (ordering_index r == 1) ≡ true → ordering_then r s ≡ r
-decided Less s e = refl
-decided Equal s e = absurd (true≢false (sym e))
-decided Greater s e = refl
-
-chain : (c : After-ne-2) → turn_cmp c.args.self.now c.args.other.now ≡ ordering_then c.cmp-names.result (nat_cmp c.self.inside.group c.other.inside.group)
-chain c =
+pub returns : goal.returns
+returns c =
     let s = c.self.inside in
     let o = c.other.inside in
     let groups = (λ i. nat_cmp (tie_group_of (c.other.view_is i).0) (tie_group_of (c.self.view_is i).0)) ∙ (λ i. nat_cmp (sym c.tie_group.ensures i) (sym c.tie_group-2.ensures i))
     ∙ sym c.cmp-groups.ensures ∙ is_equal c.cmp-groups.result (sym c.ne.ensures ∙ c.if-ne.false) in
-    (λ i. turn_cmp (sym c.self.view_is i) (sym c.other.view_is i))
-    ∙ by_names s.d s.b s.group s.name s.hint o.d o.b o.group o.name o.hint c.if-self-other.false c.if-self-other-2.false groups c.self.invariant c.other.invariant
-    ∙ ap (λ r. ordering_then r (nat_cmp s.group o.group)) (sym c.cmp-names.ensures)
-
-pub returns-then-ne-2 : goal.returns-then-ne-2
-returns-then-ne-2 c =
-    sym (chain ((goal.at.returns-then-ne-2 c).After-ne-2) ∙ decided c.cmp-names.result (nat_cmp c.self.inside.group c.other.inside.group) (sym c.ne-2.ensures ∙ c.if-ne-2.true))
-
-pub returns : goal.returns
-returns c =
     c.cmp-2.ensures
-    ∙ sym (chain ((goal.at.returns c).After-ne-2) ∙ ap (λ r. ordering_then r (nat_cmp c.self.inside.group c.other.inside.group)) (is_equal c.cmp-names.result (sym c.ne-2.ensures ∙ c.if-ne-2.false)))
+    ∙ sym ((λ i. turn_cmp (sym c.self.view_is i) (sym c.other.view_is i))
+    ∙ by_names s.d s.b s.group s.name s.hint o.d o.b o.group o.name o.hint c.if-self-other.false c.if-self-other-2.false groups c.self.invariant c.other.invariant)

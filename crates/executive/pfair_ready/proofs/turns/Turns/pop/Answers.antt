@@ -7,10 +7,8 @@ use Rattle.pfair_ready.proofs.turns.Turns.pop.Goals as goal
 
 pub returns-clause-some : goal.returns-clause-some
 returns-clause-some c =
-    rw c.key_and_hint.ensures
-    (taken c.in_ok-turn.field-0 (heap_items c.self.inside.heap) (heap_items c.pop.new.self) c.args.self.now c.self.view_is c.in_ok-turn.ensures.permutation)
+    taken c.in_ok-turn.field-0 (heap_items c.self.inside.heap) (heap_items c.pop.new.self) c.args.self.now c.self.view_is c.in_ok-turn.ensures.permutation
 
 pub returns-clause-first : goal.returns-clause-first
 returns-clause-first c =
-    rw c.key_and_hint.ensures
-    (subst (IsFirst c.in_ok-turn.field-0.0) c.self.view_is (top_first c.in_ok-turn.field-0 (heap_items c.self.inside.heap) ((c.in_ok-turn.ensures.heap_order c.self.invariant).1)))
+    subst (IsFirst c.in_ok-turn.field-0.0) c.self.view_is (top_first c.in_ok-turn.field-0 (heap_items c.self.inside.heap) ((c.in_ok-turn.ensures.heap_order c.self.invariant).1))

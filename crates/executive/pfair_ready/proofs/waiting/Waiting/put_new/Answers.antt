@@ -6,6 +6,6 @@ use Rattle.pfair_ready.proofs.waiting.Waiting.put_new.Goals as goal
 
 pub returns-clause-put : goal.returns-clause-put
 returns-clause-put c =
-    queue_put c.self.inside.entries.entries c.insert.new.self.entries c.len.ensures.unique c.in_ok-insert.ensures.unique c.args.key.name (record { held = Some (c.args.release, c.args.key); member = c.args.member }) (c.args.release, c.args.key) refl
+    queue_put c.self.inside.entries.entries c.insert.new.self.entries c.len.ensures.unique c.in_ok-insert.ensures.unique c.args.key.now.name (record { held = Some (c.args.release, c.args.key.now); member = c.args.member }) (c.args.release, c.args.key.now) refl
     c.in_ok-insert.ensures.updates.0
-    ∙ ap (λ (h : Queue). finmap.insert h c.args.key.name (c.args.release, c.args.key)) (c.self.view_is ∙ c.drop_vacant.ensures)
+    ∙ ap (λ (h : Queue). finmap.insert h c.args.key.now.name (c.args.release, c.args.key.now)) (c.self.view_is ∙ c.drop_vacant.ensures)

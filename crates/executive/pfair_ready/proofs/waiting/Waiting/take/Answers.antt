@@ -9,5 +9,5 @@ use Rattle.pfair_ready.proofs.waiting.Waiting.take.Goals as goal
 pub returns-in_err-ready-clause-answer : goal.returns-in_err-ready-clause-answer
 returns-in_err-ready-clause-answer c =
     ap is_some c.from_residual.ensures
-    ∙ sym (ap (is_due c.args.key.now c.args.slot) (sym (ap (λ (h : Queue). finmap.get h c.args.key.now.name) c.self.view_is)
-    ∙ none_there c.self.inside.entries.entries c.args.key.now.name c.in_err-ready.ensures.unique c.in_err-ready.ensures.none))
+    ∙ sym (ap (is_due c.args.turn.now.0 c.args.slot) (sym (ap (λ (h : Queue). finmap.get h c.args.turn.now.0.name) c.self.view_is)
+    ∙ none_there c.self.inside.entries.entries c.args.turn.now.0.name c.in_err-ready.ensures.unique c.in_err-ready.ensures.none))
