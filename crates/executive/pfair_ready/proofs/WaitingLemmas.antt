@@ -17,8 +17,9 @@ use Rattle.indexmap.specs.IndexMap.{IndexMap, set_value_at, values, with_value_a
 use Rattle.indexmap.proofs.CallerLemmas.{keys-with_value_at, updates-with_value_at}
 use Rattle.pfair_order.specs.declared.Key.{Key}
 use Rattle.pfair_ready.specs.declared.waiting.Entry.{Entry}
+use Rattle.pfair_ready.specs.declared.waiting.Held.{Held}
 use Rattle.pfair_ready.specs.Names.{NameValue, name_cmp, name_eq}
-use Rattle.pfair_ready.specs.Waiting.{Entries, live, queue_in, with_entry, IsEntryOf}
+use Rattle.pfair_ready.specs.Waiting.{Entries, held_under, live, queue_in, with_entry, IsEntryOf}
 use Rattle.pfair_ready.proofs.Names.{names_total, names_exact, tied_names}
 
 module _ {X : Type 0} where
@@ -32,10 +33,14 @@ module _ {X : Type 0} where
   pub get_found : (es : List (NameValue × X)) (q : NameValue) → finmap.get (finmap.from_entries {R = name_cmp} es) q ≡ found es q
   get_found es q = get-from_entries names_total es q ∙ find_found es q
 
--- what a name's entry has, if there is one
-abbrev pub flat : Option Entry → Option (ℕ × Key)
-flat None = None
-flat (Some e) = e.held
+-- what waits under a name by its entry, if there is one
+abbrev pub flat : NameValue → Option Entry → Option (ℕ × Key)
+flat q None = None
+flat q (Some e) = held_under q e.held
+
+pub is_some_under : (q : NameValue) (o : Option Held) → is_some (held_under q o) ≡ is_some o
+is_some_under q None = refl
+is_some_under q (Some h) = refl
 
 abbrev pub at : Entries → NameValue → Option Entry
 at es q = lookup (name_eq q) es
@@ -46,24 +51,24 @@ other_entry n o es q e = grind (arith, tied_names)
 
 no_live : (es : Entries) (q : NameValue) → AllByRecursion (λ y. name_eq q y ≡ false) (keys_of es) → found (live es) q ≡ None
 no_live [] q h = refl
-no_live (e ∷ es) q h = other_entry e.0 e.1.held (live es) q h.0 ∙ no_live es q h.1
+no_live (e ∷ es) q h = other_entry e.0 (held_under e.0 e.1.held) (live es) q h.0 ∙ no_live es q h.1
 
 own_entry : (n : NameValue) (o : Option (ℕ × Key)) (es : List (NameValue × (ℕ × Key))) (q : NameValue) → name_eq q n ≡ true → found es q ≡ None → found (with_entry n o es) q ≡ o
 own_entry n o es q e none = grind (arith, tied_names)
 
-pub live_found : (es : Entries) (q : NameValue) → IsDistinct name_eq (keys_of es) → found (live es) q ≡ flat (at es q)
+pub live_found : (es : Entries) (q : NameValue) → IsDistinct name_eq (keys_of es) → found (live es) q ≡ flat q (at es q)
 unfolding IsDistinct
 live_found [] q h = refl
 live_found (e ∷ es) q h =
-    elim (name_eq q e.0) as (λ b. name_eq q e.0 ≡ b → found (with_entry e.0 e.1.held (live es)) q ≡ flat (cond b (Some e.1) (at es q))) [
+    elim (name_eq q e.0) as (λ b. name_eq q e.0 ≡ b → found (with_entry e.0 (held_under e.0 e.1.held) (live es)) q ≡ flat q (cond b (Some e.1) (at es q))) [
       | true ↦ λ t.
           let same : q ≡ e.0 = names_exact q e.0 ((Equal-is (name_cmp q e.0)).0 (tied_names q e.0 ∙ t)) in
-          own_entry e.0 e.1.held (live es) q t (subst (λ x. found (live es) x ≡ None) (sym same) (no_live es e.0 h.0))
-      | false ↦ λ t. other_entry e.0 e.1.held (live es) q t ∙ live_found es q h.1
+          own_entry e.0 (held_under e.0 e.1.held) (live es) q t (subst (λ x. found (live es) x ≡ None) (sym same) (no_live es e.0 h.0)) ∙ ap (λ n. held_under n e.1.held) (sym same)
+      | false ↦ λ t. other_entry e.0 (held_under e.0 e.1.held) (live es) q t ∙ live_found es q h.1
     ] refl
 
 -- what waits under a name
-pub queue_at : (es : Entries) (q : NameValue) → IsDistinct name_eq (keys_of es) → finmap.get (queue_in es) q ≡ flat (at es q)
+pub queue_at : (es : Entries) (q : NameValue) → IsDistinct name_eq (keys_of es) → finmap.get (queue_in es) q ≡ flat q (at es q)
 queue_at es q h = get_found (live es) q ∙ live_found es q h
 
 symm : (a b : NameValue) → is_at (name_cmp a) b ≡ name_eq b a
@@ -71,18 +76,24 @@ symm a b = (eq_by_cmp_equiv names_total).symm a b ∙ tied_names b a
 
 module _ (es fs : Entries) (one : IsDistinct name_eq (keys_of es)) (two : IsDistinct name_eq (keys_of fs)) where
   -- entries of which one name's is another make the map with that
-  pub queue_put : (s : NameValue) (w : Entry) (v : ℕ × Key) → w.held ≡ Some v → ((q : NameValue) → at fs q ≡ cond (name_eq s q) (Some w) (at es q)) → queue_in fs ≡ finmap.insert (queue_in es) s v
+  pub queue_put : (s : NameValue) (w : Entry) (v : ℕ × Key) → held_under s w.held ≡ Some v → ((q : NameValue) → at fs q ≡ cond (name_eq s q) (Some w) (at es q)) → queue_in fs ≡ finmap.insert (queue_in es) s v
   queue_put s w v has h = same_map names_total names_exact _ _ (λ q.
-      queue_at fs q two ∙ ap flat (h q)
-      ∙ elim (name_eq s q) as (λ b. flat (cond b (Some w) (at es q)) ≡ cond b (Some v) (flat (at es q))) [ true ↦ has | false ↦ refl ]
+      queue_at fs q two ∙ ap (flat q) (h q)
+      ∙ elim (name_eq s q) as (λ b. name_eq s q ≡ b → flat q (cond b (Some w) (at es q)) ≡ cond b (Some v) (flat q (at es q))) [
+        | true ↦ λ t. ap (λ n. held_under n w.held) (sym ((bytes_decides s q).0 t)) ∙ has
+        | false ↦ λ _. refl
+      ] refl
       ∙ ap (λ o. cond (name_eq s q) (Some v) o) (sym (queue_at es q one))
       ∙ sym (get-insert names_total (queue_in es) s v q ∙ ap (λ b. cond b (Some v) (finmap.get (queue_in es) q)) (symm q s)))
 
   -- or has none
-  pub queue_taken : (s : NameValue) (w : Option Entry) → flat w ≡ None → ((q : NameValue) → at fs q ≡ cond (name_eq s q) w (at es q)) → queue_in fs ≡ finmap.remove (queue_in es) s
+  pub queue_taken : (s : NameValue) (w : Option Entry) → flat s w ≡ None → ((q : NameValue) → at fs q ≡ cond (name_eq s q) w (at es q)) → queue_in fs ≡ finmap.remove (queue_in es) s
   queue_taken s w none h = same_map names_total names_exact _ _ (λ q.
-      queue_at fs q two ∙ ap flat (h q)
-      ∙ elim (name_eq s q) as (λ b. flat (cond b w (at es q)) ≡ cond b None (flat (at es q))) [ true ↦ none | false ↦ refl ]
+      queue_at fs q two ∙ ap (flat q) (h q)
+      ∙ elim (name_eq s q) as (λ b. name_eq s q ≡ b → flat q (cond b w (at es q)) ≡ cond b None (flat q (at es q))) [
+        | true ↦ λ t. ap (λ n. flat n w) (sym ((bytes_decides s q).0 t)) ∙ none
+        | false ↦ λ _. refl
+      ] refl
       ∙ ap (λ o. cond (name_eq s q) None o) (sym (queue_at es q one))
       ∙ sym (get-remove names_total (queue_in es) s q ∙ ap (λ b. cond b None (finmap.get (queue_in es) q)) (symm q s)))
 
@@ -93,7 +104,7 @@ live_kept (e ∷ es) = grind (arith, filter, live_kept es)
 
 -- nothing waits under a name that has no entry
 pub none_there : (es : Entries) (name : NameValue) → IsDistinct name_eq (keys_of es) → at es name ≡ None → finmap.get (queue_in es) name ≡ None
-none_there es name h none = queue_at es name h ∙ ap flat none
+none_there es name h none = queue_at es name h ∙ ap (flat name) none
 
 key_entry : (es : Entries) (i : ℕ) (d : NameValue) → i < length (keys_of es) → IsEntryOf es (get_or (keys_of es) i d) i
 key_entry [] i d h = absurd (omega (arith, h))
@@ -110,11 +121,11 @@ each_entry es n o e = grind (arith, entry_at)
 
 module _ (es : Entries) (name : NameValue) (h : IsDistinct name_eq (keys_of es)) where
   -- what an entry has waits under its name
-  pub held_there : (w : Entry) → at es name ≡ Some w → finmap.get (queue_in es) name ≡ w.held
-  held_there w e = queue_at es name h ∙ ap flat e
+  pub held_there : (w : Entry) → at es name ≡ Some w → finmap.get (queue_in es) name ≡ held_under name w.held
+  held_there w e = queue_at es name h ∙ ap (flat name) e
 
   pub contained : (w : Entry) (b : Bool) → at es name ≡ Some w → b ≡ is_some w.held → finmap.contains_key (queue_in es) name ≡ b
-  contained w b e is = ap is_some (held_there w e) ∙ sym is
+  contained w b e is = ap is_some (held_there w e) ∙ is_some_under name w.held ∙ sym is
 
   pub absent : at es name ≡ None → finmap.contains_key (queue_in es) name ≡ false
   absent none = ap is_some (none_there es name h none)
@@ -126,10 +137,10 @@ set_same (e ∷ es) (suc i) w at = ap (λ l. e ∷ l) (set_same es i w at)
 
 module _ {S : Type 0} (m : IndexMap NameValue Entry S) (i : ℕ) (name : NameValue) (unique : IsUnique name_eq m) (there : IsEntryOf m.entries name i) where
   -- what the entry has that is read at the index waits under its name
-  pub entry_read : (w : Entry) → Some w ≡ slice_get (values m) i → finmap.get (queue_in m.entries) name ≡ w.held
+  pub entry_read : (w : Entry) → Some w ≡ slice_get (values m) i → finmap.get (queue_in m.entries) name ≡ held_under name w.held
   entry_read w e =
       let same : there.0 ≡ w = same_Some there.0 w (sym (e ∙ slice_get-map (λ e. e.1) m.entries i ∙ ap (option_map (λ e. e.1)) there.1)) in
-      held_there m.entries name unique there.0 (hash_map_get_place nat_list_eq_equiv m i name there.0 unique there.1) ∙ ap (λ (e : Entry). e.held) same
+      held_there m.entries name unique there.0 (hash_map_get_place nat_list_eq_equiv m i name there.0 unique there.1) ∙ ap (λ (e : Entry). held_under name e.held) same
 
   -- if it is written back nothing changes
   pub entry_kept : (w : Entry) → Some w ≡ slice_get (values m) i → queue_in (with_value_at m i w).entries ≡ queue_in m.entries
@@ -139,9 +150,9 @@ module _ {S : Type 0} (m : IndexMap NameValue Entry S) (i : ℕ) (name : NameVal
   still_unique w = subst (IsDistinct name_eq) (sym (keys-with_value_at m i w)) unique
 
   -- another one in its place makes the map with that
-  pub entry_filled : (w : Entry) (v : ℕ × Key) → w.held ≡ Some v → queue_in (with_value_at m i w).entries ≡ finmap.insert (queue_in m.entries) name v
+  pub entry_filled : (w : Entry) (v : ℕ × Key) → held_under name w.held ≡ Some v → queue_in (with_value_at m i w).entries ≡ finmap.insert (queue_in m.entries) name v
   entry_filled w v has = queue_put m.entries (with_value_at m i w).entries unique (still_unique w) name w v has (updates-with_value_at m i w nat_list_eq_equiv unique name there.0 there.1).0
 
   -- or has none
   pub entry_vacated : (w : Entry) → w.held ≡ None → queue_in (with_value_at m i w).entries ≡ finmap.remove (queue_in m.entries) name
-  entry_vacated w none = queue_taken m.entries (with_value_at m i w).entries unique (still_unique w) name (Some w) none (updates-with_value_at m i w nat_list_eq_equiv unique name there.0 there.1).0
+  entry_vacated w none = queue_taken m.entries (with_value_at m i w).entries unique (still_unique w) name (Some w) (ap (held_under name) none) (updates-with_value_at m i w nat_list_eq_equiv unique name there.0 there.1).0

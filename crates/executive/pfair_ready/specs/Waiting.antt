@@ -1,11 +1,12 @@
 -- What waits under names, as a map of entries has it.
 use Rattle.std.specs.Prelude.{◌≡◌, ℕ, Bool, false, ◌&&◌, nat_le, Option, Some, None, List, [], ◌∷◌, slice_get}
 use Rattle.std.specs.FinMap as finmap
-use Rattle.std.specs.Option.{option_map_or}
+use Rattle.std.specs.Option.{option_map, option_map_or}
 use Rattle.std.specs.Ordering.{eq_by_cmp}
 use Rattle.pfair_order.specs.declared.Key.{Key}
 use Rattle.pfair_order.specs.Order.{pd2_cmp}
 use Rattle.pfair_ready.specs.declared.waiting.Entry.{Entry}
+use Rattle.pfair_ready.specs.declared.waiting.Held.{Held}
 use Rattle.pfair_ready.specs.Names.{NameValue}
 use Rattle.pfair_ready.specs.Queue.{Queue}
 
@@ -18,10 +19,18 @@ abbrev pub with_entry : NameValue → Option (ℕ × Key) → List (NameValue ×
 with_entry name None es = es
 with_entry name (Some v) es = (name, v) ∷ es
 
+-- the key that waits under a name
+abbrev pub key_under : NameValue → Held → Key
+key_under name h = record { d = h.d; b = h.b; group = h.group; name = name }
+
+-- with its release
+abbrev pub held_under : NameValue → Option Held → Option (ℕ × Key)
+held_under name = option_map (λ h. (h.release, key_under name h))
+
 -- the names under which something waits, with that
 abbrev pub live : Entries → List (NameValue × (ℕ × Key))
 live [] = []
-live (e ∷ es) = with_entry e.0 e.1.held (live es)
+live (e ∷ es) = with_entry e.0 (held_under e.0 e.1.held) (live es)
 
 abbrev pub queue_in : Entries → Queue
 queue_in es = finmap.from_entries (live es)

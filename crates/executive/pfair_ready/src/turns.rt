@@ -1,12 +1,12 @@
 //! The turns of released keys, the first in the PD2 order first.
-ghost use Rattle.std.specs.Prelude.{◌≡◌, ℕ, ◌+◌, ◌∷◌, [], Contains, IfNone, IfSome, OnOk, length};
+ghost use Rattle.std.specs.Prelude.{◌≡◌, ◌&&◌, ℕ, ◌+◌, ◌∷◌, [], Contains, IfNone, IfSome, OnOk, length, nat_eq};
 ghost use Rattle.std.specs.List.Sorted.{IsPermutation};
 ghost use Rattle.std.proofs.Common.{rules};
 ghost use Rattle.std.specs.Cmp.{eq_by_cmp_equiv, partial_equiv_from_equiv, partial_order_from_total};
 ghost use Rattle.std.specs.Cmp.Rules.{comparing};
 ghost use Rattle.std.specs.Ordering.{as_partial_cmp, eq_by_cmp};
 ghost use Rattle.pfair_order.specs.declared.Key.{Key};
-ghost use Rattle.pfair_order.specs.Order.{pd2_cmp, tie_group_of};
+ghost use Rattle.pfair_order.specs.Order.{tie_group_of};
 ghost use Rattle.pfair_ready.specs.Names.{name_eq};
 ghost use Rattle.pfair_ready.specs.Turns.{turn_cmp, turns_total, IsFirst};
 
@@ -76,11 +76,11 @@ impl Turn {
         name.number() == self.name
     }
 
-    /// Whether the turn is that of the key.
-    pub(crate) fn is_of(&self, key: &Key) -> bool
-        ensures { result ≡ eq_by_cmp pd2_cmp key.now self.now.0 }
+    /// Whether the key has these fields, beside its name.
+    pub(crate) fn is_at(&self, d: u64, b: u64, group: u64) -> bool
+        ensures { result ≡ (nat_eq d self.now.0.d && (nat_eq b self.now.0.b && nat_eq group self.now.0.group)) }
     {
-        key.d == self.d && key.b == self.b && key.group == self.group && self.is_named(&key.name)
+        d == self.d && b == self.b && group == self.group
     }
 
     // The group deadline if the order looks at it, else 0.

@@ -3,7 +3,7 @@ ghost use Rattle.std.specs.Prelude.{◌≡◌, ℕ, IfOk, IfSome, IfNone, OnErr,
 ghost use Rattle.std.specs.FinMap as finmap;
 ghost use Rattle.indexmap.specs.IndexMap.{get as at_name, IsUnique, Updates};
 ghost use Rattle.pfair_ready.specs.Names.{NameValue, name_eq};
-ghost use Rattle.pfair_ready.specs.Waiting.{is_due, queue_in, IsEntryOf};
+ghost use Rattle.pfair_ready.specs.Waiting.{is_due, key_under, queue_in, IsEntryOf};
 
 use crate::turns::Turn;
 use crate::{Seated, Seats};
@@ -13,10 +13,50 @@ use pfair_weight::TaskName;
 use std::alloc::{AllocError, Global};
 use std::marker::Model;
 
-// The release and the key that wait, and where the task stands in the caller's list.
+// A release and a key that wait, without the name under which they do.
+#[derive(Clone, Copy, Debug)]
+struct Held {
+    release: u64,
+    d: u64,
+    b: u64,
+    group: u64,
+}
+
+impl Held {
+    fn of(release: u64, key: &Key) -> Held
+        ensures { result ≡ record { release = release; d = key.now.d; b = key.now.b; group = key.now.group } }
+    {
+        Held {
+            release,
+            d: key.d,
+            b: key.b,
+            group: key.group,
+        }
+    }
+
+    fn key(&self, name: TaskName) -> Key
+        ensures { result ≡ key_under name self.now }
+    {
+        Key {
+            d: self.d,
+            b: self.b,
+            group: self.group,
+            name,
+        }
+    }
+
+    // Whether the key is the turn's, of the same name, and released by the slot.
+    fn is_due(&self, slot: u64, turn: &Turn) -> bool
+        ensures { result ≡ is_due turn.now.0 slot (Some (self.now.release, key_under turn.now.0.name self.now)) }
+    {
+        self.release <= slot && turn.is_at(self.d, self.b, self.group)
+    }
+}
+
+// What waits under a name, and where the task stands in the caller's list.
 #[derive(Clone, Copy, Debug)]
 struct Entry {
-    held: Option<(u64, Key)>,
+    held: Option<Held>,
     member: usize,
 }
 
@@ -63,7 +103,8 @@ impl Waiting {
     {
         // no name stands twice
         prove!(self.entries.len() < usize::MAX);
-        self.entries.get(name)?.held
+        let held = self.entries.get(name)?.held?;
+        Some((held.release, held.key(*name)))
     }
 
     /// Puts a release and a key under the key's name and returns where the name stands, or `None` if
@@ -98,7 +139,7 @@ impl Waiting {
         prove!(self.entries.len() < usize::MAX);
         let index = self.entries.len();
         let name = key.name;
-        let held = Some((release, *key));
+        let held = Some(Held::of(release, key));
         self.entries.insert(name, Entry { held, member })?;
         self.added = self.added.saturating_add(1);
         Ok(index)
@@ -111,11 +152,7 @@ impl Waiting {
         ensures content { self.new ≡ (if is_some result then finmap.remove self.old turn.now.0.name else self.old) }
     {
         let ready = find_turn(&self.entries, turn)?;
-        let (key, member) = vacate(&mut self.entries, ready, slot, turn)?;
-        Some(Seated {
-            key,
-            seats: Seats { ready, member },
-        })
+        vacate(&mut self.entries, ready, slot, turn)
     }
 
     /// Removes what waits under a name, and returns whether there was something.
@@ -183,7 +220,7 @@ fn fill(entries: &mut Entries, index: usize, member: usize, release: u64, key: &
     if entry.held.is_some() {
         return false;
     }
-    let held = Some((release, *key));
+    let held = Some(Held::of(release, key));
     *entry = Entry { held, member };
     true
 }
@@ -203,26 +240,24 @@ fn find_turn(entries: &Entries, turn: &Turn) -> Option<usize>
 }
 
 // Takes out what waits under a turn's name, whose entry is at the index, if it is the turn's key,
-// released by the slot. Returns it, and where its task stands in the caller's list.
-fn vacate(entries: &mut Entries, index: usize, slot: u64, turn: &Turn) -> Option<(Key, usize)>
-    requires { IsEntryOf entries.old.entries turn.now.0.name index }
+// released by the slot.
+fn vacate(entries: &mut Entries, ready: usize, slot: u64, turn: &Turn) -> Option<Seated>
+    requires { IsEntryOf entries.old.entries turn.now.0.name ready }
     ensures answer { is_some result ≡ is_due turn.now.0 slot (finmap.get (queue_in entries.old.entries) turn.now.0.name) }
-    ensures key { IfSome result (λ r. r.0 ≡ turn.now.0) }
+    ensures key { IfSome result (λ seated. seated.key ≡ turn.now.0) }
     ensures content { queue_in entries.new.entries ≡
         (if is_some result then finmap.remove (queue_in entries.old.entries) turn.now.0.name else queue_in entries.old.entries) }
 {
-    let entry = entries.get_index_mut(index)?;
-    let (release, key) = entry.held?;
-    if !is_key_due(release, &key, slot, turn) {
+    let name = *entries.get_index(ready)?.0;
+    let entry = entries.get_index_mut(ready)?;
+    let held = entry.held?;
+    if !held.is_due(slot, turn) {
         return None;
     }
     entry.held = None;
-    Some((key, entry.member))
-}
-
-// Whether a key that waits is the turn's, and released by the slot.
-fn is_key_due(release: u64, key: &Key, slot: u64, turn: &Turn) -> bool
-    ensures { result ≡ is_due turn.now.0 slot (Some (release, key.now)) }
-{
-    release <= slot && turn.is_of(key)
+    let member = entry.member;
+    Some(Seated {
+        key: held.key(name),
+        seats: Seats { ready, member },
+    })
 }

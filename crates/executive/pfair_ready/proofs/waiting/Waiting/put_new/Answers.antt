@@ -1,11 +1,14 @@
-use Rattle.std.proofs.Common.{Some, refl, ap, ◌∙◌}
+use Rattle.std.proofs.Common.{Some, ap, ◌∙◌}
 use Rattle.std.specs.FinMap as finmap
 use Rattle.pfair_ready.specs.Queue.{Queue}
+use Rattle.pfair_ready.specs.declared.waiting.Held.{Held}
+use Rattle.pfair_ready.specs.Waiting.{held_under}
 use Rattle.pfair_ready.proofs.WaitingLemmas.{queue_put}
 use Rattle.pfair_ready.proofs.waiting.Waiting.put_new.Goals as goal
 
 pub returns-clause-put : goal.returns-clause-put
 returns-clause-put c =
-    queue_put c.self.inside.entries.entries c.insert.new.self.entries c.len.ensures.unique c.in_ok-insert.ensures.unique c.args.key.now.name (record { held = Some (c.args.release, c.args.key.now); member = c.args.member }) (c.args.release, c.args.key.now) refl
+    queue_put c.self.inside.entries.entries c.insert.new.self.entries c.len.ensures.unique c.in_ok-insert.ensures.unique c.args.key.now.name (record { held = Some c.of.result; member = c.args.member }) (c.args.release, c.args.key.now)
+    (ap (λ (h : Held). held_under c.args.key.now.name (Some h)) c.of.ensures)
     c.in_ok-insert.ensures.updates.0
     ∙ ap (λ (h : Queue). finmap.insert h c.args.key.now.name (c.args.release, c.args.key.now)) (c.self.view_is ∙ c.drop_vacant.ensures)
