@@ -3,7 +3,7 @@ import types
 
 import pfair
 
-TYPES = "Counts Dispatcher Entry Faults Miss Planned Schedule Script Succession TakenCounts Violation"
+TYPES = "Counts Dispatcher Entry Faults Miss Planned Schedule Script State StateMember Succession TakenCounts Violation"
 CALLS = "arrive check depart first_late first_miss late promise read_task_file rows_of schedule succeed windows"
 TABLES = "BY_NUMBER DECISION ENTRY LAG MEMBER OUTCOMES QUANTUM WINDOW errors study"
 

@@ -108,14 +108,12 @@ def check_run(run, one, long, said):
     return run.left(members)
 
 
-def check_state(text, begin, processors, members):
-    first, *rows, end = text.decode().splitlines()
-    assert first == f"state,1,{begin},{processors},{FRAME}" and end == f"end,{len(rows) + 2}"
-    fields = members[["task", "cost", "period", "early", "joined", "next", "freed_at"]]
-    carried = [[name.decode(), *map(str, more)] for name, *more in fields.tolist()]
-    for row, departs in zip(carried, members["is_departing"].tolist()):
-        row[3], row[6] = ("false", "true")[int(row[3])], row[6] if departs else "-"
-    assert [row.split(",")[1:] for row in rows if row.startswith("member,")] == carried
+def check_state(state, begin, processors, members, ran):
+    assert state[:3] == (begin, processors, FRAME) and [(name.encode(), *more) for name, *more in state.ran] == ran
+    told = members[["task", "cost", "period", "early", "joined", "next", "freed_at", "is_departing", "theta"]].tolist()
+    for of, (name, *more, freed_at, departs, theta) in zip(state.members, told, strict=True):
+        assert of[:7] == (name.decode(), *more, freed_at if departs else None)
+        assert of.joined + sum(by for index, by in of.delays if index <= of.next) == theta
 
 
 def check_runs(lengths, processors, said, long):
@@ -128,10 +126,10 @@ def check_runs(lengths, processors, said, long):
         if begin == SLOTS:
             assert (rows == long.members()).all()
             break
-        before = one.members()
+        before, ran = one.members(), one.quanta(length - 1)[["task", "index", "place"]].tolist()
         one.next_run(lengths[place + 1])
         after = one.members()
-        check_state(one.state(), begin, processors, after)
+        check_state(pfair.State.of(one.state()), begin, processors, after, ran)
         if place % 2:
             one = pfair.Dispatcher.resume(one.state(), lengths[place + 1])
             assert (one.members() == after).all()
@@ -193,18 +191,25 @@ def test_a_state_is_refused():
         ("state,1,0,1,6\nend,3\n", pfair.StateRefused, "line 2: rows are missing"),
         ("state,1,824633720832,1,6\nend,2\n", pfair.PastLastSlot, ""),
     ):
-        refusal(kind, ": ".join(filter(None, (kind.text, where))), resume, text.encode(), 1)
+        told = ": ".join(filter(None, (kind.text, where)))
+        refusal(kind, told, resume, text.encode(), 1)
+        refusal(kind, told, pfair.State.of, text.encode())
     outside("slots", 0, resume, b"", 0, least=1, most=1_000_000)
+
+
+def test_the_fields_of_a_state():
+    text = b"state,1,9,1,6\nmember,a,1,6,true,0,2,-\nlate,a,1,2\nlate,a,3,4\nran,a,1,0\nend,6\n"
+    member = pfair.StateMember("a", 1, 6, True, 0, 2, None, ((1, 2), (3, 4)))
+    assert pfair.State.of(text) == pfair.State.of(bytearray(text)) == (9, 1, 6, (member,), (("a", 1, 0),))
+    assert pfair.State.of(b"state,1,824633720831,1,6\nend,2\n") == (824_633_720_831, 1, 6, (), ())
+    with pytest.raises(TypeError):
+        pfair.State.of(9)
 
 
 def test_what_a_next_run_begins_with():
     one = begun(pfair.arrive("a", 1, 2), pfair.arrive("b", 1, 4), pfair.depart("b", at=2), slots=5)
     one.plan()
-    before = one.members()
     one.forget(5)
     one.next_run(6)
     assert (one.slots, one.planned, one.frontier, one.missing(0)) == (6, 0, 0, 1)
-    after = one.members()
-    assert before["joined"].tolist() == [0] and after["joined"].tolist() == [4]
-    assert before["next"].tolist() == [4] and after["next"].tolist() == [2]
     refusal(pfair.NotPlanned, "the slot isn't planned, or is forgotten: slot 0", one.quanta, 0, 1)

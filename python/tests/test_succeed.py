@@ -44,17 +44,13 @@ def test_a_log_is_closed():
 
 
 def test_a_log_of_a_later_run_is_closed():
-    first = pfair.Script(2, 4, 5, [[*FULL[:2], pfair.promise(5)], [GAP[1], pfair.promise(5)]])
     one = pfair.Dispatcher(2, 4, 5)
-    for log, entries in enumerate(first.logs):
-        one.take_log(log, entries)
+    one.take_log(0, [*FULL[:2], pfair.promise(5)])
+    one.take_log(1, [GAP[1], pfair.promise(5)])
     one.plan()
     one.next_run(20)
     one.take(1, 1, pfair.promise(6))
-    with pytest.raises(pfair.CannotSucceed, match="^the runs before this one don't lead to its members$"):
-        pfair.succeed(one, 1)
-    log = [pfair.promise(6), *closing("bc", 8, 6)]
-    assert pfair.succeed(one, 1, before=[first]) == (log, 1, 6, 8, ["b", "c"])
+    assert pfair.succeed(one, 1) == ([pfair.promise(6), *closing("bc", 8, 6)], 1, 6, 8, ["b", "c"])
 
 
 # the contents of the dead one's log and of the other's, the capacity, the task's name, and who may depart

@@ -27,6 +27,7 @@ from ._first_miss import Miss, first_late, first_miss
 from ._library import DECISION, ENTRY, LAG, MEMBER, OUTCOMES, QUANTUM, WINDOW
 from ._plans import Planned
 from ._schedule import Counts, Schedule, schedule
+from ._state import State, StateMember
 from ._succeed import CannotSucceed, Succession, succeed
 from ._take import TakenCounts
 from ._task_file import read_task_file
@@ -35,9 +36,9 @@ from ._windows import windows
 
 __all__ = [
     "BY_NUMBER", "DECISION", "ENTRY", "LAG", "MEMBER", "OUTCOMES", "QUANTUM", "WINDOW", "Counts", "Dispatcher", "Entry",
-    "Faults", "Miss", "Planned", "Schedule", "Script", "Succession", "TakenCounts", "Violation", "arrive", "check",
-    "depart", "errors", "first_late", "first_miss", "late", "promise", "read_task_file", "rows_of", "schedule", "study",
-    "succeed", "windows",
+    "Faults", "Miss", "Planned", "Schedule", "Script", "State", "StateMember", "Succession", "TakenCounts", "Violation",
+    "arrive", "check", "depart", "errors", "first_late", "first_miss", "late", "promise", "read_task_file", "rows_of",
+    "schedule", "study", "succeed", "windows",
     "BadDelay", "BadIndex", "CannotCarry", "CannotSucceed", "CostOverPeriod", "EntryRefused", "FileTooLong",
     "KeyMissing", "KeyOutOfRange", "KeyWrongKind", "NameBadByte", "NameEmpty", "NameTooLong", "NoCycle", "NoStateRow",
     "NoSuchNumber", "NoSuchProcessor", "NotHeld", "NotOpen", "NotPlanned", "NotToml", "OtherShape", "OutOfMemory",

@@ -8,6 +8,7 @@ from ._dispatcher import Dispatcher
 from ._entries import Entry, Script, arrive, depart, promise
 from ._library import OUTCOMES
 from ._numbers import whole
+from ._state import State
 
 _NO_ROOM = 22
 
@@ -42,11 +43,7 @@ class Succession(NamedTuple):
 
 
 def succeed(
-    joined: Dispatcher,
-    processor: int,
-    name: Optional[str] = None,
-    victims: Optional[Sequence[str]] = None,
-    before: Sequence[Script] = (),
+    joined: Dispatcher, processor: int, name: Optional[str] = None, victims: Optional[Sequence[str]] = None
 ) -> Succession:
     """Closes the log of a dead processor, so that a task of weight 1 takes its place.
 
@@ -59,7 +56,8 @@ def succeed(
     Parameters
     ----------
     joined : Dispatcher
-        One that holds what all survivors hold, and what each of them announced. It stays as it is.
+        One that holds what all survivors hold, and what each of them announced. It stays as it is. In a later run it is
+        one that went on there by `Dispatcher.next_run`, or that `Dispatcher.resume` made of the run's state.
     processor : int
         The dead processor, from 0.
     name : str, optional
@@ -67,8 +65,6 @@ def succeed(
     victims : sequence of str, optional
         The tasks that may depart, in the order in which they do until there is room; names of tasks that can't depart
         are passed over. By default all: those that are free soonest go first, of these the heaviest.
-    before : sequence of Script
-        The finished runs before this one, each with its logs.
 
     Returns
     -------
@@ -78,20 +74,20 @@ def succeed(
     Raises
     ------
     CannotSucceed
-        If the log has too few free numbers, or ends the run already; the task isn't admitted in this run; a log has a
-        gap (of the dead one's a floor that falls); or `before` isn't what led to the members of `joined`.
+        If the log has too few free numbers, or ends the run already; the task isn't admitted in this run; or a log has
+        a gap (of the dead one's a floor that falls).
     Torn
         If a number is torn.
     PfairError
-        As `arrive`, `take_log`, `Dispatcher.plan` and `Dispatcher.next_run`.
+        As `arrive`, `take_log` and `Dispatcher.plan`.
 
     Notes
     -----
-    A look-up for each number of each log up to the capacity, and the cost of planning all runs up to the slot of the
-    admission, once for each victim and four times more.
+    A look-up for each number of each log up to the capacity, and the cost of planning the run up to the slot of the
+    admission, once for each victim and three times more.
     """
     dead = whole(processor, "processor", 0, joined.processors - 1)
-    heir, name = _Heir(joined, dead, before), f"down_{dead}" if name is None else name
+    heir, name = _Heir(joined, dead), f"down_{dead}" if name is None else name
     floor, freed = heir.floor, heir.freed(victims)
     chosen: list[str] = []
     while True:
@@ -111,31 +107,23 @@ def succeed(
 class _Heir:
     """Tries how the log of a dead processor may go on, each time in a dispatcher of its own."""
 
-    def __init__(self, joined: Dispatcher, dead: int, before: Sequence[Script]) -> None:
+    def __init__(self, joined: Dispatcher, dead: int) -> None:
         with joined._lock:
             processors, self.capacity = joined.processors, joined.capacity
             logs = [_log(joined, processor, processor == dead) for processor in range(processors)]
-            self.script, self.dead, self.before = Script(processors, joined.frame, joined.slots, logs), dead, before
-            self.log, self.origin = logs[dead], sum(script.slots for script in before)
-            self.floor = self.log[-1].floor if self.log else 0
-            if self.floor >= self.script.slots:
-                raise CannotSucceed(f"the log of processor {dead} ends the run: it can be closed in the next one")
-            with self.trial([], joined.planned) as trial:
-                if trial.members().tolist() != joined.members().tolist():
-                    raise CannotSucceed("the runs before this one don't lead to its members")
+            self.script, self.state = Script(processors, joined.frame, joined.slots, logs), joined.state()
+        self.dead, self.log, self.origin = dead, logs[dead], State.of(self.state).slot
+        self.floor = self.log[-1].floor if self.log else 0
+        if self.floor >= self.script.slots:
+            raise CannotSucceed(f"the log of processor {dead} ends the run: it can be closed in the next one")
 
     def trial(self, entries: Sequence[Entry], slots: int) -> Dispatcher:
         """Plans slots of the run, as if these entries closed the log and nothing else were announced any more."""
-        script, logs = self.script, [*self.script.logs]
+        logs = [*self.script.logs]
         logs[self.dead] = [*self.log, *entries]
-        runs = [*self.before, replace(script, logs=logs)]
-        trial = Dispatcher(script.processors, script.frame, runs[0].slots)
-        for place, run in enumerate(runs):
-            if place:
-                trial.plan()
-                trial.next_run(run.slots)
-            for processor in range(script.processors):
-                trial.take_log(processor, run.closed(processor))
+        run, trial = replace(self.script, logs=logs), Dispatcher.resume(self.state, self.script.slots)
+        for processor in range(run.processors):
+            trial.take_log(processor, run.closed(processor))
         if slots:
             trial.plan(slots)
         return trial
