@@ -4,32 +4,41 @@ By OPTIONS mosquitto_sub writes a line for each message: its topic, and its payl
 two lines could else pass for two messages.
 """
 import re
+import subprocess
 
 import pfair
 
-OPTIONS = ("-q", "1", "-t", "pfair/+/+", "-F", "%t %x")
-LINE = re.compile(rb"pfair/([^ /]*)/([^ /]*) ([0-9a-f]*)\n?")
+TOPICS = ("pfair/+/+/+", "pfair/digest/+", "pfair/state/+/+/hash")
+OPTIONS = ("-q", "1", *(word for topic in TOPICS for word in ("-t", topic)), "-F", "%t %x")
+LINE, NUMBER = re.compile(rb"pfair/([!-~]+) ([0-9a-f]*)\n?"), re.compile("0|[1-9][0-9]*")
 TEXTS, FIELDS = ("kind", "name"), ("at", "kind", "name", "cost", "period", "early", "index", "by")
 
 
 def message_of(line):
-    """Returns the two parts of a topic behind pfair/, and the payload; None if they aren't printable ASCII."""
+    """Returns the parts of a topic behind pfair/, and the payload; None if they aren't printable ASCII."""
     found = LINE.fullmatch(line)
-    parts = found and [found[1], found[2], bytes.fromhex(found[3].decode())]
-    if not found or not all(part.isascii() and part.decode().isprintable() for part in parts):
+    payload = found and bytes.fromhex(found[2].decode())
+    if not found or not payload.isascii() or not (payload.decode() or " ").isprintable():
         return None
-    return [part.decode() for part in parts]
-
-
-def is_row(sender, number, payload):
-    """Returns whether a message has the topic of its row's own key: who may publish there speaks for that processor."""
-    return (sender + number).isdigit() and payload.startswith(f"{sender},{number},")
+    return found[1].decode().split("/"), payload.decode()
 
 
 def number_of(text):
-    if not re.fullmatch("0|[1-9][0-9]*", text):
-        raise ValueError(f"{text!r} is no number of a row")
+    if not NUMBER.fullmatch(text):
+        raise ValueError(f"{text!r} is no number")
     return int(text)
+
+
+def key_of(topic, payload):
+    """Returns the run, the processor and the number of a row; None if a message has another topic than its row's key.
+
+    Who may publish under a topic speaks for that processor alone. What has no payload isn't kept any more.
+    """
+    try:
+        run, processor, number = map(number_of, topic)
+    except ValueError:
+        return None
+    return (run, processor, number) if not payload or payload.startswith(f"{processor},{number},") else None
 
 
 def take(dispatcher, row):
@@ -48,3 +57,10 @@ def take(dispatcher, row):
 def log_of(dispatcher, processor):
     """Returns the entries of a sound beginning."""
     return [dispatcher.held(processor, number + 1) for number in range(dispatcher.mark(processor)[1])]
+
+
+def rows_of(script, processor):
+    """Returns the rows of a processor's log in a script."""
+    how = {"input": script.text(), "stdout": subprocess.PIPE, "text": True, "check": True}
+    rows = subprocess.run(["pfair_follow", "entries", "/dev/stdin"], **how).stdout.splitlines()
+    return [row for row in rows if row.startswith(f"{processor},")]
