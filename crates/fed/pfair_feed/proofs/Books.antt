@@ -1,19 +1,24 @@
 -- Books of lags that are notified of some slots, and then of more.
-use Rattle.std.proofs.Common.{ℕ, ◌+◌, ◌-◌, ◌≤◌, ◌≡◌, refl, sym, ap, subst, ◌∙◌, arith, List, [], ◌∷◌, ◌++◌, length, min, take, drop, append_assoc}
-use Rattle.std.specs.Prelude.{max}
+use Rattle.std.proofs.Common.{ℕ, zero, suc, ◌<◌, map, ◌+◌, ◌-◌, ◌≤◌, ◌≡◌, refl, sym, ap, subst, ◌∙◌, arith, List, [], ◌∷◌, ◌++◌, length, min, take, drop, append_assoc, Option, None, Some}
+use Rattle.std.specs.Prelude.{max, slice_get}
+use Rattle.std.specs.Option.{option_map}
+use Rattle.std.proofs.lemmas.Option.{none-some, same_Some}
+use Rattle.pfair_admission.specs.Member.{Member}
+use Rattle.pfair_text.proofs.RowFacts.{first_left}
 use Rattle.std.proofs.Math.Seq.{take-add}
 use Rattle.std.proofs.lemmas.Bool.{cases_order}
 use Rattle.std.proofs.lemmas.List.{drop_all, length-take, take_all, take-append-drop, take-append-le}
 use Rattle.pfair_lag.specs.Book.{Book, empty_book}
 use Rattle.pfair_table.specs.declared.pick.Decided.{Decided}
 use Rattle.pfair_table.specs.Laws.{IsPrefixOf}
-use Rattle.pfair_table.specs.Table.{Table}
+use Rattle.pfair_table.specs.Table.{Origin, Table}
 use Rattle.pfair_table.specs.Refinement.{Dispatch}
 use Rattle.pfair_feed.specs.Follow.{IsGrown}
-use Rattle.pfair_output.specs.Told.{all_slots_told, book_rows, rows_told, slot_told}
+use Rattle.pfair_output.specs.Told.{all_entered, all_slots_told, book_rows, entered_again, first_book, rows_told, slot_told}
 use Rattle.pfair_output.proofs.ToldFacts.{time-all_told}
+use Rattle.pfair_output.proofs.WorldFacts.{entered_time}
 use Rattle.pfair_feed.specs.declared.output.Output.TheVariants.{Lags}
-use Rattle.pfair_feed.specs.Rows.{IsBookOf, book_before, rows_from}
+use Rattle.pfair_feed.specs.Rows.{IsBookIfAny, IsBookOf, book_before, rows_in}
 use Rattle.pfair_feed.proofs.Plans.{longer}
 
 pub told-append : (book : Book) (ds es : List (List Decided)) (ts us : List Table) → length ds ≡ length ts
@@ -46,43 +51,76 @@ joined xs early late h = sym (take-add early (late - early) xs) ∙ ap (λ n. ta
 left_at : {A : Type 0} (xs : List A) (n slot : ℕ) → n ≡ min slot (length xs) → drop n xs ≡ drop slot xs
 left_at xs n slot e = grind (arith, cases_order, drop_all)
 
-pub book_grown : (slot : ℕ) (ts us : List Table) (ds es : List (List Decided)) (book : Book) → length ts ≡ length ds → IsPrefixOf ts us → IsPrefixOf ds es → IsBookOf slot ts ds book → IsBookOf slot us es book
-book_grown slot ts us ds es book same more_ts more_ds b = grind (arith, take-append-le, longer)
+pub book_grown : (o : Origin) (slot : ℕ) (ts us : List Table) (ds es : List (List Decided)) (book : Book) → length ts ≡ length ds → IsPrefixOf ts us → IsPrefixOf ds es → IsBookOf o slot ts ds book → IsBookOf o slot us es book
+book_grown o slot ts us ds es book same more_ts more_ds b = grind (arith, take-append-le, longer)
 
 -- an entry was taken, and more is planned
-pub book_after_plans : (slot : ℕ) (d taken after : Dispatch) (book : Book) → length d.tables ≡ length d.decided → taken ≡ record d { held = taken.held } → IsGrown taken after
-    → IsBookOf slot d.tables d.decided book → IsBookOf slot after.tables after.decided book
-book_after_plans slot d taken after book same rest grown b =
-    book_grown slot d.tables after.tables d.decided after.decided book same
+pub book_after_plans : (slot : ℕ) (d taken after : Dispatch) (book : Option Book) → length d.tables ≡ length d.decided → taken ≡ record d { held = taken.held } → IsGrown taken after
+    → IsBookIfAny d.origin slot d.tables d.decided book → IsBookIfAny after.origin slot after.tables after.decided book
+book_after_plans slot d taken after None same rest grown b = tt
+book_after_plans slot d taken after (Some book) same rest grown b =
+    subst (λ (o : Origin). IsBookOf o slot after.tables after.decided book) (sym (grown.origin_is ∙ ap (λ (x : Dispatch). x.origin) rest))
+    (book_grown d.origin slot d.tables after.tables d.decided after.decided book same
     (subst (λ (l : List Table). IsPrefixOf l after.tables) (ap (λ (x : Dispatch). x.tables) rest) grown.tables_go_on)
-    (subst (λ (l : List (List Decided)). IsPrefixOf l after.decided) (ap (λ (x : Dispatch). x.decided) rest) grown.decided_go_on) b
+    (subst (λ (l : List (List Decided)). IsPrefixOf l after.decided) (ap (λ (x : Dispatch). x.decided) rest) grown.decided_go_on) b)
 
-module _ (ds : List (List Decided)) (ts : List Table) (same : length ts ≡ length ds) where
+-- ---- the book before a run's first slot
+
+entered_more : (slot : ℕ) (ms : List Member) (place : ℕ) (m : Member) (b : Book) → slice_get ms place ≡ Some m
+    → all_entered slot (take (place + 1) ms) b ≡ entered_again slot m (all_entered slot (take place ms) b)
+entered_more slot [] place m b at = absurd (none-some m at)
+entered_more slot (x ∷ ms) zero m b at = ap (λ (x : Member). entered_again slot x b) (same_Some x m at)
+entered_more slot (x ∷ ms) (suc place) m b at = grind (arith, entered_more slot ms place m (entered_again slot x b) at)
+
+pub entered_next : (slot : ℕ) (ms : List Member) (place : ℕ) (before after : Book) → place < length ms → before ≡ all_entered slot (take place ms) empty_book
+    → ((m : Member) → slice_get ms place ≡ Some m → after ≡ entered_again slot m before) → after ≡ all_entered slot (take (place + 1) ms) empty_book
+entered_next slot ms place before after inside is next =
+    let here = first_left ms place inside in
+    next here.0 here.1 ∙ ap (entered_again slot here.0) is ∙ sym (entered_more slot ms place here.0 empty_book here.1)
+
+pub first_time : (o : Origin) → (first_book o).time ≡ 0
+first_time None = refl
+first_time (Some c) = entered_time c.slot c.members empty_book
+
+pub begun_with : (o : Origin) (slot : ℕ) (ms : List Member) (book : Book) → Some ms ≡ option_map (λ c. c.members) o → Some slot ≡ option_map (λ c. c.slot) o → book ≡ all_entered slot ms empty_book → book ≡ first_book o
+begun_with None slot ms book members_are slot_is made = absurd (none-some ms (sym members_are))
+begun_with (Some c) slot ms book members_are slot_is made = grind arith
+
+pub book_first : (o : Origin) (slot : ℕ) (ts : List Table) (ds : List (List Decided)) (book : Book) → book ≡ first_book o → IsBookOf o slot ts ds book
+book_first o slot ts ds book is =
+    let none : book.time ≡ 0 = ap (λ (b : Book). b.time) is ∙ first_time o in
+    record {
+      early = omega (arith, none);
+      there = omega (arith, none);
+      told_is = is ∙ sym (ap (λ n. all_slots_told (first_book o) (take n ds) (take n ts)) none);
+    }
+
+module _ (o : Origin) (ds : List (List Decided)) (ts : List Table) (same : length ts ≡ length ds) where
   -- a book that catches up to a slot
-  pub caught_up : (slot : ℕ) (b0 b1 : Book) → IsBookOf slot ts ds b0 → b1 ≡ all_slots_told b0 (take (slot - b0.time) (drop b0.time ds)) (take (slot - b0.time) (drop b0.time ts)) → b1 ≡ book_before slot ts ds
+  pub caught_up : (slot : ℕ) (b0 b1 : Book) → IsBookOf o slot ts ds b0 → b1 ≡ all_slots_told b0 (take (slot - b0.time) (drop b0.time ds)) (take (slot - b0.time) (drop b0.time ts)) → b1 ≡ book_before o slot ts ds
   caught_up slot b0 b1 b e = e ∙ ap (λ (book : Book). all_slots_told book (take (slot - b0.time) (drop b0.time ds)) (take (slot - b0.time) (drop b0.time ts))) b.told_is ∙ from b0.time b.early
     where
-      from : (early : ℕ) → early ≤ slot → all_slots_told (book_before early ts ds) (take (slot - early) (drop early ds)) (take (slot - early) (drop early ts)) ≡ book_before slot ts ds
+      from : (early : ℕ) → early ≤ slot → all_slots_told (book_before o early ts ds) (take (slot - early) (drop early ds)) (take (slot - early) (drop early ts)) ≡ book_before o slot ts ds
       from early h =
           let n = length-take early ds in
           let m = length-take early ts in
-          sym (told-append empty_book (take early ds) (take (slot - early) (drop early ds)) (take early ts) (take (slot - early) (drop early ts)) (omega arith))
-          ∙ (λ i. all_slots_told empty_book (joined ds early slot h i) (joined ts early slot h i))
+          sym (told-append (first_book o) (take early ds) (take (slot - early) (drop early ds)) (take early ts) (take (slot - early) (drop early ts)) (omega arith))
+          ∙ (λ i. all_slots_told (first_book o) (joined ds early slot h i) (joined ts early slot h i))
 
-  time_before : (slot : ℕ) → (book_before slot ts ds).time ≡ min slot (length ts)
-  time_before slot = grind (arith, length-take, time-told)
+  time_before : (slot : ℕ) → (book_before o slot ts ds).time ≡ min slot (length ts)
+  time_before slot = grind (arith, length-take, time-told, first_time)
 
   -- the rows from there on
-  pub rows_on : (slot : ℕ) (b1 : Book) → b1 ≡ book_before slot ts ds → rows_told b1 (drop b1.time ds) (drop b1.time ts) ≡ rows_from Lags slot ts ds
+  pub rows_on : (slot : ℕ) (b1 : Book) → b1 ≡ book_before o slot ts ds → rows_told b1 (drop b1.time ds) (drop b1.time ts) ≡ rows_in o Lags slot ts ds
   rows_on slot b1 e = grind (arith, e, time_before, left_at)
 
   -- the book after all slots
-  pub all_told_before : (slot : ℕ) → all_slots_told (book_before slot ts ds) (drop slot ds) (drop slot ts) ≡ all_slots_told empty_book ds ts
+  pub all_told_before : (slot : ℕ) → all_slots_told (book_before o slot ts ds) (drop slot ds) (drop slot ts) ≡ all_slots_told (first_book o) ds ts
   all_told_before slot =
       let n = length-take slot ds in
       let m = length-take slot ts in
-      sym (told-append empty_book (take slot ds) (drop slot ds) (take slot ts) (drop slot ts) (omega arith))
-      ∙ (λ i. all_slots_told empty_book (take-append-drop slot ds i) (take-append-drop slot ts i))
+      sym (told-append (first_book o) (take slot ds) (drop slot ds) (take slot ts) (drop slot ts) (omega arith))
+      ∙ (λ i. all_slots_told (first_book o) (take-append-drop slot ds i) (take-append-drop slot ts i))
 
-  pub book_whole : (slot : ℕ) (b1 b2 : Book) → b1 ≡ book_before slot ts ds → b2 ≡ all_slots_told b1 (drop b1.time ds) (drop b1.time ts) → IsBookOf (max slot (length ts)) ts ds b2
-  book_whole slot b1 b2 e e' = grind (arith, e, time_before, left_at, all_told_before, time-told, take_all)
+  pub book_whole : (slot : ℕ) (b1 b2 : Book) → b1 ≡ book_before o slot ts ds → b2 ≡ all_slots_told b1 (drop b1.time ds) (drop b1.time ts) → IsBookOf o (max slot (length ts)) ts ds b2
+  book_whole slot b1 b2 e e' = grind (arith, e, time_before, left_at, all_told_before, time-told, first_time, take_all)

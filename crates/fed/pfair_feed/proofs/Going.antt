@@ -1,6 +1,7 @@
 -- Followers that go on, one step after another.
-use Rattle.std.proofs.Common.{ℕ, ◌≡◌, refl, sym, ap, subst, ◌∙◌, arith, List, [], ◌++◌, length, Option, Some, None}
+use Rattle.std.proofs.Common.{ℕ, ◌≡◌, refl, sym, ap, subst, ◌∙◌, arith, List, [], ◌++◌, length, Option, Some, None, Result, Ok, Err}
 use Rattle.std.specs.Prelude.{max}
+use Rattle.std.specs.Result.{IsErrAnd}
 use Rattle.std.specs.Io.KnownBytes.{Appends, Keeps}
 use Rattle.std.proofs.lemmas.List.{append-nil, length-map}
 use Rattle.csv.proofs.WriteFacts.{appends-more}
@@ -21,6 +22,11 @@ keeps_all None new bs e k = tt
 keeps_all (Some xs) None bs e k = k
 keeps_all (Some xs) (Some ys) bs e k = k ∙ sym (append-nil xs) ∙ ap (λ l. xs ++ l) (sym e)
 
+-- the fault that a function passes on
+pub own_err : {T E : Type 0} (r : Result T E) (own e : E) → IsErrAnd r (λ x. x ≡ own) → r ≡ Err e → own ≡ e
+own_err (Ok x) own e is same = absurd is
+own_err (Err d) own e is same = let h : d ≡ e = cc same in sym is ∙ h
+
 -- nothing happens
 pub stays : (f : Follow) (old new : Option (List ℕ)) → IsCaughtUp f → Keeps old new → HasGoneOn f f old new
 stays f old new caught k = record {
@@ -29,12 +35,12 @@ stays f old new caught k = record {
   caught_up = caught;
   told_is = (let h = caught.all_told in omega (arith, h));
   sound = λ none. none;
-  written = keeps_all old new (news f f) (ap lines_text (none_behind f.output f.told f.dispatch.tables f.dispatch.decided (even f.dispatch caught.whole) caught.all_told)) k;
+  written = keeps_all old new (news f f) (ap lines_text (none_behind f.dispatch.origin f.output f.told f.dispatch.tables f.dispatch.decided (even f.dispatch caught.whole) caught.all_told)) k;
 }
 
-news_more : (f g h : Follow) → g.output ≡ f.output → g.told ≡ max f.told (length g.dispatch.tables) → length g.dispatch.tables ≡ length g.dispatch.decided
+news_more : (f g h : Follow) → g.output ≡ f.output → h.dispatch.origin ≡ g.dispatch.origin → g.told ≡ max f.told (length g.dispatch.tables) → length g.dispatch.tables ≡ length g.dispatch.decided
     → IsPrefixOf g.dispatch.tables h.dispatch.tables → IsPrefixOf g.dispatch.decided h.dispatch.decided → news f g ++ news g h ≡ news f h
-news_more f g h output told same p q = grind (arith, lines_text-append, rows_go_on)
+news_more f g h output origins told same p q = grind (arith, lines_text-append, rows_go_on)
 
 -- one step more
 pub gone_trans : (f g h : Follow) (u v w : Option (List ℕ)) → HasGoneOn f g u v → HasGoneOn g h v w → HasGoneOn f h u w
@@ -54,6 +60,6 @@ gone_trans f g h u v w a b =
       told_is = told;
       sound = λ none. b.sound (a.sound none);
       written = subst (λ (text : List ℕ). Appends u w text)
-          (news_more f g h a.output_is a.told_is (even g.dispatch a.caught_up.whole) b.grown.tables_go_on b.grown.decided_go_on)
+          (news_more f g h a.output_is b.grown.origin_is a.told_is (even g.dispatch a.caught_up.whole) b.grown.tables_go_on b.grown.decided_go_on)
           (appends-more u v w (news f g) (news g h) a.written b.written);
     }

@@ -1,9 +1,9 @@
 -- Lines that are fed, byte after byte, where only the first bytes of the open line are kept.
-use Rattle.std.proofs.Common.{ℕ, suc, true, Bool, ◌+◌, ◌≡◌, ◌≢◌, ◌≤◌, ◌<◌, refl, sym, ap, subst, ◌∙◌, arith, inl, inr, List, [], ◌∷◌, ◌++◌, length, take, drop, drop-cons, get_or, Option, Some, Result, Ok, Err, append_assoc}
+use Rattle.std.proofs.Common.{ℕ, suc, true, false, Bool, ◌+◌, ◌≡◌, ◌≢◌, ◌≤◌, ◌<◌, refl, sym, ap, subst, ◌∙◌, arith, inl, inr, List, [], ◌∷◌, ◌++◌, length, take, drop, drop-cons, get_or, Option, Some, Result, Ok, Err, append_assoc}
 use Rattle.std.specs.Prelude.{◌⊎◌, IfErr, slice_get}
 use Rattle.std.specs.Result.{IsErrAnd}
 use Rattle.std.specs.List.{AllByRecursion, flat_map}
-use Rattle.std.specs.Io.KnownBytes.{Consumes}
+use Rattle.std.specs.Io.KnownBytes.{Consumes, IsAtEnd}
 use Rattle.std.proofs.KnownBytes.{Consumes-nil, Consumes-trans, Keeps-refl}
 use Rattle.std.proofs.lemmas.Bool.{cases_lt}
 use Rattle.std.proofs.lemmas.Grind.{flat_map-append}
@@ -11,9 +11,9 @@ use Rattle.std.proofs.lemmas.List.{append-nil, length-append, length-drop, lengt
 use Rattle.pfair_entry_row.specs.Laws.{RowsAreShort}
 use Rattle.pfair_replica.specs.HeldRows.{SameShape, replica_of}
 use Rattle.pfair_replica.specs.Replica.{Replica}
-use Rattle.pfair_feed.specs.Follow.{Follow}
+use Rattle.pfair_feed.specs.Follow.{Follow, IsPlannedOut}
 use Rattle.pfair_file.specs.ProgramFaults.{is_refusal}
-use Rattle.pfair_feed.specs.Feeding.{AreFedBytes, AreLines, AreTakenFrom, IsCaughtUp, IsFedLine, IsLeft, IsOneLine, IsStopped, IsTakenFrom, IsWelcome, ended, question}
+use Rattle.pfair_feed.specs.Feeding.{AreFedBytes, AreLines, AreTakenFrom, AreWelcome, IsCaughtUp, IsFedLine, IsFedTo, IsLeft, IsOneLine, IsStopped, IsTakenFrom, IsWelcome, ended, question}
 use Rattle.pfair_file.specs.declared.program_fault.ProgramFault.{ProgramFault}
 use Rattle.pfair_file.specs.declared.program_fault.ProgramFault.TheVariants.{ReadFailed}
 use Rattle.pfair_feed.proofs.Going.{gone_trans, stays}
@@ -220,6 +220,38 @@ module _ (s : Bool) (given : Option (List ℕ)) (before : Follow) (u : Option (L
           (subst (λ (next : Option ℕ). IsLeft kept next e f g v w) (ap (λ b. Some b) (sym at) ∙ sym (ap (λ (l : List ℕ). slice_get l 0) (next_left piece i inside)))
           (subst (λ (l : List ℕ). IsLeft l (Some byte) e f g v w) is is_left))
           (λ refused same. asked refused (is ∙ same))
+
+-- ---- whole inputs
+
+module _ (s : Bool) (given left : Option (List ℕ)) (before after : Follow) (u w : Option (List ℕ)) where
+  all_bytes : (fed : IsFedTo s false given left before after u w) → IsAtEnd left × (fed.more ≡ [])
+  all_bytes fed = elim fed.end [
+    | inl end ↦ end
+    | inr last ↦ absurd (let h : false ≡ true = last.0 in cc h)
+  ]
+
+  read_all : (fed : IsFedTo s false given left before after u w) → Consumes given left fed.bytes
+  read_all fed = subst (λ (l : List ℕ). Consumes given left l) (ap (λ (l : List ℕ). fed.bytes ++ l) (all_bytes fed).1 ∙ append-nil fed.bytes) fed.read
+
+  pub to_its_end : IsFedTo s false given left before after u w → (bytes : List ℕ) × (rest : List ℕ) × Consumes given left bytes × IsAtEnd left × AreFedBytes bytes before after u w rest
+  to_its_end fed = (fed.bytes, fed.rest, read_all fed, (all_bytes fed).0, fed.fed)
+
+  pub to_its_end_welcome : IsFedTo s false given left before after u w → s ≡ true
+      → (bytes : List ℕ) × (rest : List ℕ) × Consumes given left bytes × AreWelcome before.dispatch.held.processors before.dispatch.held.capacity bytes rest
+  to_its_end_welcome fed is = (fed.bytes, fed.rest, read_all fed, fed.welcome is)
+
+-- what has been fed, at its end
+pub fed_to : (s to_last : Bool) (more : List ℕ) (given left : Option (List ℕ)) (kept : List ℕ) (f g : Follow) (u w : Option (List ℕ)) → IsFedBut s more given left kept f g u w
+    → (IsAtEnd left × (more ≡ [])) ⊎ ((to_last ≡ true) × IsPlannedOut g) → IsFedTo s to_last given left f g u w
+fed_to s to_last more given left kept f g u w a end = record {
+  bytes = a.bytes;
+  more = more;
+  rest = a.rest;
+  read = a.read;
+  fed = a.fed;
+  end = end;
+  welcome = λ is. record { lines = a.fed.lines; are_lines = a.fed.are_lines; each = a.welcome is };
+}
 
 -- the fault that a function passes on
 pub if_err : {T E : Type 0} (P : E → Type 0) (r : Result T E) (own : E) → IsErrAnd r (λ e. e ≡ own) → P own → IfErr r P

@@ -7,7 +7,7 @@ use Rattle.pfair_table.specs.Refinement.{Dispatch, IsWholePlan, course_of}
 use Rattle.pfair_table.specs.Table.{Origin, table_from, plan, plan_from, decisions, decisions_from, Settings}
 use Rattle.pfair_table.proofs.Runs.{length_numbers}
 use Rattle.std.specs.Prelude.{fold}
-use Rattle.pfair_table.specs.Events.{Course, start}
+use Rattle.pfair_table.specs.Events.{Course, begin_at}
 
 pub so_many : {A : Type 0} (f : ℕ → A) (n : ℕ) → length (map f (numbers_below n)) ≡ n
 so_many f n = length-map (numbers_below n) f ∙ length_numbers n
@@ -37,8 +37,8 @@ least_none least (m ∷ marks) e = least_none (min least m) marks (omega arith)
 frontier_none : (processors capacity : ℕ) → frontier (empty_replica processors capacity) ≡ 0
 frontier_none processors capacity = least_none (mark (empty_replica processors capacity) 0) (map (mark (empty_replica processors capacity)) (numbers_below processors)) (mark_none processors capacity 0)
 
-pub whole_start : (d : Dispatch) (s : Settings) (capacity : ℕ) → course_of d ≡ start s capacity → IsWholePlan d
-whole_start d s capacity course =
+pub whole_start : (o : Origin) (d : Dispatch) (s : Settings) (capacity : ℕ) → course_of d ≡ begin_at o s capacity → IsWholePlan d
+whole_start o d s capacity course =
     let held : replica_of d.held ≡ empty_replica s.processors capacity = ap (λ (c : Course). c.held) course in
     let settled : frontier (replica_of d.held) ≡ 0 = ap frontier held ∙ frontier_none s.processors capacity in
     let none : min (frontier (replica_of d.held)) d.settings.slots ≡ 0 = omega (arith, settled) in

@@ -103,7 +103,7 @@ order_is_nothing least processors capacity es fs y z all_es all_fs es_fs fs_es t
 -- ---- the whole text
 
 pub text_is_whole : WholeRows → WholeText
-text_is_whole whole bytes rest f g old new none fed = grind (arith, whole)
+text_is_whole whole bytes rest f g old new first none fed = grind (arith, whole)
 
 -- ---- what some entries leave is the least that has them
 
@@ -299,6 +299,6 @@ fed_entries_give_their_text schedule whole run capacity bytes rest lines f g bef
     let set : g.dispatch.settings ≡ run.settings = fed.fed.gone_on.grown.settings_are ∙ fresh.settings_are in
     let out : g.output ≡ f.output = fed.fed.gone_on.output_is in
     let text : line (header_of f.output) ++ news f g ≡ text_of f.output run.settings (replica_of_logs run.logs) =
-    ap (λ (o : Output). line (header_of o) ++ news f g) (sym out) ∙ whole bytes rest f g begun after told fed
+    ap (λ (o : Output). line (header_of o) ++ news f g) (sym out) ∙ whole bytes rest f g begun after (ap (λ (c : Course). c.origin) fresh.course_is) told fed
     ∙ (λ i. text_of (out i) (set i) (replica_of g.dispatch.held)) ∙ gave.1.texts_are f.output in
     (subst (λ (l : List ℕ). Appends before after l) text (appends-more before begun after (line (header_of f.output)) (news f g) head fed.fed.gone_on.written), gave.1)

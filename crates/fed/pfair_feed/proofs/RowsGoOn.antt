@@ -4,8 +4,8 @@ use Rattle.std.proofs.Math.Seq.{drop-append_seam}
 use Rattle.std.proofs.lemmas.Bool.{cases_order}
 use Rattle.std.proofs.lemmas.List.{drop_all, drop-append-le, length-drop, take_all, take-append-le}
 use Rattle.pfair_table.specs.declared.pick.Decided.{Decided}
-use Rattle.pfair_table.specs.Table.{Table}
-use Rattle.pfair_table.specs.Places.{places_after, places_from, places_of}
+use Rattle.pfair_table.specs.Table.{Origin, Table}
+use Rattle.pfair_table.specs.Places.{places_after, places_from, places_in, places_of}
 use Rattle.pfair_output.specs.Slots.{slots_from}
 use Rattle.pfair_output.specs.Replay.{placed_table_rows, table_rows}
 use Rattle.pfair_output.specs.Decisions.{decided_rows}
@@ -14,7 +14,7 @@ use Rattle.pfair_output.proofs.WorldFacts.{whole_rows}
 use Rattle.pfair_feed.specs.declared.output.Output.{Output}
 use Rattle.pfair_feed.specs.declared.output.Output.TheVariants.{Tables, PlacedTables, Decisions, Lags}
 use Rattle.pfair_feed.specs.RowLaws.{RowsGoOn, WholeRows}
-use Rattle.pfair_feed.specs.Rows.{book_before, rows_from, header_of}
+use Rattle.pfair_feed.specs.Rows.{book_before, rows_in, header_of}
 use Rattle.pfair_text.specs.Rows.{lines_text}
 use Rattle.pfair_feed.proofs.Books.{all_told_before, rows-append}
 use Rattle.pfair_feed.proofs.Planned.{decided_first, tables_first}
@@ -45,28 +45,28 @@ places_first before places [] ys t h = absurd (omega arith)
 places_first before places (x ∷ xs) ys zero h = refl
 places_first before places (x ∷ xs) ys (suc t) h = places_first x (places_after before places x) xs ys t (omega arith)
 
-placed_same : (ts more : List Table) (slot : ℕ) → slot ≤ length ts
-    → slots_from (placed_table_rows (places_of (ts ++ more))) slot (drop slot ts) ≡ slots_from (placed_table_rows (places_of ts)) slot (drop slot ts)
-placed_same ts more slot h = grind (arith, length-drop, slots_same, places_first)
+placed_same : (o : Origin) (ts more : List Table) (slot : ℕ) → slot ≤ length ts
+    → slots_from (placed_table_rows (places_in o (ts ++ more))) slot (drop slot ts) ≡ slots_from (placed_table_rows (places_in o ts)) slot (drop slot ts)
+placed_same o ts more slot h = grind (arith, length-drop, slots_same, places_first)
 
 -- ---- the law
 
-going : (output : Output) (slot : ℕ) (ts more : List Table) (ds rest : List (List Decided)) → length ts ≡ length ds → slot ≤ length ts
-    → rows_from output slot (ts ++ more) (ds ++ rest) ≡ rows_from output slot ts ds ++ rows_from output (length ts) (ts ++ more) (ds ++ rest)
-going Tables slot ts more ds rest same h = slots_on table_rows slot ts more h
-going PlacedTables slot ts more ds rest same h = grind (arith, slots_on, placed_same)
-going Decisions slot ts more ds rest same h = grind (arith, slots_on)
-going Lags slot ts more ds rest same h = grind (arith, length-drop, take-append-le, take_all, drop-append_seam, drop-append-le, rows-append, all_told_before)
+going : (o : Origin) (output : Output) (slot : ℕ) (ts more : List Table) (ds rest : List (List Decided)) → length ts ≡ length ds → slot ≤ length ts
+    → rows_in o output slot (ts ++ more) (ds ++ rest) ≡ rows_in o output slot ts ds ++ rows_in o output (length ts) (ts ++ more) (ds ++ rest)
+going o Tables slot ts more ds rest same h = slots_on table_rows slot ts more h
+going o PlacedTables slot ts more ds rest same h = grind (arith, slots_on, placed_same)
+going o Decisions slot ts more ds rest same h = grind (arith, slots_on)
+going o Lags slot ts more ds rest same h = grind (arith, length-drop, take-append-le, take_all, drop-append_seam, drop-append-le, rows-append, all_told_before)
 
 -- behind the first ones they have no rows
-pub none_behind : (output : Output) (slot : ℕ) (ts : List Table) (ds : List (List Decided)) → length ts ≡ length ds → length ts ≤ slot → rows_from output slot ts ds ≡ []
-none_behind Tables slot ts ds same h = ap (slots_from table_rows slot) (drop_all slot ts h)
-none_behind PlacedTables slot ts ds same h = ap (slots_from (placed_table_rows (places_of ts)) slot) (drop_all slot ts h)
-none_behind Decisions slot ts ds same h = ap (slots_from decided_rows slot) (drop_all slot ds (omega arith))
-none_behind Lags slot ts ds same h = ap (λ (l : List (List Decided)). rows_told (book_before slot ts ds) l (drop slot ts)) (drop_all slot ds (omega arith))
+pub none_behind : (o : Origin) (output : Output) (slot : ℕ) (ts : List Table) (ds : List (List Decided)) → length ts ≡ length ds → length ts ≤ slot → rows_in o output slot ts ds ≡ []
+none_behind o Tables slot ts ds same h = ap (slots_from table_rows slot) (drop_all slot ts h)
+none_behind o PlacedTables slot ts ds same h = ap (slots_from (placed_table_rows (places_in o ts)) slot) (drop_all slot ts h)
+none_behind o Decisions slot ts ds same h = ap (slots_from decided_rows slot) (drop_all slot ds (omega arith))
+none_behind o Lags slot ts ds same h = ap (λ (l : List (List Decided)). rows_told (book_before o slot ts ds) l (drop slot ts)) (drop_all slot ds (omega arith))
 
 pub rows_go_on : RowsGoOn
-rows_go_on output slot ts more ds rest same = grind (arith, cases_order, none_behind, going)
+rows_go_on o output slot ts more ds rest same = grind (arith, cases_order, none_behind, going)
 
 -- ---- whole plans
 

@@ -1,5 +1,5 @@
 -- Two runs whose followers hold what agrees have written texts of which one begins the other.
-use Rattle.std.proofs.Common.{ℕ, ◌<◌, ◌≡◌, inl, inr, refl, sym, ap, subst, ◌∙◌, arith, List, [], ◌∷◌, ◌++◌, length, map, None, Some, slice_get, suc, ◌≤◌}
+use Rattle.std.proofs.Common.{ℕ, ◌<◌, ◌≡◌, inl, inr, refl, sym, ap, subst, ◌∙◌, arith, List, [], ◌∷◌, ◌++◌, length, map, Some, slice_get, suc, ◌≤◌}
 use Rattle.std.specs.Prelude.{◌⊎◌, max}
 use Rattle.std.specs.List.{AllByRecursion}
 use Rattle.std.proofs.lemmas.Bool.{cases_order}
@@ -12,14 +12,14 @@ use Rattle.pfair_table.specs.declared.pick.Decided.{Decided}
 use Rattle.pfair_table.specs.Events.{Course}
 use Rattle.pfair_table.specs.Laws.{IsOf, IsPrefixOf, OneTable}
 use Rattle.pfair_table.specs.Refinement.{Dispatch, HavePlannedAlike, IsWholePlan}
-use Rattle.pfair_table.specs.Table.{Settings, Origin, Table, decisions, decisions_from, table, table_from}
+use Rattle.pfair_table.specs.Table.{Settings, Origin, Table, decisions_from, table_from}
 use Rattle.pfair_replica.proofs.OfferedTo.{offered_stays}
 use Rattle.pfair_feed.specs.declared.output.Output.{Output}
 use Rattle.pfair_feed.specs.Follow.{Follow, news, HaveToldAlike}
-use Rattle.pfair_feed.specs.Rows.{rows_from}
+use Rattle.pfair_feed.specs.Rows.{rows_in}
 use Rattle.pfair_feed.specs.Feeding.{AreTakenFrom}
 use Rattle.pfair_feed.specs.Laws.{RunsWriteAlike}
-use Rattle.pfair_feed.specs.RoundTrip.{IsNew, IsPlaced, Placed}
+use Rattle.pfair_feed.specs.RoundTrip.{IsBegun, IsPlaced, Placed}
 use Rattle.pfair_feed.proofs.Going.{even}
 use Rattle.pfair_feed.proofs.OneWay.{heads}
 use Rattle.pfair_feed.proofs.RoundTrip.{held_after}
@@ -37,18 +37,18 @@ first_of_other (x ∷ xs) (y ∷ ys) h same =
     let first : x ≡ y = same_Some x y (same 0 (omega arith)) in
     (rest.0, λ i. first i ∷ rest.1 i)
 
-pub rows_of_more : (output : Output) (slot : ℕ) (ts us : List Table) (ds es : List (List Decided)) → length ts ≡ length ds → IsPrefixOf ts us → IsPrefixOf ds es
-    → IsPrefixOf (rows_from output slot ts ds) (rows_from output slot us es)
-rows_of_more output slot ts us ds es same p q =
-    (rows_from output (max slot (length ts)) (ts ++ p.0) (ds ++ q.0), sym (rows_go_on output slot ts p.0 ds q.0 same) ∙ (λ i. rows_from output slot (p.1 i) (q.1 i)))
+pub rows_of_more : (o : Origin) (output : Output) (slot : ℕ) (ts us : List Table) (ds es : List (List Decided)) → length ts ≡ length ds → IsPrefixOf ts us → IsPrefixOf ds es
+    → IsPrefixOf (rows_in o output slot ts ds) (rows_in o output slot us es)
+rows_of_more o output slot ts us ds es same p q =
+    (rows_in o output (max slot (length ts)) (ts ++ p.0) (ds ++ q.0), sym (rows_go_on o output slot ts p.0 ds q.0 same) ∙ (λ i. rows_in o output slot (p.1 i) (q.1 i)))
 
-begins : (output : Output) (slot : ℕ) (ts us : List Table) (ds es : List (List Decided)) → length ts ≡ length ds → length us ≡ length es → length ts ≤ length us
+begins : (o : Origin) (output : Output) (slot : ℕ) (ts us : List Table) (ds es : List (List Decided)) → length ts ≡ length ds → length us ≡ length es → length ts ≤ length us
     → ((t : ℕ) → t < length ts → t < length us → slice_get ts t ≡ slice_get us t) → ((t : ℕ) → t < length ts → t < length us → slice_get ds t ≡ slice_get es t)
-    → IsPrefixOf (rows_from output slot ts ds) (rows_from output slot us es)
-begins output slot ts us ds es same same' h tables decided = grind (arith, rows_of_more, first_of_other)
+    → IsPrefixOf (rows_in o output slot ts ds) (rows_in o output slot us es)
+begins o output slot ts us ds es same same' h tables decided = grind (arith, rows_of_more, first_of_other)
 
-pub told_alike : (f g : Follow) → length f.dispatch.tables ≡ length f.dispatch.decided → length g.dispatch.tables ≡ length g.dispatch.decided → f.dispatch.origin ≡ g.dispatch.origin → HavePlannedAlike f.dispatch g.dispatch → HaveToldAlike f g
-told_alike f g same same' origins planned output settings agree slot =
+pub told_alike : (f g : Follow) → length f.dispatch.tables ≡ length f.dispatch.decided → length g.dispatch.tables ≡ length g.dispatch.decided → HavePlannedAlike f.dispatch g.dispatch → HaveToldAlike f g
+told_alike f g same same' planned output settings origins agree slot =
     let c = f.dispatch in
     let d = g.dispatch in
     elim (cases_order (length f.dispatch.tables) (length g.dispatch.tables)) [
@@ -57,17 +57,17 @@ told_alike f g same same' origins planned output settings agree slot =
       | inr (inr m) ↦ inr (longer (omega (arith, m)))
     ]
   where
-    shorter : length f.dispatch.tables ≤ length g.dispatch.tables → IsPrefixOf (rows_from f.output slot f.dispatch.tables f.dispatch.decided) (rows_from g.output slot g.dispatch.tables g.dispatch.decided)
+    shorter : length f.dispatch.tables ≤ length g.dispatch.tables → IsPrefixOf (rows_in f.dispatch.origin f.output slot f.dispatch.tables f.dispatch.decided) (rows_in g.dispatch.origin g.output slot g.dispatch.tables g.dispatch.decided)
     shorter h =
-        let p = begins f.output slot f.dispatch.tables g.dispatch.tables f.dispatch.decided g.dispatch.decided same same' h
+        let p = begins f.dispatch.origin f.output slot f.dispatch.tables g.dispatch.tables f.dispatch.decided g.dispatch.decided same same' h
         (λ t l m. (let a = planned settings origins agree t l m in a.0 ∙ sym a.1)) (λ t l m. (let a = planned settings origins agree t l m in a.2 ∙ sym a.3)) in
-        (p.0, p.1 ∙ ap (λ (o : Output). rows_from o slot g.dispatch.tables g.dispatch.decided) output)
+        (p.0, p.1 ∙ (λ i. rows_in (origins i) (output i) slot g.dispatch.tables g.dispatch.decided))
 
-    longer : length g.dispatch.tables ≤ length f.dispatch.tables → IsPrefixOf (rows_from g.output slot g.dispatch.tables g.dispatch.decided) (rows_from f.output slot f.dispatch.tables f.dispatch.decided)
+    longer : length g.dispatch.tables ≤ length f.dispatch.tables → IsPrefixOf (rows_in g.dispatch.origin g.output slot g.dispatch.tables g.dispatch.decided) (rows_in f.dispatch.origin f.output slot f.dispatch.tables f.dispatch.decided)
     longer h =
-        let p = begins g.output slot g.dispatch.tables f.dispatch.tables g.dispatch.decided f.dispatch.decided same' same h
+        let p = begins g.dispatch.origin g.output slot g.dispatch.tables f.dispatch.tables g.dispatch.decided f.dispatch.decided same' same h
         (λ t m l. (let a = planned settings origins agree t l m in a.1 ∙ sym a.0)) (λ t m l. (let a = planned settings origins agree t l m in a.3 ∙ sym a.2)) in
-        (p.0, p.1 ∙ ap (λ (o : Output). rows_from o slot f.dispatch.tables f.dispatch.decided) (sym output))
+        (p.0, p.1 ∙ (λ i. rows_in (sym origins i) (sym output i) slot f.dispatch.tables f.dispatch.decided))
 
 -- ---- whether one of two texts begins the other can be seen
 
@@ -118,21 +118,21 @@ of_nothing s capacity = grind arith
 inside_of : {A : Type 0} (f : ℕ → A) (n t : ℕ) (xs : List A) → xs ≡ map f (numbers_below n) → t < length xs → t < n
 inside_of f n t xs e l = (let a = ap length e ∙ so_many f n in omega (arith, a, l))
 
-module _ (d : Dispatch) (first : d.origin ≡ None) (whole : IsWholePlan d) (t : ℕ) where
-  planned_there : t < length d.tables → (t < frontier (replica_of d.held)) × (slice_get d.tables t ≡ Some (table d.settings (replica_of d.held) t)) × (slice_get d.decided t ≡ Some (decisions d.settings (replica_of d.held) t))
+module _ (d : Dispatch) (whole : IsWholePlan d) (t : ℕ) where
+  planned_there : t < length d.tables → (t < frontier (replica_of d.held)) × (slice_get d.tables t ≡ Some (table_from d.origin d.settings (replica_of d.held) t))
+      × (slice_get d.decided t ≡ Some (decisions_from d.origin d.settings (replica_of d.held) t))
   planned_there l = grind (arith, inside_of, get_numbers)
 
-planned_alike : OneTable → (s : Settings) (c d : Dispatch) → c.settings ≡ s → c.origin ≡ None → d.origin ≡ None → IsWholePlan c → IsWholePlan d → IsOf s (replica_of c.held) → IsOf s (replica_of d.held) → HavePlannedAlike c d
-planned_alike law s c d set first first' whole whole' of of' settings origins agree t l m =
-    let here = planned_there c first whole t l in
-    let there = planned_there d first' whole' t m in
-    let set' : d.settings ≡ s = sym settings ∙ set in
-    let same = law None s (replica_of c.held) (replica_of d.held) of of' agree t here.0 there.0 in
-    let tables : table d.settings (replica_of d.held) t ≡ table c.settings (replica_of c.held) t = ap (λ (r : Settings). table r (replica_of d.held) t) set' ∙ sym same.0 ∙ ap (λ (r : Settings). table r (replica_of c.held) t) (sym set) in
-    let decided : decisions d.settings (replica_of d.held) t ≡ decisions c.settings (replica_of c.held) t = ap (λ (r : Settings). decisions r (replica_of d.held) t) set' ∙ sym same.1 ∙ ap (λ (r : Settings). decisions r (replica_of c.held) t) (sym set) in
-    let own = ap (λ (o : Origin). Some (table_from o c.settings (replica_of c.held) t)) (sym first) in
-    let own' = ap (λ (o : Origin). Some (decisions_from o c.settings (replica_of c.held) t)) (sym first) in
-    (here.1 ∙ own, there.1 ∙ ap Some tables ∙ own, here.2 ∙ own', there.2 ∙ ap Some decided ∙ own')
+planned_alike : OneTable → (s : Settings) (c d : Dispatch) → c.settings ≡ s → IsWholePlan c → IsWholePlan d → IsOf s (replica_of c.held) → IsOf s (replica_of d.held) → HavePlannedAlike c d
+planned_alike law s c d set whole whole' of of' settings origins agree t l m =
+    let here = planned_there c whole t l in
+    let there = planned_there d whole' t m in
+    let same = law c.origin s (replica_of c.held) (replica_of d.held) of of' agree t here.0 there.0 in
+    let tables : table_from d.origin d.settings (replica_of d.held) t ≡ table_from c.origin c.settings (replica_of c.held) t =
+    (λ i. table_from (sym origins i) ((sym settings ∙ set) i) (replica_of d.held) t) ∙ sym same.0 ∙ ap (λ (r : Settings). table_from c.origin r (replica_of c.held) t) (sym set) in
+    let decided : decisions_from d.origin d.settings (replica_of d.held) t ≡ decisions_from c.origin c.settings (replica_of c.held) t =
+    (λ i. decisions_from (sym origins i) ((sym settings ∙ set) i) (replica_of d.held) t) ∙ sym same.1 ∙ ap (λ (r : Settings). decisions_from c.origin r (replica_of c.held) t) (sym set) in
+    (here.1, there.1 ∙ ap Some tables, here.2, there.2 ∙ ap Some decided)
 
 -- ---- the law
 
@@ -141,13 +141,13 @@ begin_text : (xs ys : List (List (List ℕ))) → IsPrefixOf xs ys → IsPrefixO
 begin_text xs ys p = (lines_text p.0, sym (lines_text-append xs p.0) ∙ ap lines_text p.1)
 
 pub runs_write_alike : OneTable → RunsWriteAlike
-runs_write_alike law s capacity capacity' bytes bytes' rest rest' f g f' g' old new old' new' fresh fresh' output told a b agree =
+runs_write_alike law o s capacity capacity' bytes bytes' rest rest' f g f' g' old new old' new' fresh fresh' output told a b agree =
     begin_seen (news f g) (news f' g') (λ none.
     brought a.lines (replica_of f.dispatch.held) (replica_of g.dispatch.held) a.fed.held_is (λ es all left.
     brought b.lines (replica_of f'.dispatch.held) (replica_of g'.dispatch.held) b.fed.held_is (λ es' all' left'.
     none (alike es es' all all' left left'))))
   where
-    of : (capacity : ℕ) (f g : Follow) (es : List Placed) → IsNew s capacity f → AllByRecursion IsPlaced es → replica_of g.dispatch.held ≡ held_after (replica_of f.dispatch.held) es → IsOf s (replica_of g.dispatch.held)
+    of : (capacity : ℕ) (f g : Follow) (es : List Placed) → IsBegun o s capacity f → AllByRecursion IsPlaced es → replica_of g.dispatch.held ≡ held_after (replica_of f.dispatch.held) es → IsOf s (replica_of g.dispatch.held)
     of capacity f g es fresh all left =
         subst (λ (x : Replica). IsOf s x) (sym (left ∙ ap (λ (x : Replica). held_after x es) (ap (λ (c : Course). c.held) fresh.course_is)))
         (of_settings s (empty_replica s.processors capacity) es (of_nothing s capacity) all)
@@ -158,19 +158,19 @@ runs_write_alike law s capacity capacity' bytes bytes' rest rest' f g f' g' old 
         let set : g.dispatch.settings ≡ s = a.fed.gone_on.grown.settings_are ∙ fresh.settings_are in
         let set' : g'.dispatch.settings ≡ s = b.fed.gone_on.grown.settings_are ∙ fresh'.settings_are in
         let outputs : g.output ≡ g'.output = a.fed.gone_on.output_is ∙ output ∙ sym b.fed.gone_on.output_is in
-        let first = a.fed.gone_on.caught_up.first in
-        let first' = b.fed.gone_on.caught_up.first in
+        let begun : g.dispatch.origin ≡ o = a.fed.gone_on.grown.origin_is ∙ ap (λ (c : Course). c.origin) fresh.course_is in
+        let begun' : g'.dispatch.origin ≡ o = b.fed.gone_on.grown.origin_is ∙ ap (λ (c : Course). c.origin) fresh'.course_is in
         let whole = a.fed.gone_on.caught_up.whole in
         let whole' = b.fed.gone_on.caught_up.whole in
-        let planned = planned_alike law s g.dispatch g'.dispatch set first first' whole whole' (of capacity f g es fresh all left) (of capacity' f' g' es' fresh' all' left') in
-        let rows = told_alike g g' (even g.dispatch whole) (even g'.dispatch whole') (first ∙ sym first') planned outputs (set ∙ sym set') agree f.told in
-        let here : lines_text (rows_from g.output f.told g.dispatch.tables g.dispatch.decided) ≡ news f g =
-        ap (λ (o : Output). lines_text (rows_from o f.told g.dispatch.tables g.dispatch.decided)) a.fed.gone_on.output_is in
-        let there : lines_text (rows_from g'.output f.told g'.dispatch.tables g'.dispatch.decided) ≡ news f' g' =
-        (λ i. lines_text (rows_from (b.fed.gone_on.output_is i) (told i) g'.dispatch.tables g'.dispatch.decided)) in
-        let begin : Begin (lines_text (rows_from g.output f.told g.dispatch.tables g.dispatch.decided)) (lines_text (rows_from g'.output f.told g'.dispatch.tables g'.dispatch.decided)) =
+        let planned = planned_alike law s g.dispatch g'.dispatch set whole whole' (of capacity f g es fresh all left) (of capacity' f' g' es' fresh' all' left') in
+        let rows = told_alike g g' (even g.dispatch whole) (even g'.dispatch whole') planned outputs (set ∙ sym set') (begun ∙ sym begun') agree f.told in
+        let here : lines_text (rows_in g.dispatch.origin g.output f.told g.dispatch.tables g.dispatch.decided) ≡ news f g =
+        ap (λ (o : Output). lines_text (rows_in g.dispatch.origin o f.told g.dispatch.tables g.dispatch.decided)) a.fed.gone_on.output_is in
+        let there : lines_text (rows_in g'.dispatch.origin g'.output f.told g'.dispatch.tables g'.dispatch.decided) ≡ news f' g' =
+        (λ i. lines_text (rows_in g'.dispatch.origin (b.fed.gone_on.output_is i) (told i) g'.dispatch.tables g'.dispatch.decided)) in
+        let begin : Begin (lines_text (rows_in g.dispatch.origin g.output f.told g.dispatch.tables g.dispatch.decided)) (lines_text (rows_in g'.dispatch.origin g'.output f.told g'.dispatch.tables g'.dispatch.decided)) =
         elim rows [
-          | inl p ↦ inl (begin_text (rows_from g.output f.told g.dispatch.tables g.dispatch.decided) (rows_from g'.output f.told g'.dispatch.tables g'.dispatch.decided) p)
-          | inr p ↦ inr (begin_text (rows_from g'.output f.told g'.dispatch.tables g'.dispatch.decided) (rows_from g.output f.told g.dispatch.tables g.dispatch.decided) p)
+          | inl p ↦ inl (begin_text (rows_in g.dispatch.origin g.output f.told g.dispatch.tables g.dispatch.decided) (rows_in g'.dispatch.origin g'.output f.told g'.dispatch.tables g'.dispatch.decided) p)
+          | inr p ↦ inr (begin_text (rows_in g'.dispatch.origin g'.output f.told g'.dispatch.tables g'.dispatch.decided) (rows_in g.dispatch.origin g.output f.told g.dispatch.tables g.dispatch.decided) p)
         ] in
-        subst (λ (l : List ℕ). Begin l (news f' g')) here (subst (λ (l : List ℕ). Begin (lines_text (rows_from g.output f.told g.dispatch.tables g.dispatch.decided)) l) there begin)
+        subst (λ (l : List ℕ). Begin l (news f' g')) here (subst (λ (l : List ℕ). Begin (lines_text (rows_in g.dispatch.origin g.output f.told g.dispatch.tables g.dispatch.decided)) l) there begin)

@@ -1,7 +1,7 @@
 -- What lines bring to a follower, and what is written of it.
-use Rattle.std.specs.Prelude.{ℕ, false, true, ◌≡◌, ◌≢◌, ◌≤◌, ◌<◌, ◌⊎◌, List, [], ◌∷◌, ◌++◌, length, max, take, slice_get, Option, Some, None}
+use Rattle.std.specs.Prelude.{ℕ, Bool, false, true, ◌≡◌, ◌≢◌, ◌≤◌, ◌<◌, ◌⊎◌, List, [], ◌∷◌, ◌++◌, length, max, take, slice_get, Option, Some, None}
 use Rattle.std.specs.List.{AllByRecursion, flat_map}
-use Rattle.std.specs.Io.KnownBytes.{Appends, Keeps}
+use Rattle.std.specs.Io.KnownBytes.{Appends, Consumes, IsAtEnd, Keeps}
 use Rattle.pfair_entry.specs.Entry.{Logged}
 use Rattle.pfair_entry_row.specs.Row.{entry_row, IsEntryAt}
 use Rattle.pfair_replica.specs.HeldRows.{replica_of}
@@ -15,7 +15,7 @@ use Rattle.pfair_entry_row.specs.declared.fault.RowFault.TheVariants.{NoRow}
 use Rattle.pfair_file.specs.ProgramFaults.{is_refusal}
 use Rattle.pfair_file.specs.declared.program_fault.ProgramFault.{ProgramFault}
 use Rattle.pfair_file.specs.declared.program_fault.ProgramFault.TheVariants.{Memory, ReadFailed, Row, WriteFailed}
-use Rattle.pfair_feed.specs.Follow.{Follow, IsGrown, IsStopOf, news}
+use Rattle.pfair_feed.specs.Follow.{Follow, IsGrown, IsPlannedOut, IsStopOf, news}
 
 -- ---- lines
 
@@ -47,9 +47,8 @@ AreTakenFrom (line ∷ lines) before after = (mid : Replica) × IsTakenFrom line
 
 -- ---- what is planned and written
 
--- the plan of a first run is whole, and the book was notified of all of it
+-- the plan is whole, and all of it is told
 pub record IsCaughtUp (f : Follow) : Type 0 where
-  pub first : f.dispatch.origin ≡ None
   pub whole : IsWholePlan f.dispatch
   pub all_told : length f.dispatch.tables ≤ f.told
 
@@ -99,6 +98,19 @@ pub record AreWelcome (processors capacity : ℕ) (bytes rest : List ℕ) : Type
   pub lines : List (List ℕ)
   pub are_lines : AreLines bytes lines rest
   pub each : AllByRecursion (IsWelcome processors capacity) lines
+
+-- ---- inputs
+
+-- What was fed of the bytes that a reader gave: all to its end; or, if the run ends with its last slot, those up to the line with which all
+-- slots were planned. In a strict run no line of them is refused.
+pub record IsFedTo (is_strict to_last : Bool) (given left : Option (List ℕ)) (before after : Follow) (old new : Option (List ℕ)) : Type 0 where
+  pub bytes : List ℕ
+  pub more : List ℕ
+  pub rest : List ℕ
+  pub read : Consumes given left (bytes ++ more)
+  pub fed : AreFedBytes bytes before after old new rest
+  pub end : (IsAtEnd left × (more ≡ [])) ⊎ ((to_last ≡ true) × IsPlannedOut after)
+  pub welcome : is_strict ≡ true → AreWelcome before.dispatch.held.processors before.dispatch.held.capacity bytes rest
 
 -- ---- faults
 

@@ -17,7 +17,7 @@ use Rattle.pfair_feed.specs.declared.output.Output.{Output}
 use Rattle.pfair_feed.specs.declared.output.Output.TheVariants.{Lags}
 use Rattle.pfair_file.specs.declared.program_fault.ProgramFault.{ProgramFault}
 use Rattle.pfair_file.specs.declared.program_fault.ProgramFault.TheVariants.{NoSuchProcessor, NumberOutOfRange, Torn, Spent, WriteFailed, Memory}
-use Rattle.pfair_feed.specs.Rows.{rows_from}
+use Rattle.pfair_feed.specs.Rows.{rows_in}
 
 -- a follower, as a contract sees it: what it writes, its dispatcher, and the first slot whose rows are still to be written
 pub record Follow : Type 0 where
@@ -27,7 +27,11 @@ pub record Follow : Type 0 where
 
 -- the text of what is planned afterwards and was not told before
 abbrev pub news : Follow → Follow → List ℕ
-news before after = lines_text (rows_from before.output before.told after.dispatch.tables after.dispatch.decided)
+news before after = lines_text (rows_in after.dispatch.origin before.output before.told after.dispatch.tables after.dispatch.decided)
+
+-- all slots of the run are planned
+abbrev pub IsPlannedOut : Follow → Type 0
+IsPlannedOut f = f.dispatch.settings.slots ≤ length f.dispatch.tables
 
 -- ---- plans
 
@@ -106,9 +110,9 @@ missing_of s x k =
 
 -- ---- two followers
 
--- If settings, outputs and contents agree, the rows of what one has planned, from any slot on, begin those of the other.
+-- If settings, beginnings, outputs and contents agree, the rows of what one has planned, from any slot on, begin those of the other.
 abbrev pub HaveToldAlike : Follow → Follow → Type 0
 HaveToldAlike f g =
-    f.output ≡ g.output → f.dispatch.settings ≡ g.dispatch.settings → Agree (replica_of f.dispatch.held) (replica_of g.dispatch.held) → (slot : ℕ)
-    → IsPrefixOf (rows_from f.output slot f.dispatch.tables f.dispatch.decided) (rows_from g.output slot g.dispatch.tables g.dispatch.decided)
-    ⊎ IsPrefixOf (rows_from g.output slot g.dispatch.tables g.dispatch.decided) (rows_from f.output slot f.dispatch.tables f.dispatch.decided)
+    f.output ≡ g.output → f.dispatch.settings ≡ g.dispatch.settings → f.dispatch.origin ≡ g.dispatch.origin → Agree (replica_of f.dispatch.held) (replica_of g.dispatch.held) → (slot : ℕ)
+    → IsPrefixOf (rows_in f.dispatch.origin f.output slot f.dispatch.tables f.dispatch.decided) (rows_in g.dispatch.origin g.output slot g.dispatch.tables g.dispatch.decided)
+    ⊎ IsPrefixOf (rows_in g.dispatch.origin g.output slot g.dispatch.tables g.dispatch.decided) (rows_in f.dispatch.origin f.output slot f.dispatch.tables f.dispatch.decided)

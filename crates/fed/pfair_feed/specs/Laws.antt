@@ -1,5 +1,5 @@
 -- What a whole input comes to.
-use Rattle.std.specs.Prelude.{ℕ, ◌≡◌, ◌≤◌, ◌⊎◌, ◌↔◌, List, [], ◌++◌, map, Option}
+use Rattle.std.specs.Prelude.{ℕ, ◌≡◌, ◌≤◌, ◌⊎◌, ◌↔◌, List, [], ◌++◌, map, Option, None}
 use Rattle.std.specs.List.{AllByRecursion}
 use Rattle.std.specs.Io.KnownBytes.{Appends}
 use Rattle.pfair_text.specs.Rows.{line}
@@ -7,13 +7,13 @@ use Rattle.pfair_replica.specs.HeldRows.{replica_of}
 use Rattle.pfair_replica.specs.Replica.{Agree, Replica, empty_replica}
 use Rattle.pfair_table.specs.Laws.{IsPrefixOf}
 use Rattle.pfair_table.specs.Script.{LoggedRun, capacity_of, replica_of_logs}
-use Rattle.pfair_table.specs.Table.{Settings}
+use Rattle.pfair_table.specs.Table.{Origin, Settings}
 use Rattle.pfair_feed.specs.Follow.{Follow, news}
 use Rattle.pfair_feed.specs.RowLaws.{text_of}
 use Rattle.pfair_feed.specs.Rows.{header_of}
 use Rattle.pfair_feed.specs.Entries.{entries_text}
 use Rattle.pfair_feed.specs.Feeding.{AreFedBytes, AreLines, AreTakenFrom}
-use Rattle.pfair_feed.specs.RoundTrip.{AreAmong, HasScheduleOf, HaveTheRows, IsNew, IsPlaced, IsScript, Placed, replica_with_room, row_of, rows_of}
+use Rattle.pfair_feed.specs.RoundTrip.{AreAmong, HasScheduleOf, HaveTheRows, IsBegun, IsNew, IsPlaced, IsScript, Placed, replica_with_room, row_of, rows_of}
 
 -- The rows of the same entries, in whatever order and however often they come, leave the same.
 abbrev pub OrderIsNothing : Type 0
@@ -21,10 +21,10 @@ OrderIsNothing =
     (processors capacity : ℕ) (es fs : List Placed) (y z : Replica) → AllByRecursion IsPlaced es → AllByRecursion IsPlaced fs → AreAmong es fs → AreAmong fs es
     → AreTakenFrom (map row_of es) (empty_replica processors capacity) y → AreTakenFrom (map row_of fs) (empty_replica processors capacity) z → y ≡ z
 
--- The header, and what a follower has written that had told nothing before, are the text that is written at once of what it holds.
+-- The header, and what a first run's follower has written that had told nothing before, are the text that is written at once of what it holds.
 abbrev pub WholeText : Type 0
 WholeText =
-    (bytes rest : List ℕ) (f g : Follow) (old new : Option (List ℕ)) → f.told ≡ 0 → AreFedBytes bytes f g old new rest
+    (bytes rest : List ℕ) (f g : Follow) (old new : Option (List ℕ)) → f.dispatch.origin ≡ None → f.told ≡ 0 → AreFedBytes bytes f g old new rest
     → line (header_of g.output) ++ news f g ≡ text_of g.output g.dispatch.settings (replica_of g.dispatch.held)
 
 -- Bytes are lines, and then the beginning of one, in one way.
@@ -58,11 +58,11 @@ FedEntriesGiveTheirText =
     → HaveTheRows run.settings.processors capacity (rows_of run.logs) lines → Appends before begun (line (header_of f.output)) → AreFedBytes bytes f g begun after rest
     → Appends before after (text_of f.output run.settings (replica_of_logs run.logs)) × HasScheduleOf run (replica_of g.dispatch.held)
 
--- Of two followers that were new, of equal settings and outputs, and that tell slots from the same one on: if what they were fed agrees,
--- what one has written begins with what the other has, or the other way round.
+-- Of two followers that were new, of equal settings and outputs, whose runs begin alike, and that tell slots from the same one on: if what
+-- they were fed agrees, what one has written begins with what the other has, or the other way round.
 abbrev pub RunsWriteAlike : Type 0
 RunsWriteAlike =
-    (settings : Settings) (capacity capacity' : ℕ) (bytes bytes' rest rest' : List ℕ) (f g f' g' : Follow) (old new old' new' : Option (List ℕ))
-    → IsNew settings capacity f → IsNew settings capacity' f' → f.output ≡ f'.output → f.told ≡ f'.told
+    (o : Origin) (settings : Settings) (capacity capacity' : ℕ) (bytes bytes' rest rest' : List ℕ) (f g f' g' : Follow) (old new old' new' : Option (List ℕ))
+    → IsBegun o settings capacity f → IsBegun o settings capacity' f' → f.output ≡ f'.output → f.told ≡ f'.told
     → AreFedBytes bytes f g old new rest → AreFedBytes bytes' f' g' old' new' rest' → Agree (replica_of g.dispatch.held) (replica_of g'.dispatch.held)
     → IsPrefixOf (news f g) (news f' g') ⊎ IsPrefixOf (news f' g') (news f g)

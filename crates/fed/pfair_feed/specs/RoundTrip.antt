@@ -1,15 +1,15 @@
 -- The entries of a script, lines that have their rows, and what holds the script's schedule.
-use Rattle.std.specs.Prelude.{ℕ, suc, ◌≡◌, ◌≢◌, ◌≤◌, ◌<◌, ◌⊎◌, List, [], ◌∷◌, ◌++◌, map}
+use Rattle.std.specs.Prelude.{ℕ, suc, ◌≡◌, ◌≢◌, ◌≤◌, ◌<◌, ◌⊎◌, List, [], ◌∷◌, ◌++◌, None, map}
 use Rattle.std.specs.List.{AllByRecursion}
 use Rattle.pfair_entry.specs.Entry.{Logged}
 use Rattle.pfair_entry.specs.Notice.{IsLoggable}
 use Rattle.pfair_entry_row.specs.Row.{entry_row, IsEntryAt}
 use Rattle.pfair_replica.specs.Replica.{Replica, frontier}
 use Rattle.pfair_table.specs.declared.settings.TheConstants.Settings.{MAX_PROCESSORS}
-use Rattle.pfair_table.specs.Events.{start}
+use Rattle.pfair_table.specs.Events.{begin_at}
 use Rattle.pfair_table.specs.Refinement.{course_of}
 use Rattle.pfair_table.specs.Script.{IsLoggedRun, LoggedRun, replica_of_logs}
-use Rattle.pfair_table.specs.Table.{Settings, decisions, plan}
+use Rattle.pfair_table.specs.Table.{Origin, Settings, decisions, plan}
 use Rattle.pfair_feed.specs.declared.output.Output.{Output}
 use Rattle.pfair_feed.specs.Follow.{Follow}
 use Rattle.pfair_feed.specs.RowLaws.{text_of}
@@ -92,7 +92,11 @@ pub record HasScheduleOf (run : LoggedRun) (held : Replica) : Type 0 where
 
 -- ---- followers
 
--- a follower that holds nothing, with room for so many entries in each log, and has planned nothing
-pub record IsNew (settings : Settings) (capacity : ℕ) (f : Follow) : Type 0 where
+-- a follower of a run that begins there, which holds nothing, with room for so many entries in each log, and has planned nothing
+pub record IsBegun (o : Origin) (settings : Settings) (capacity : ℕ) (f : Follow) : Type 0 where
   pub settings_are : f.dispatch.settings ≡ settings
-  pub course_is : course_of f.dispatch ≡ start settings capacity
+  pub course_is : course_of f.dispatch ≡ begin_at o settings capacity
+
+-- one of a first run
+abbrev pub IsNew : (settings : Settings) (capacity : ℕ) → Follow → Type 0
+IsNew = IsBegun None

@@ -4,21 +4,21 @@ use Rattle.pfair_text.specs.Rows.{lines_text}
 use Rattle.pfair_replica.specs.HeldRows.{replica_of}
 use Rattle.pfair_replica.specs.Replica.{Replica, frontier, numbers_below}
 use Rattle.pfair_table.specs.declared.pick.Decided.{Decided}
-use Rattle.pfair_table.specs.Table.{Settings, Table, decisions, plan}
+use Rattle.pfair_table.specs.Table.{Origin, Settings, Table, decisions, plan}
 use Rattle.pfair_table.specs.Refinement.{Dispatch, IsWholePlan}
 use Rattle.pfair_output.specs.Replay.{placed_replay_text, replay_text}
 use Rattle.pfair_output.specs.Decisions.{decisions_text}
 use Rattle.pfair_output.specs.Lags.{lags_text}
 use Rattle.pfair_feed.specs.declared.output.Output.{Output}
 use Rattle.pfair_feed.specs.declared.output.Output.TheVariants.{Tables, PlacedTables, Decisions, Lags}
-use Rattle.pfair_feed.specs.Rows.{header_of, rows_from}
+use Rattle.pfair_feed.specs.Rows.{header_of, rows_from, rows_in}
 
--- The rows of slots and of more behind them, from a slot on, are those of the slots, and then those of the rest.
+-- Wherever a run begins: the rows of slots and of more behind them, from a slot on, are those of the slots, and then those of the rest.
 abbrev pub RowsGoOn : Type 0
 RowsGoOn =
-    (output : Output) (slot : ℕ) (tables more : List Table) (decided rest : List (List Decided)) → length tables ≡ length decided
-    → rows_from output slot (tables ++ more) (decided ++ rest)
-    ≡ rows_from output slot tables decided ++ rows_from output (max slot (length tables)) (tables ++ more) (decided ++ rest)
+    (o : Origin) (output : Output) (slot : ℕ) (tables more : List Table) (decided rest : List (List Decided)) → length tables ≡ length decided
+    → rows_in o output slot (tables ++ more) (decided ++ rest)
+    ≡ rows_in o output slot tables decided ++ rows_in o output (max slot (length tables)) (tables ++ more) (decided ++ rest)
 
 -- the text that is written at once of the contents
 abbrev pub text_of : Output → Settings → Replica → List ℕ

@@ -1,9 +1,9 @@
-//! The complaints about refused lines, and about logs that are short.
+//! The complaints about refused lines, about logs that are short, and about what a run drops.
 ghost use Rattle.std.specs.Prelude.{◌≡◌, ◌≢◌, ◌≤◌, ℕ, List, length, IfErr, OnErr, OnOk, true};
 ghost use Rattle.std.specs.Io.KnownBytes.{Appends};
 ghost use Rattle.pfair_text.specs.Output.{TakesPrefix};
 ghost use Rattle.pfair_feed.specs.Feeding.{question};
-ghost use Rattle.pfair_feed.specs.Missing.{missing_line, missing_text};
+ghost use Rattle.pfair_feed.specs.Missing.{dropped_of, dropped_text, key_line, missing_text};
 
 use crate::follower::Follower;
 use itoa::Buffer;
@@ -52,18 +52,60 @@ pub fn tell_missing<R: Ready, E: Write>(
 {
     for processor in 0..follower.dispatcher().settings().processors() {
         if let Some(number) = follower.missing(processor) {
-            tell_key(complaints, processor, number)?;
+            tell_key(complaints, b"missing ", processor, number)?;
         }
     }
     Ok(())
 }
 
-// Writes the line of one key.
-fn tell_key<E: Write>(complaints: &mut E, processor: u8, number: u32) -> Result<(), WriteFailed>
-    ensures told { OnOk result (Appends (E.contents complaints.old) (E.contents complaints.new) (missing_line processor number)) }
-    ensures cut { OnErr result (TakesPrefix (E.contents complaints.old) (E.contents complaints.new) (missing_line processor number)) }
+/// Writes a line `dropped PROCESSOR,NUMBER` for each entry of a sound beginning whose announcement is
+/// stamped after the last slot of the run, in order of processors and numbers: the run ends without
+/// it, and the next one doesn't have it. It allocates nothing. O(entries).
+///
+/// # Errors
+/// [`WriteFailed`] if the writer answered an error, or took nothing; it has then a prefix of the
+/// lines.
+pub fn tell_dropped<R: Ready, E: Write>(
+    follower: &Follower<R>,
+    complaints: &mut E,
+) -> Result<(), WriteFailed>
+    ensures told { OnOk result (Appends (E.contents complaints.old) (E.contents complaints.new) (dropped_text follower.now)) }
+    ensures cut { OnErr result (TakesPrefix (E.contents complaints.old) (E.contents complaints.new) (dropped_text follower.now)) }
 {
-    send(complaints, b"missing ")?;
+    for processor in 0..follower.dispatcher().settings().processors() {
+        tell_dropped_of(follower, complaints, processor)?;
+    }
+    Ok(())
+}
+
+// Writes the lines of one log.
+fn tell_dropped_of<R: Ready, E: Write>(
+    follower: &Follower<R>,
+    complaints: &mut E,
+    processor: u8,
+) -> Result<(), WriteFailed>
+    ensures told { OnOk result (Appends (E.contents complaints.old) (E.contents complaints.new) (dropped_of follower.now processor)) }
+    ensures cut { OnErr result (TakesPrefix (E.contents complaints.old) (E.contents complaints.new) (dropped_of follower.now processor)) }
+{
+    for index in 0..follower.dispatcher().replica().sound_count(processor) {
+        if follower.is_dropped(processor, index + 1) {
+            tell_key(complaints, b"dropped ", processor, index + 1)?;
+        }
+    }
+    Ok(())
+}
+
+// Writes the line of one key, behind a word.
+fn tell_key<E: Write>(
+    complaints: &mut E,
+    word: &[u8],
+    processor: u8,
+    number: u32,
+) -> Result<(), WriteFailed>
+    ensures told { OnOk result (Appends (E.contents complaints.old) (E.contents complaints.new) (key_line word.now processor number)) }
+    ensures cut { OnErr result (TakesPrefix (E.contents complaints.old) (E.contents complaints.new) (key_line word.now processor number)) }
+{
+    send(complaints, word)?;
     send(complaints, Buffer::new().format(processor).as_bytes())?;
     send(complaints, b",")?;
     send(complaints, Buffer::new().format(number).as_bytes())?;

@@ -1,5 +1,5 @@
 //! The follower.
-ghost use Rattle.std.specs.Prelude.{◌≡◌, ◌≢◌, ◌⊎◌, ◌<◌, ◌≤◌, [], Err, IfErr, IfOk, IfSome, IsErrOf, OnErr, OnOk, false, length, max};
+ghost use Rattle.std.specs.Prelude.{◌≡◌, ◌↔◌, IsTrue, ◌≢◌, ◌⊎◌, ◌<◌, ◌≤◌, [], Err, IfErr, IfOk, IfSome, IsErrOf, OnErr, OnOk, Some, false, length, max};
 ghost use Rattle.std.specs.Io.KnownBytes.{Appends, Keeps};
 ghost use Rattle.pfair_text.specs.Output.{TakesPrefix};
 ghost use Rattle.pfair_text.specs.Rows.{line};
@@ -7,9 +7,13 @@ ghost use Rattle.pfair_replica.specs.HeldRows.{IsShape, held, replica_of};
 ghost use Rattle.pfair_replica.specs.Offered.{taken};
 ghost use Rattle.pfair_replica.specs.Faults.{IsKeyOf, IsTakenAs};
 ghost use Rattle.pfair_table.specs.Events.{start};
+ghost use Rattle.pfair_table.specs.Limits.{settings_from};
+ghost use Rattle.pfair_table.specs.NextRun.{IsResumeFault};
 ghost use Rattle.pfair_table.specs.Refinement.{IsWholePlan, course_of};
+ghost use Rattle.pfair_feed.specs.Missing.{is_past};
 ghost use Rattle.pfair_feed.specs.Rows.{header_of};
-ghost use Rattle.pfair_feed.specs.Follow.{HasFollowed, HaveToldAlike, IsSameRun, IsStopOf, missing_of, news};
+ghost use Rattle.pfair_feed.specs.RoundTrip.{IsBegun};
+ghost use Rattle.pfair_feed.specs.Follow.{HasFollowed, HaveToldAlike, IsPlannedOut, IsSameRun, IsStopOf, missing_of, news};
 ghost use Rattle.pfair_file.specs.declared.program_fault.ProgramFault.TheVariants.{Memory, WriteFailed};
 ghost use Rattle.pfair_feed.specs.declared.output.Output.TheVariants.{Lags};
 
@@ -18,9 +22,10 @@ use crate::planning::plan_all;
 use pfair_entry::Entry;
 use pfair_file::ProgramFault;
 use pfair_lag::LagBook;
+use pfair_lattice::Flat;
 use pfair_ready::Ready;
 use pfair_replica::Taken;
-use pfair_table::{Dispatcher, Settings};
+use pfair_table::{Dispatcher, NextRunFault, Settings, State};
 use std::alloc::{AllocError, Global};
 use std::io::Write;
 use std::marker::Model;
@@ -33,25 +38,24 @@ pub struct Follower<R: Ready> {
     output: Output,
     dispatcher: Dispatcher<R>,
     told: u64,
-    book: LagBook,
+    book: Option<LagBook>,
 }
 
 impl<R: Ready> Model for Follower<R> {
-    ghost use Rattle.std.specs.Prelude.{◌≡◌, None};
-    ghost use Rattle.pfair_feed.specs.Rows.{IsBookOf, IsTold};
+    ghost use Rattle.pfair_feed.specs.Rows.{IsBookIfAny, IsTold};
     ghost use Rattle.pfair_feed.specs.Follow.{Follow};
 
     ghost Value = { Follow };
 
     ghost view = { λ a. record { output = a.output; dispatch = a.dispatcher; told = a.told } };
 
-    ghost invariant = { λ a. IsBookOf a.told a.dispatcher.tables a.dispatcher.decided a.book × IsTold a.output a.dispatcher.forgotten a.told
-        × (a.dispatcher.origin ≡ None) };
+    ghost invariant = { λ a. IsBookIfAny a.dispatcher.origin a.told a.dispatcher.tables a.dispatcher.decided a.book
+        × IsTold a.output a.dispatcher.forgotten a.told };
 }
 
 impl<R: Ready> Follower<R> {
-    /// Creates a follower that holds nothing, has planned nothing and written nothing, with room
-    /// for logs of `capacity` entries, 1 to 4,096. It writes the rows of slot `from` and of those
+    /// Creates a follower of a first run that holds nothing, has planned nothing and written nothing, with
+    /// room for logs of `capacity` entries, 1 to 4,096. It writes the rows of slot `from` and of those
     /// after it; those before are left out. O(M) for M processors.
     ///
     /// # Errors
@@ -72,13 +76,47 @@ impl<R: Ready> Follower<R> {
         ensures whole { IfOk result (λ f. IsWholePlan f.dispatch) }
         ensures told { IfOk result (λ f. f.told ≡ from) }
     {
-        Ok(Follower {
+        let dispatcher = Dispatcher::new(alloc, settings, capacity)?;
+        Ok(Follower::begun(alloc, dispatcher, output, from))
+    }
+
+    /// Creates a follower of a run of 1 to 1,000,000 slots that begins with a state; the rest is as in
+    /// [`Follower::new`]. The cost is that of [`Dispatcher::resume`].
+    ///
+    /// # Errors
+    /// Those of [`Dispatcher::resume`].
+    pub fn resume(
+        alloc: Global,
+        state: State,
+        slots: u64,
+        capacity: u32,
+        output: Output,
+        from: u64,
+    ) -> Result<Self, NextRunFault>
+        requires shape { IsShape state.machine.processors capacity }
+        requires slots { (1 ≤ slots) × (slots ≤ Settings.MAX_SLOTS) }
+        ensures begun { IfOk result (IsBegun (Some state) (settings_from state slots) capacity) }
+        ensures spent { IfOk result (λ f. f.dispatch.spent ≡ false) }
+        ensures whole { IfOk result (λ f. IsWholePlan f.dispatch) }
+        ensures asked { IfOk result (λ f. (f.output ≡ output) × (f.told ≡ from)) }
+        ensures fault { IfErr result (IsResumeFault state slots) }
+    {
+        let dispatcher = Dispatcher::resume(alloc, state, slots, capacity)?;
+        Ok(Follower::begun(alloc, dispatcher, output, from))
+    }
+
+    // A follower of a dispatcher that has forgotten nothing.
+    fn begun(alloc: Global, dispatcher: Dispatcher<R>, output: Output, from: u64) -> Self
+        requires { dispatcher.forgotten ≡ 0 }
+        ensures { result ≡ record { output = output; dispatch = dispatcher; told = from } }
+    {
+        Follower {
             alloc,
             output,
-            dispatcher: Dispatcher::new(alloc, settings, capacity)?,
+            dispatcher,
             told: from,
-            book: LagBook::new(alloc),
-        })
+            book: None,
+        }
     }
 
     /// Writes the header of the rows, and flushes it.
@@ -170,8 +208,8 @@ impl<R: Ready> Follower<R> {
                 Ok(())
             }
             Err(fault) => {
-                // the book was notified of some slots: it is notified of all of them anew when it is needed
-                self.book = LagBook::new(self.alloc);
+                // the book was notified of some slots: it is made anew when it is needed
+                self.book = None;
                 Err(fault)
             }
         }
@@ -208,6 +246,13 @@ impl<R: Ready> Follower<R> {
         self.told
     }
 
+    /// Returns whether all slots of the run are planned.
+    pub fn is_planned(&self) -> bool
+        ensures { IsTrue result ↔ IsPlannedOut self.now }
+    {
+        self.dispatcher.next_slot() >= self.dispatcher.settings().slots()
+    }
+
     // The number of the entry that would settle more of the log of a processor: the one right behind
     // the log's sound beginning, if its last floor is below the number of slots and nothing is held
     // there. `None` if the log settles all slots, if the entry behind its beginning is held but its
@@ -226,9 +271,22 @@ impl<R: Ready> Follower<R> {
         if is_wanted { Some(number) } else { None }
     }
 
-    /// States the law of two followers, whatever was called on either: if their settings and
-    /// outputs are equal and what they hold agrees, what one has planned has rows that begin those
-    /// of the other, from any slot on. It does nothing.
+    // Whether an entry announces something after the last slot of the run. One look-up.
+    pub(crate) fn is_dropped(&self, proc: u8, number: u32) -> bool
+        ensures { result ≡ is_past self.now.dispatch.settings.slots (held self.now.dispatch.held proc number) }
+    {
+        match self.dispatcher.replica().get(proc, number) {
+            Some(Flat::One(entry)) => match entry.said() {
+                Some((at, _)) => at >= self.dispatcher.settings().slots(),
+                None => false,
+            },
+            _ => false,
+        }
+    }
+
+    /// States the law of two followers, whatever was called on either: if their settings, the beginnings
+    /// of their runs and their outputs are equal and what they hold agrees, what one has planned has
+    /// rows that begin those of the other, from any slot on. It does nothing.
     pub fn tells_alike<Q: Ready>(&self, other: &Follower<Q>)
         ensures { HaveToldAlike self.now other.now }
     {

@@ -3,7 +3,7 @@ ghost use Rattle.std.specs.Prelude.{◌≡◌, ◌≢◌, ℕ, List, Some, IfErr
 ghost use Rattle.std.specs.Io.KnownBytes.{Consumes, IsAtEnd};
 ghost use Rattle.pfair_replica.specs.HeldRows.{SameShape};
 ghost use Rattle.pfair_file.specs.ProgramFaults.{is_refusal};
-ghost use Rattle.pfair_feed.specs.Feeding.{AreFedBytes, AreWelcome, IsCaughtUp, IsFedLine, IsLeft, IsStopped, IsWelcome, question};
+ghost use Rattle.pfair_feed.specs.Feeding.{AreFedBytes, AreWelcome, IsCaughtUp, IsFedLine, IsFedTo, IsLeft, IsStopped, IsWelcome, question};
 
 use crate::complaint::complain;
 use crate::follower::Follower;
@@ -49,6 +49,49 @@ pub fn follow<R: Ready, I: Read, W: Write, E: Write>(
         × AreWelcome follower.old.dispatch.held.processors follower.old.dispatch.held.capacity bytes rest) }
     ensures lenient { IfErr result (λ e. is_strict ≡ false → is_refusal e ≡ false) }
 {
+    read_lines(
+        alloc, follower, reader, writer, complaints, is_strict, false,
+    )
+}
+
+/// Feeds the lines of a reader as [`follow`] does, but ends as soon as all slots of the run are
+/// planned, without waiting for the reader's end; what it has read behind the last line is lost.
+///
+/// # Errors
+/// Those of [`follow`].
+pub fn follow_to_last_slot<R: Ready, I: Read, W: Write, E: Write>(
+    alloc: Global,
+    follower: &mut Follower<R>,
+    reader: &mut I,
+    writer: &mut W,
+    complaints: &mut E,
+    is_strict: bool,
+) -> Result<(), ProgramFault>
+    requires { IsCaughtUp follower.old }
+    ensures fed { OnOk result (IsFedTo is_strict true (I.remaining reader.old) (I.remaining reader.new) follower.old follower.new (W.contents writer.old) (W.contents writer.new)) }
+    ensures stopped { IfErr result (λ e. (bytes : List ℕ) × Consumes (I.remaining reader.old) (I.remaining reader.new) bytes
+        × IsStopped bytes e follower.old follower.new (W.contents writer.old) (W.contents writer.new)) }
+    ensures lenient { IfErr result (λ e. is_strict ≡ false → is_refusal e ≡ false) }
+{
+    read_lines(alloc, follower, reader, writer, complaints, is_strict, true)
+}
+
+// Feeds the lines of a reader to its end, or, with `to_last`, until all slots are planned.
+fn read_lines<R: Ready, I: Read, W: Write, E: Write>(
+    alloc: Global,
+    follower: &mut Follower<R>,
+    reader: &mut I,
+    writer: &mut W,
+    complaints: &mut E,
+    is_strict: bool,
+    to_last: bool,
+) -> Result<(), ProgramFault>
+    requires { IsCaughtUp follower.old }
+    ensures fed { OnOk result (IsFedTo is_strict to_last (I.remaining reader.old) (I.remaining reader.new) follower.old follower.new (W.contents writer.old) (W.contents writer.new)) }
+    ensures stopped { IfErr result (λ e. (bytes : List ℕ) × Consumes (I.remaining reader.old) (I.remaining reader.new) bytes
+        × IsStopped bytes e follower.old follower.new (W.contents writer.old) (W.contents writer.new)) }
+    ensures lenient { IfErr result (λ e. is_strict ≡ false → is_refusal e ≡ false) }
+{
     // a line of which more is kept than a row has is none
     rows_are_short();
     let mut kept = Vec::new(alloc);
@@ -63,6 +106,9 @@ pub fn follow<R: Ready, I: Read, W: Write, E: Write>(
             if *byte == b'\n' {
                 feed_line(follower, writer, complaints, is_strict, kept.as_slice())?;
                 kept.clear();
+                if to_last && follower.is_planned() {
+                    return Ok(());
+                }
             } else if kept.len() <= LONGEST_ROW && kept.push(*byte).is_err() {
                 return Err(ProgramFault::Memory);
             }

@@ -3,6 +3,7 @@
 //! the rows of entries that a reader gives.
 #![tactic(auto)]
 
+mod book;
 mod complaint;
 mod entries;
 mod follower;
@@ -12,9 +13,9 @@ mod line;
 mod output;
 mod planning;
 
-pub use complaint::{tell_missing, tell_refused};
+pub use complaint::{tell_dropped, tell_missing, tell_refused};
 pub use entries::entries_of;
 pub use follower::Follower;
-pub use input::follow;
+pub use input::{follow, follow_to_last_slot};
 pub use line::feed;
 pub use output::Output;

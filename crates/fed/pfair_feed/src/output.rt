@@ -1,11 +1,12 @@
 //! What is written of a run, and the rows of it that are new.
-ghost use Rattle.std.specs.Prelude.{◌≡◌, ◌⊎◌, ◌++◌, ◌≢◌, [], IfErr, IfOk, IsErrOf, None, OnErr, OnOk, length, max};
+ghost use Rattle.std.specs.Prelude.{◌≡◌, ◌⊎◌, ◌++◌, ◌≢◌, [], IfErr, IfOk, IsErrOf, OnErr, OnOk, length, max};
 ghost use Rattle.std.specs.Io.KnownBytes.{Appends, Keeps};
 ghost use Rattle.pfair_text.specs.Output.{TakesPrefix};
 ghost use Rattle.pfair_text.specs.Rows.{IsOpen, line, lines_text, text_so_far};
-ghost use Rattle.pfair_feed.specs.Rows.{IsTold, IsBookOf, header_of, rows_from};
+ghost use Rattle.pfair_feed.specs.Rows.{IsBookIfAny, IsTold, header_of, rows_in};
 ghost use Rattle.pfair_file.specs.declared.program_fault.ProgramFault.TheVariants.{Memory, WriteFailed};
 
+use crate::book::known_book;
 use csv::Writer;
 use pfair_file::ProgramFault;
 use pfair_lag::LagBook;
@@ -55,76 +56,79 @@ pub(crate) fn write_header<W: Write>(
 }
 
 /// Writes the rows of the slots that are planned, from a slot on, and flushes them if there are some.
-/// The book of lags, which knows slots before that one, then knows all that are planned; after a
-/// fault it knows some.
+/// If there is a book of lags, it knows some slots before that one; after rows of lags there is one,
+/// and it knows all slots that are planned. After a fault it is of no use.
 pub(crate) fn write_rows<R: Ready, W: Write>(
     alloc: Global,
     output: Output,
     dispatcher: &Dispatcher<R>,
     from: u64,
-    book: &mut LagBook,
+    book: &mut Option<LagBook>,
     writer: &mut W,
 ) -> Result<(), ProgramFault>
-    requires book { IsBookOf from dispatcher.now.tables dispatcher.now.decided book.old }
+    requires book { IsBookIfAny dispatcher.now.origin from dispatcher.now.tables dispatcher.now.decided book.old }
     requires standing { IsTold output dispatcher.now.forgotten from }
-    requires first { dispatcher.now.origin ≡ None }
-    ensures book { OnOk result (IsBookOf (max from (length dispatcher.now.tables)) dispatcher.now.tables dispatcher.now.decided book.new) }
-    ensures written { OnOk result (Appends (W.contents writer.old) (W.contents writer.new) (lines_text (rows_from output from dispatcher.now.tables dispatcher.now.decided))) }
-    ensures cut { IsErrOf result WriteFailed → TakesPrefix (W.contents writer.old) (W.contents writer.new) (lines_text (rows_from output from dispatcher.now.tables dispatcher.now.decided)) }
+    ensures book { OnOk result (IsBookIfAny dispatcher.now.origin (max from (length dispatcher.now.tables)) dispatcher.now.tables dispatcher.now.decided book.new) }
+    ensures written { OnOk result (Appends (W.contents writer.old) (W.contents writer.new) (lines_text (rows_in dispatcher.now.origin output from dispatcher.now.tables dispatcher.now.decided))) }
+    ensures cut { IsErrOf result WriteFailed → TakesPrefix (W.contents writer.old) (W.contents writer.new) (lines_text (rows_in dispatcher.now.origin output from dispatcher.now.tables dispatcher.now.decided)) }
     ensures nothing { IfErr result (λ e. e ≢ WriteFailed → Keeps (W.contents writer.old) (W.contents writer.new)) }
     ensures cause { IfErr result (λ e. (e ≡ WriteFailed) ⊎ (e ≡ Memory)) }
-    ensures due { IsErrOf result WriteFailed → lines_text (rows_from output from dispatcher.now.tables dispatcher.now.decided) ≢ [] }
+    ensures due { IsErrOf result WriteFailed → lines_text (rows_in dispatcher.now.origin output from dispatcher.now.tables dispatcher.now.decided) ≢ [] }
 {
     let mut text = new_text(alloc);
-    add_rows(&mut text, output, dispatcher, from, book)?;
+    add_rows(alloc, &mut text, output, dispatcher, from, book)?;
     let text = finish(text)?;
     send_now(writer, text.as_slice())
 }
 
-// Adds the rows of the slots that are planned, from a slot on, and tells the book of lags all of them.
+// Adds the rows of the slots that are planned, from a slot on.
 fn add_rows<R: Ready>(
+    alloc: Global,
     text: &mut Writer<Vec<u8>>,
     output: Output,
     dispatcher: &Dispatcher<R>,
     from: u64,
-    book: &mut LagBook,
+    book: &mut Option<LagBook>,
 ) -> Result<(), AllocError>
     requires open { IsOpen text.old }
-    requires book { IsBookOf from dispatcher.now.tables dispatcher.now.decided book.old }
+    requires book { IsBookIfAny dispatcher.now.origin from dispatcher.now.tables dispatcher.now.decided book.old }
     requires standing { IsTold output dispatcher.now.forgotten from }
-    requires first { dispatcher.now.origin ≡ None }
     ensures open { OnOk result (IsOpen text.new) }
-    ensures book { OnOk result (IsBookOf (max from (length dispatcher.now.tables)) dispatcher.now.tables dispatcher.now.decided book.new) }
+    ensures book { OnOk result (IsBookIfAny dispatcher.now.origin (max from (length dispatcher.now.tables)) dispatcher.now.tables dispatcher.now.decided book.new) }
     ensures text { OnOk result (text_so_far text.new ≡ text_so_far text.old
-        ++ lines_text (rows_from output from dispatcher.now.tables dispatcher.now.decided)) }
+        ++ lines_text (rows_in dispatcher.now.origin output from dispatcher.now.tables dispatcher.now.decided)) }
 {
     match output {
         Output::Tables => add_tables_from(text, dispatcher, from),
         Output::PlacedTables => add_placed_tables_from(text, dispatcher, from),
         Output::Decisions => add_decisions_from(text, dispatcher, from),
-        Output::Lags => add_lags(text, dispatcher, from, book),
+        Output::Lags => add_lags(alloc, text, dispatcher, from, book),
     }
 }
 
 // Adds the rows of lags after each slot that is planned, from a slot on.
 fn add_lags<R: Ready>(
+    alloc: Global,
     text: &mut Writer<Vec<u8>>,
     dispatcher: &Dispatcher<R>,
     from: u64,
-    book: &mut LagBook,
+    book: &mut Option<LagBook>,
 ) -> Result<(), AllocError>
     requires open { IsOpen text.old }
-    requires book { IsBookOf from dispatcher.now.tables dispatcher.now.decided book.old }
+    requires book { IsBookIfAny dispatcher.now.origin from dispatcher.now.tables dispatcher.now.decided book.old }
     requires standing { dispatcher.now.forgotten ≡ 0 }
     ensures open { OnOk result (IsOpen text.new) }
-    ensures book { OnOk result (IsBookOf (max from (length dispatcher.now.tables)) dispatcher.now.tables dispatcher.now.decided book.new) }
+    ensures book { OnOk result (IsBookIfAny dispatcher.now.origin (max from (length dispatcher.now.tables)) dispatcher.now.tables dispatcher.now.decided book.new) }
     ensures text { OnOk result (text_so_far text.new ≡ text_so_far text.old
-        ++ lines_text (rows_from Output.Lags from dispatcher.now.tables dispatcher.now.decided)) }
+        ++ lines_text (rows_in dispatcher.now.origin Output.Lags from dispatcher.now.tables dispatcher.now.decided)) }
 {
     // as many slots have decisions as have tables
     prove!(dispatcher.next_slot() <= Settings::MAX_SLOTS);
-    tell_slots(book, dispatcher, from)?;
-    add_lags_from(text, book, dispatcher)
+    let mut known = known_book(alloc, dispatcher, from, book.take())?;
+    tell_slots(&mut known, dispatcher, from)?;
+    add_lags_from(text, &mut known, dispatcher)?;
+    *book = Some(known);
+    Ok(())
 }
 
 // Sends a text, and flushes it, unless it is empty.

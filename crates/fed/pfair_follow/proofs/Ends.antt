@@ -12,7 +12,7 @@ use Rattle.pfair_table.specs.Table.{Settings, decisions, plan}
 use Rattle.pfair_feed.specs.declared.output.Output.{Output}
 use Rattle.pfair_feed.specs.Follow.{Follow, news}
 use Rattle.pfair_feed.specs.RowLaws.{text_of}
-use Rattle.pfair_feed.specs.Rows.{header_of, rows_from}
+use Rattle.pfair_feed.specs.Rows.{header_of, rows_from, rows_in}
 use Rattle.pfair_feed.specs.Feeding.{AreFedBytes, AreTakenFrom, AreWelcome}
 use Rattle.pfair_feed.specs.Laws.{WholeText}
 use Rattle.pfair_words.specs.declared.follow.Run.{Run}
@@ -30,16 +30,17 @@ appends_more (Some xs) (Some ys) (Some zs) a b p q = q ∙ ap (λ l. l ++ b) p �
 -- ---- what is written
 
 -- of a follower that has told nothing before the first slot whose rows it writes, and has planned all that is settled
-whole_text : WholeText → (output : Output) (slot : ℕ) (s : Settings) (f g : Follow) (bytes rest : List ℕ) (old new : Option (List ℕ)) → f.output ≡ output → f.told ≡ slot → g.dispatch.settings ≡ s
+whole_text : WholeText → (output : Output) (slot : ℕ) (s : Settings) (f g : Follow) (bytes rest : List ℕ) (old new : Option (List ℕ)) → f.dispatch.origin ≡ None → f.output ≡ output → f.told ≡ slot → g.dispatch.settings ≡ s
     → AreFedBytes bytes f g old new rest → head_from output slot ++ news f g ≡ text_from output slot s (replica_of g.dispatch.held)
-whole_text law output zero s f g bytes rest old new out told set fed =
+whole_text law output zero s f g bytes rest old new first out told set fed =
     ap (λ (o : Output). line (header_of o) ++ news f g) (sym (fed.fed.gone_on.output_is ∙ out))
-    ∙ law bytes rest f g old new told fed
+    ∙ law bytes rest f g old new first told fed
     ∙ (λ i. text_of ((fed.fed.gone_on.output_is ∙ out) i) (set i) (replica_of g.dispatch.held))
-whole_text law output (suc slot) s f g bytes rest old new out told set fed =
-    let tables = tables_first g.dispatch fed.fed.gone_on.caught_up.first fed.fed.gone_on.caught_up.whole in
-    let decided = decided_first g.dispatch fed.fed.gone_on.caught_up.first fed.fed.gone_on.caught_up.whole in
-    (λ i. lines_text (rows_from (out i) (told i) (tables i) (decided i)))
+whole_text law output (suc slot) s f g bytes rest old new first out told set fed =
+    let none : g.dispatch.origin ≡ None = fed.fed.gone_on.grown.origin_is ∙ first in
+    let tables = tables_first g.dispatch none fed.fed.gone_on.caught_up.whole in
+    let decided = decided_first g.dispatch none fed.fed.gone_on.caught_up.whole in
+    (λ i. lines_text (rows_in (none i) (out i) (told i) (tables i) (decided i)))
     ∙ ap (λ (t : Settings). lines_text (rows_from output (suc slot) (plan t (replica_of g.dispatch.held)) (map (decisions t (replica_of g.dispatch.held)) (numbers_below (min (frontier (replica_of g.dispatch.held)) t.slots))))) set
 
 -- ---- what is torn
@@ -71,7 +72,7 @@ module _ (law : WholeText) (output : Output) (run : Run) (f g : Follow) (fresh :
         sound = fed.fed.fed.gone_on.sound (ap has_torn (ap (λ (c : Course). c.held) fresh.course_is) ∙ nothing_torn run.settings.processors 4096);
         settled = p fed.fed.fed.gone_on.caught_up.whole set;
         written = subst (λ (text : List ℕ). Appends before after text)
-            (whole_text law output run.from run.settings f g fed.bytes fed.rest fed.begun after fresh.output_is fresh.told_is set fed.fed)
+            (whole_text law output run.from run.settings f g fed.bytes fed.rest fed.begun after (ap (λ (c : Course). c.origin) fresh.course_is) fresh.output_is fresh.told_is set fed.fed)
             (appends_more before fed.begun after (head_from output run.from) (news f g)
             (subst (λ (text : List ℕ). Appends before fed.begun text) (λ i. head_from (fresh.output_is i) (fresh.told_is i)) fed.head) fed.fed.fed.gone_on.written);
       }

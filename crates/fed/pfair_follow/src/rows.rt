@@ -9,7 +9,7 @@ ghost use Rattle.pfair_follow.specs.Runs.{AreTakenAll, IsEndOf, IsFed, IsFedEndO
 ghost use Rattle.pfair_follow.specs.Scripts.{IsScriptStalled, IsScriptWritten, OfItsScript};
 
 use pfair_feed::laws::{entries_give_their_schedule, lines_are_one, text_is_whole};
-use pfair_feed::{Follower, Output, follow, tell_missing};
+use pfair_feed::{Follower, Output, follow, tell_dropped, tell_missing};
 use pfair_file::ProgramFault;
 use pfair_ready::{HeapReady, Ready};
 use pfair_table::Script;
@@ -108,7 +108,8 @@ fn begin<R: Ready, W: Write>(follower: &Follower<R>, writer: &mut W) -> Result<(
     }
 }
 
-// Whether all slots are settled; if they aren't, the missing keys are reported.
+// Whether all slots are settled. If they aren't, the missing keys are reported, and else what is stamped
+// after them.
 fn end<R: Ready, E: Write>(follower: &Follower<R>, complaints: &mut E) -> Result<(), ProgramFault>
     ensures settled { OnOk result (follower.now.dispatch.settings.slots ≤ length follower.now.dispatch.tables) }
     ensures short { IfErr result (λ e. (e ≡ Stalled (length follower.now.dispatch.tables)) × (length follower.now.dispatch.tables < follower.now.dispatch.settings.slots)) }
@@ -118,5 +119,6 @@ fn end<R: Ready, E: Write>(follower: &Follower<R>, complaints: &mut E) -> Result
         let _ = tell_missing(follower, complaints);
         return Err(ProgramFault::Stalled { slot });
     }
+    let _ = tell_dropped(follower, complaints);
     Ok(())
 }

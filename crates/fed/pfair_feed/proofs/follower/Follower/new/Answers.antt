@@ -1,10 +1,14 @@
-use Rattle.std.proofs.Common.{ap, length}
+use Rattle.std.proofs.Common.{◌∙◌, ap, length, None, subst, sym}
 use Rattle.pfair_table.specs.Events.{Course}
+use Rattle.pfair_table.specs.Refinement.{IsWholePlan}
+use Rattle.pfair_feed.specs.Follow.{Follow}
 use Rattle.pfair_feed.proofs.Planned.{whole_start}
 use Rattle.pfair_feed.proofs.follower.Follower.new.Goals as goal
 
 pub returns-clause-nothing : goal.returns-clause-nothing
-returns-clause-nothing g c = ap (λ (x : Course). length x.tables) c.in_ok-new.ensures.course
+returns-clause-nothing g c = ap (λ (f : Follow). length f.dispatch.tables) c.begun.ensures ∙ ap (λ (x : Course). length x.tables) c.in_ok-dispatcher.ensures.course
 
 pub returns-clause-whole : goal.returns-clause-whole
-returns-clause-whole g c = whole_start c.in_ok-new.field-0 c.args.settings c.args.capacity c.in_ok-new.ensures.course
+returns-clause-whole g c =
+    subst (λ (f : Follow). IsWholePlan f.dispatch) (sym c.begun.ensures)
+    (whole_start None c.in_ok-dispatcher.dispatcher c.args.settings c.args.capacity c.in_ok-dispatcher.ensures.course)

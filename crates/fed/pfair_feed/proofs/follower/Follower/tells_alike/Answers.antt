@@ -8,5 +8,5 @@ returns g c =
     let here : Follow = record { output = c.self.inside.output; dispatch = c.self.inside.dispatcher; told = c.self.inside.told } in
     let there : Follow = record { output = c.other.inside.output; dispatch = c.other.inside.dispatcher; told = c.other.inside.told } in
     let alike : HaveToldAlike here there =
-    told_alike here there (sym c.next_slot.ensures.value ∙ c.next_slot.ensures.decided) (sym c.next_slot-2.ensures.value ∙ c.next_slot-2.ensures.decided) (c.self.invariant.2 ∙ sym c.other.invariant.2) c.plans_alike.ensures.planned in
+    told_alike here there (sym c.next_slot.ensures.value ∙ c.next_slot.ensures.decided) (sym c.next_slot-2.ensures.value ∙ c.next_slot-2.ensures.decided) c.plans_alike.ensures.planned in
     subst (λ (f : Follow). HaveToldAlike f c.args.other.now) c.self.view_is (subst (λ (f : Follow). HaveToldAlike here f) c.other.view_is alike)
