@@ -47,7 +47,7 @@ AreTakenFrom (line ∷ lines) before after = (mid : Replica) × IsTakenFrom line
 
 -- ---- what is planned and written
 
--- the plan is whole, and all of it is told
+-- the plan is whole, and the rows of all of it are written
 pub record IsCaughtUp (f : Follow) : Type 0 where
   pub whole : IsWholePlan f.dispatch
   pub all_told : length f.dispatch.tables ≤ f.told

@@ -5,7 +5,7 @@ use crate::devices::{Sink, Source};
 use crate::reports::EARLY;
 use pfair_entry::Entry;
 use pfair_entry_row::RowFault;
-use pfair_feed::{Follower, Output, entries_of, follow, tell_missing};
+use pfair_feed::{Follower, Output, entries_of, follow, follow_to_last_slot, tell_missing};
 use pfair_file::{ProgramFault, read_file};
 use pfair_ready::{HeapReady, Ready};
 use pfair_table::Settings;
@@ -23,6 +23,9 @@ const WHOLE: &str = "0,0,a,1\n1,0,a,2\n";
 // With lines that are no row, and questions.
 const MIXED: &str =
     "x\u{7}\n0,1,0,0,arrive,a,2,4,true,-,-\n1,1,0,-,-,-,-,-,-,-,-\n?\n0,2,4,-,-,-,-,-,-,-,-\n?\n";
+
+// The rows, and behind them a line that is no row.
+const BEHIND: &str = "0,1,0,0,arrive,a,2,4,true,-,-\n0,2,4,-,-,-,-,-,-,-,-\nx\n";
 
 const TORN: &str = "0,1,4,-,-,-,-,-,-,-,-\n0,1,5,-,-,-,-,-,-,-,-\n0,2,6,-,-,-,-,-,-,-,-\n";
 
@@ -107,6 +110,30 @@ fn lines_are_fed_in_pieces(rt: HostRuntime) {
             assert!(&rt; end.fault == fault);
         }
     }
+}
+
+// Whether a strict run ends with its last slot, whatever is behind.
+fn ends_with_its_last_slot<R: Ready>(rt: &impl Abort, alloc: Global) -> bool {
+    let mut follower: Follower<R> = follower_of(rt, alloc, 1, 4);
+    let mut reader = Source::of(BEHIND.as_bytes(), 4096);
+    let (mut rows, mut complaints) = (Vec::new(alloc), Vec::new(alloc));
+    let ended = follow_to_last_slot(
+        alloc,
+        &mut follower,
+        &mut reader,
+        &mut rows,
+        &mut complaints,
+        true,
+    );
+    ended.is_ok()
+        && follower.is_planned()
+        && rows.as_slice() == WHOLE.as_bytes()
+        && complaints.is_empty()
+}
+
+#[test]
+fn a_run_ends_with_its_last_slot(rt: HostRuntime) {
+    assert!(rt; ends_with_its_last_slot::<HeapReady>(&rt, rt.alloc()));
 }
 
 // Questions before and after each of 300 entries, and the answers.

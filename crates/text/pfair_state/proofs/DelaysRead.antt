@@ -26,7 +26,7 @@ module _ (rows : List Row) (from : ℕ) (name : List ℕ) where
   begun all behind is not_late = record { left = all; whole = refl; rows_are = ap (λ n. drop n rows) (let n : from + 0 ≡ from = omega arith in n) ∙ is }
 
   module _ (done : List Delay) (so_far : AreReadSoFar done) where
-    -- a late release that stands there is the first that is left
+    -- a late release at that place is the first that is left
     late_at : (row : LateRow) (all : List Delay) (behind : List Row) → as_late (slice_get behind 0) ≡ None → AreLeftOf all done behind → slice_get rows (from + length done) ≡ Some (Late row)
         → (delay : Delay) × (more : List Delay) × (all ≡ done ++ delay ∷ more) × (row ≡ record { name = name; index = delay.index; by = delay.by }) × (drop (from + length done + 1) rows ≡ map (late_said name) more ++ behind)
     late_at row all behind not_late left at = by_left left.left left.whole behind left.rows_are not_late

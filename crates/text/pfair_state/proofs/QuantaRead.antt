@@ -94,7 +94,7 @@ module _ (rows : List Row) (old : Carried) where
             record { more = more; others = others; table_is = table_is ∙ ap (λ (q : Pick). now.table ++ q ∷ more) pick; places_are = places_are ∙ ap (λ j. now.places ++ j ∷ others) place; long = omega (arith, long); rows_are = first.1 }
 
     module _ (x : Pick × ℕ) (here : slice_get rows at ≡ Some (Ran x.0 x.1)) where
-      -- the quantum that stands there can be added
+      -- the quantum at that place can be added
       pub can : (table : Table) (places : List ℕ) (behind : List Row) → (old.table ≡ []) × (old.places ≡ []) → IsFit old.machine.processors table → ArePlacesOf old.machine.processors table places → drop from rows ≡ ran_said table places ++ behind
           → as_quantum (slice_get behind 0) ≡ None → can_add_row now x.0 x.1 ≡ true
       can table places behind none fit are is ends =

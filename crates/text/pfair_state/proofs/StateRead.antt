@@ -94,6 +94,6 @@ module _ (rows : List Row) (first : FirstRow) (got : Option FirstRow) (looked : 
         let m = state_machine in
         grown ∙ (λ i. record { slot = slot i; machine = m i; members = members i; table = c.table; places = c.places })
 
--- what failed for want of memory
+-- if an allocation fails
 pub memory : {A : Type 0} (P : A → Type 0) (r : Result A ReadFault) (f : ReadFault) → r ≡ Err f → f ≡ Memory → MatchResult r P (λ fault. fault ≡ Memory)
-memory P r f is told = subst (λ x. MatchResult x P (λ fault. fault ≡ Memory)) (sym is) told
+memory P r f is means = subst (λ x. MatchResult x P (λ fault. fault ≡ Memory)) (sym is) means
