@@ -3,8 +3,8 @@ use Rattle.std.proofs.lemmas.Grind.{common_steps}
 use Rattle.std.proofs.Common.{◌≡◌, ℕ, zero, suc, ◌+◌, ◌<◌, ◌≤◌, ◌⊎◌, inl, inr, List, [], ◌∷◌, ◌++◌, Vec, Global, length, refl, sym, ap, subst, arith, Option, Some}
 use Rattle.std.specs.Prelude.{Contains, slice_get, slice_set, slice_index_or, option_to_list, ◌%◌, ◌-◌}
 use Rattle.std.proofs.Math.Nat.{div-add-mod}
-use Rattle.std.proofs.lemmas.Bool.{leb-true, leb-false}
-use Rattle.std.proofs.lemmas.Option.{same_Some, slice_get_past, slice_get_within, slice_get-get_or}
+use Rattle.std.proofs.lemmas.Bool.{cases_order, leb-true, leb-false}
+use Rattle.std.proofs.lemmas.Option.{same_Some, slice_get_past, slice_get-get_or}
 use Rattle.pfair_order.specs.declared.Key.{Key}
 use Rattle.pfair_ready.specs.declared.calendar.Calendar.{Calendar}
 use Rattle.pfair_ready.specs.declared.far_dates.Date.{Date}
@@ -120,9 +120,12 @@ pub moves_turned : (slot : ℕ) (Was : Date → Type 0) (c c' : Calendar) (turns
     → c'.turned ≡ slot → c'.near.items ≡ c.near.items → c'.far ≡ c.far → Moves slot Was (IsNoted c') turns turns'
 moves_turned slot Was c c' turns turns' m later empty turned near far = grind (arith, leb-true, leb-false)
 
-pub popped_last : (o : Option Date) (xs ys : List Date) (last : Date) (n : ℕ) → n ≡ length xs → xs ≡ ys ++ option_to_list o → ((d : Date) → 0 < n → o ≡ Some (slice_index_or xs (n - 1) d)) → Some last ≡ slice_get xs (length xs - 1)
-    → (d : Date) → Contains xs d → (last ≡ d) ⊎ Contains ys d
-popped_last o xs ys last n long items value at d h = grind (arith, slice_get_within, same_Some, slice_get-get_or, common_steps)
+-- the date stands at a place of a list, or behind it
+abbrev pub IsFrom : List Date → ℕ → Date → Type 0
+IsFrom dates place d = (k : ℕ) × (place ≤ k) × (k < length dates) × (slice_index_or dates k d ≡ d)
+
+pub from_next : (dates : List Date) (place : ℕ) (date : Date) → date ≡ slice_index_or dates place date → (d : Date) → IsFrom dates place d → (date ≡ d) ⊎ IsFrom dates (place + 1) d
+from_next dates place date at d h = grind (arith, at, slice_get-get_or, same_Some, cases_order)
 
 -- ---- the lists of one slot after another
 

@@ -72,7 +72,7 @@ impl Calendar {
         (is_near && self.near.get(bucket)?.len() < NEAR_MOST).then_some(bucket)
     }
 
-    /// Makes room for so many dates, whenever they are.
+    /// Reserves memory for that many dates, of any slots.
     pub(crate) fn reserve(&mut self, alloc: Global, dates: usize) -> Result<(), AllocError>
         ensures kept { (d : Date) → IsNoted self.old d → IsNoted self.new d }
         ensures turned { self.new.turned ≡ self.old.turned }
@@ -127,9 +127,9 @@ fn release_all(dates: &mut Vec<Date>, released: &mut Turns, slot: u64) -> Result
     ensures moves { Moves slot (λ d. (d.release ≤ slot) × Contains dates.old.items d) (Contains dates.new.items) released.old released.new }
     ensures done { OnOk result (dates.new.items ≡ []) }
 {
-    while let Some(date) = dates.last() {
+    for date in dates.iter() {
         released.push(&date.key, date.hint)?;
-        let _ = dates.pop();
     }
+    dates.clear();
     Ok(())
 }
