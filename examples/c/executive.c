@@ -4,17 +4,17 @@
  *   executive run|file [PROCESSORS [QUANTA [MICROSECONDS]]]        else 2 processors, 600 quanta of 5,000 microseconds
  *   executive run PROCESSORS QUANTA MICROSECONDS lose PROCESSOR SLOT
  *
- * No master decides. The thread of a processor keeps a dispatcher of its own, says its announcements some slots ahead,
- * and hears those of the others: late, out of order, twice, and now and then not at all (../executive/exchange.h). In
- * the first half of a slot it plans the next ones, and leaves whose turn it is there. At each quantum's boundary it
- * only looks that up, and switches (../executive/ticks.h). After each 200 quanta it begins the next run, and the rows
- * are still those of one long run. ../kernel is the same executive on bare metal.
+ * No master decides. The thread of a processor keeps a dispatcher of its own, announces some slots ahead, and receives
+ * the entries of the others: late, out of order, twice, and now and then not at all (../executive/exchange.h). In the
+ * first half of a slot it plans the next ones, and leaves there whose turn it is. At each quantum's boundary it only
+ * looks that up, and switches (../executive/ticks.h). After each 200 quanta it begins the next run, and the rows are
+ * still those of one long run. ../kernel is the same executive on bare metal.
  *
  * `run` writes who really ran in which slot, as the tasks noted it, in the form of `pfair replay --affinity`; and on
  * standard error which quanta are lost, how late ticks began, how long they looked up, and what became of messages.
- * `file` writes the task file of the same announcements. With `lose` that processor's thread ends at the slot. The others
- * close its log and go on; the rows lack what it would have run until then, and on standard error stands at which slot a
- * task `down` of weight 1 arrives.
+ * `file` writes the task file of the same announcements. With `lose` that processor's thread ends at the slot. The
+ * others close its log and go on; the rows lack what it would have run until then, and standard error has the slot at
+ * which a task `down` of weight 1 arrives.
  * Exit status: 0; 1 if something was wrong; 2 for other words on the command line; 3 if an entry never came.
  */
 #define _GNU_SOURCE
@@ -60,6 +60,7 @@ static struct planner {
     struct processor processor;
     pthread_t thread;
     sem_t hints;
+    uint64_t end; /* the slot at whose tick its thread ends, or UINT64_MAX */
     bool is_first_in_first_out, has_told, has_closed;
 } planners[MOST_PROCESSORS];
 
@@ -96,6 +97,17 @@ static struct task *task_named(const struct pfair_name *name) {
 
 /* ---- a planner */
 
+/* Ends all if `down` is refused in the planned slot. Only that decision says so: how far the dead one's floors reach
+   depends on how late its thread was. */
+static void look_at_down(struct exchange *x, uint64_t slot) {
+    struct pfair_decided rows[ANNOUNCEMENTS + 1];
+    uint64_t count;
+    must(pfair_decisions(&x->dispatcher, slot % RUN, &count, rows, ANNOUNCEMENTS + 1));
+    for (uint64_t row = 0; row < count; row++)
+        if (is_down(&rows[row].name) && rows[row].outcome != 0)
+            stop("down isn't admitted: the tasks need all processors", slot);
+}
+
 /* Whose turn the planned slot is here. The processor whose place `down` has takes the dead one's place. */
 static struct turn turn_in(struct exchange *x, uint64_t slot) {
     struct pfair_pick rows[MOST_PROCESSORS];
@@ -105,11 +117,8 @@ static struct turn turn_in(struct exchange *x, uint64_t slot) {
     must(pfair_table(&x->dispatcher, slot % RUN, &count, rows, MOST_PROCESSORS));
     must(pfair_places(&x->dispatcher, slot % RUN, &count, places, MOST_PROCESSORS));
     unsigned down = place_of_down(rows, places, count), own = x->number == down ? lost.processor : x->number;
-    bool is_refused = down == MOST_PROCESSORS && slot >= lost.slot && slot - lost.slot >= LEAD;
     for (uint64_t row = 0; row < count; row++) {
         uint64_t index = whole_index(x, &rows[row]);
-        if (is_refused && places[row] == lost.processor)
-            stop("down isn't admitted: the tasks need all processors", slot);
         if (is_down(&rows[row].name)) continue;
         struct task *task = task_named(&rows[row].name);
         if (places[row] == own) turn = (struct turn){task, row, index, own};
@@ -122,6 +131,7 @@ static bool plan_slot(struct planner *p) {
     struct exchange *x = &p->exchange;
     uint64_t slot = p->processor.ready;
     if (!is_planned(x, slot)) return false;
+    look_at_down(x, slot);
     struct turn turn = turn_in(x, slot);
     if (leave_turn(&p->processor, slot, &turn) && turn.task != NULL) note(slot, &turn, "it wasn't settled");
     leave(x, slot);
@@ -157,17 +167,24 @@ static void look_for_dead(struct planner *p) {
     _exit(3);
 }
 
+/* The slot of the clock. A thread that is about to end announces nothing by a later slot than its last, however late it
+   is: then all are in one run until its log is closed. */
+static uint64_t slot_of(const struct planner *p) {
+    uint64_t slot = slot_by_clock();
+    return slot < p->end ? slot : p->end - 1;
+}
+
 /* Talks and plans until that time, up to AHEAD slots before their ticks. */
 static void plan_until(struct planner *p, struct timespec due) {
     const struct processor *own = &p->processor;
     do {
-        talk(&p->exchange, slot_by_clock());
+        talk(&p->exchange, slot_of(p));
         look_for_dead(p);
         while (own->ready < quanta && own->ready < own->slot + AHEAD && plan_slot(p)) {}
     } while (is_hinted(p, due));
 }
 
-/* Plans slot 0, of which all is said at once. Slots begin when all processors have planned it. */
+/* Plans slot 0, at which all is announced at once. Slots begin when all processors have planned it. */
 static void begin_slots(struct planner *p) {
     struct exchange *x = &p->exchange;
     for (talk(x, 0); !plan_slot(p); talk(x, 0)) {
@@ -196,8 +213,8 @@ static void *be_processor(void *itself) {
     pin(pthread_self(), number);
     p->is_first_in_first_out = first_in_first_out(pthread_self(), 20);
     begin_slots(p);
-    bool dies = number == lost.processor && lost.slot < quanta;
-    uint64_t end = dies ? lost.slot : quanta;
+    bool dies = p->end < quanta;
+    uint64_t end = dies ? p->end : quanta;
     for (uint64_t slot = 0; slot < end; slot++) {
         sleep_until(boundary(slot));
         tick(&p->processor, number, slot);
@@ -246,6 +263,7 @@ static void tell_rows(void) {
 static void start_all(void) {
     for (unsigned k = 0; k < machine; k++) {
         begin_exchange(&planners[k].exchange, k, machine, FRAME, quanta);
+        planners[k].end = k == lost.processor ? lost.slot : UINT64_MAX;
         sem_init(&planners[k].hints, 0, 0);
     }
     for (int k = 0; k < TASKS; k++) {

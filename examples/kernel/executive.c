@@ -184,7 +184,7 @@ static void be_idle(void *nothing) {
     for (;;) __asm__ volatile("hlt");
 }
 
-/* Plans slot 0, of which all is said at once. Slots begin when all processors have planned it. */
+/* Plans slot 0, at which all is announced at once. Slots begin when all processors have planned it. */
 static void begin_slots(unsigned number) {
     struct exchange *x = &planners[number].exchange;
     for (talk(x, 0); !plan_slot(number); talk(x, 0)) {
