@@ -6,11 +6,11 @@ use Rattle.std.specs.List.{filter}
 use Rattle.std.proofs.lemmas.Bool.Decides.{nat_tests}
 use Rattle.std.proofs.SliceLists.{all_by_recursion_push}
 use Rattle.std.proofs.lemmas.List.{append-nil}
-use Rattle.std.proofs.lemmas.List.Sums.{sum_by_push}
+use Rattle.std.proofs.lemmas.List.Sums.{sum_by-cons, sum_by_push}
 use Rattle.std.proofs.lemmas.List.Kept.{AllPairs-filter}
 use Rattle.std.proofs.lemmas.List.Quantifiers.{all_pairs_push}
 use Rattle.std.proofs.Math.Bool.{or-true}
-use Rattle.pfair_weight.specs.Share.{Share}
+use Rattle.pfair_weight.specs.Share.{Share, units_of}
 use Rattle.pfair_weight.specs.Window.{release_of, starts_job_of}
 use Rattle.pfair_entry.specs.declared.announcement.Announcement.{Announcement}
 use Rattle.pfair_admission.specs.declared.decision.Decision.{Decision}
@@ -18,11 +18,11 @@ use Rattle.pfair_admission.specs.declared.decision.Decision.TheVariants.{Admitte
 use Rattle.pfair_admission.specs.declared.delay.Delay.{Delay}
 use Rattle.pfair_admission.specs.declared.refusal.Refusal.{Refusal}
 use Rattle.pfair_admission.specs.Member.{Member, theta, busy_until, freeing_slot, is_delayed_at, eligible_from}
-use Rattle.pfair_admission.specs.Admission.{Machine, arrival, change, newcomer, with_delay, with_freeing, with_quantum, effect, is_freed, present, decision, decided, all_decisions, boundary, boundary_decisions, ran}
+use Rattle.pfair_admission.specs.Admission.{Machine, all_decided, arrival, change, claimed, newcomer, with_delay, with_freeing, with_quantum, effect, is_freed, present, decision, decided, all_decisions, boundary, boundary_decisions, ran}
 use Rattle.pfair_admission.specs.Carried.{carried}
 use Rattle.pfair_admission.specs.Removal.{NoneFreed}
 use Rattle.pfair_admission.specs.Laws.{AreInFrame, HaveRoom, JoinedInOrder}
-use Rattle.pfair_admission.proofs.MemberLists.{present_all, claimed_change, claimed_present}
+use Rattle.pfair_admission.proofs.MemberLists.{present_all, claimed_change, claimed_present, none_freed_present}
 use Rattle.pfair_admission.proofs.Each.{each_at, each_filter, each_map}
 use Rattle.pfair_admission.proofs.Effects.{by_boundary, by_effect, each_change}
 use Rattle.pfair_admission.proofs.Deciding.{admitted_room, claimed_arrived}
@@ -41,9 +41,30 @@ room_boundary machine t = by_boundary (HaveRoom machine) machine t (λ ms h. (le
 pub room_ran : (machine : Machine) (name : List ℕ) (ms : List Member) → HaveRoom machine ms → HaveRoom machine (ran name ms)
 room_ran machine name ms h = room_change machine name with_quantum (λ _. refl) ms h
 
+claimed_carried : (frame : ℕ) (ms : List Member) → claimed frame (map carried ms) ≡ claimed frame ms
+claimed_carried frame [] = refl
+claimed_carried frame (m ∷ ms) =
+    let units : Member → ℕ = λ (x : Member). units_of x.weight frame in
+    let more = sum_by-cons units (carried m) (map carried ms) in
+    let was = sum_by-cons units m ms in
+    let same = claimed_carried frame ms in
+    omega (arith, more, was, same)
+
+pub room_carried : (machine : Machine) (ms : List Member) → HaveRoom machine ms → HaveRoom machine (map carried ms)
+room_carried machine ms h = (let same = claimed_carried machine.frame ms in omega (arith, same, h))
+
+-- ---- who stays
+
+none_freed_decided : (machine : Machine) (t : ℕ) (ms : List Member) (announced : List Announcement) → NoneFreed t ms → NoneFreed t (all_decided machine t ms announced)
+none_freed_decided machine t ms [] h = h
+none_freed_decided machine t ms (a ∷ more) h = none_freed_decided machine t (decided machine t ms a) more (none_freed_present t (effect t ms a (decision machine t ms a)))
+
+pub none_freed_boundary : (machine : Machine) (t : ℕ) (ms : List Member) (announced : List Announcement) → NoneFreed t (boundary machine t ms announced)
+none_freed_boundary machine t ms announced = none_freed_decided machine t (present t ms) announced (none_freed_present t ms)
+
 -- ---- periods
 
-admitted_in_frame : (machine : Machine) (ms : List Member) (name : List ℕ) (w : Share) → Admitted ≡ arrival machine ms name w → machine.frame % w.period ≡ 0
+pub admitted_in_frame : (machine : Machine) (ms : List Member) (name : List ℕ) (w : Share) → Admitted ≡ arrival machine ms name w → machine.frame % w.period ≡ 0
 admitted_in_frame machine ms name w is = grind (arith, nat_tests)
 
 frame_change : (machine : Machine) (name : List ℕ) (f : Member → Member) → ((m : Member) → machine.frame % m.weight.period ≡ 0 → machine.frame % (f m).weight.period ≡ 0) → (ms : List Member) → AreInFrame machine ms → AreInFrame machine (change name f ms)

@@ -6,19 +6,20 @@ use Rattle.std.proofs.SliceLists.{all_by_recursion_push}
 use Rattle.std.proofs.lemmas.Bool.Decides.{nat_tests}
 use Rattle.std.proofs.lemmas.List.Sums.{sum_by-append, sum_by-cons, sum_by_push}
 use Rattle.pfair_weight.specs.Name.{NamesApart}
-use Rattle.pfair_weight.specs.Share.{Share, units_of}
+use Rattle.pfair_weight.specs.Share.{IsWeight, Share, units_of}
 use Rattle.pfair_weight.proofs.NamesApart.{apart_head, apart_push, apart_tail}
 use Rattle.pfair_entry.specs.Same.{name_eq}
 use Rattle.pfair_admission.specs.declared.decision.Decision.TheVariants.{Admitted}
 use Rattle.pfair_admission.specs.Member.{Member}
 use Rattle.pfair_admission.specs.Admission.{arrival, claimed, member_named, Machine}
 use Rattle.pfair_admission.specs.Carried.{carried, CanBeCarried}
-use Rattle.pfair_admission.specs.Laws.{HaveRoom}
+use Rattle.pfair_admission.specs.Laws.{AreInFrame, HaveRoom}
 use Rattle.pfair_admission.specs.Removal.{IsNotBefore}
 use Rattle.pfair_admission.specs.Restored.{CanBeRestored, IsLeftAt}
 use Rattle.pfair_admission.proofs.CarriedAgain.{able_again, carried_again, done_low}
 use Rattle.pfair_admission.proofs.Deciding.{admitted_new, admitted_room}
 use Rattle.pfair_admission.proofs.Each.{each}
+use Rattle.pfair_admission.proofs.Keeping.{admitted_in_frame}
 use Rattle.pfair_admission.proofs.NamesKept.{others_named}
 
 abbrev label : Member → List ℕ
@@ -35,6 +36,9 @@ room_more machine t members m can =
     let sum = sum_by_push (λ (x : Member). units_of x.weight machine.frame) members m in
     omega (arith, fits, sum)
 
+pub in_frame_more : (machine : Machine) (t : ℕ) (members : List Member) (m : Member) → CanBeRestored machine t members m → AreInFrame machine members → AreInFrame machine (members ++ m ∷ [])
+in_frame_more machine t members m can h = all_by_recursion_push (λ (x : Member). machine.frame % x.weight.period ≡ 0) members m h (admitted_in_frame machine members m.name m.weight (sym can.admitted))
+
 pub left_more : (machine : Machine) (t : ℕ) (members : List Member) (m : Member) → CanBeRestored machine t members m → AllByRecursion (IsLeftAt t) members → AllByRecursion (IsLeftAt t) (members ++ m ∷ [])
 left_more machine t members m can h = all_by_recursion_push (IsLeftAt t) members m h can.left
 
@@ -47,8 +51,9 @@ all_able t members h = each (IsLeftAt t) CanBeCarried (λ m left. left.able) mem
 
 -- ---- what a run leaves
 
-pub left_carried : (t : ℕ) (m : Member) → CanBeCarried m → 1 ≤ m.next → (carried m).joined < t → IsNotBefore (Some t) m.freed_at → IsLeftAt t (carried m)
-left_carried t m able first joined freed = record {
+pub left_carried : (t : ℕ) (m : Member) → IsWeight m.weight.cost m.weight.period → CanBeCarried m → 1 ≤ m.next → (carried m).joined < t → IsNotBefore (Some t) m.freed_at → IsLeftAt t (carried m)
+left_carried t m weighed able first joined freed = record {
+  weighed = weighed;
   able = able_again m able;
   again = carried_again m;
   first = (let low = done_low m in omega (arith, low, first));

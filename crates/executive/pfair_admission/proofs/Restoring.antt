@@ -12,7 +12,7 @@ use Rattle.pfair_admission.specs.declared.delay.Delay.{Delay}
 use Rattle.pfair_entry.specs.declared.entry.TheConstants.Entry.{LAST_INDEX}
 use Rattle.pfair_admission.specs.declared.members.TheConstants.Members.{LAST_SLOT}
 use Rattle.pfair_admission.specs.Member.{Member, last_offset}
-use Rattle.pfair_weight.specs.Share.{Share}
+use Rattle.pfair_weight.specs.Share.{IsWeight, Share}
 use Rattle.pfair_admission.specs.declared.decision.Decision.{Decision}
 use Rattle.pfair_admission.specs.declared.decision.Decision.TheVariants.{Admitted, Refused}
 use Rattle.pfair_admission.specs.declared.refusal.Refusal.{Refusal}
@@ -113,11 +113,13 @@ passes t m h = record {
 passed : (t : ℕ) (m : Member) → Passes t m → is_left_at t m ≡ true
 passed t m h = grind (arith, nat_tests)
 
-pub left_at : (t : ℕ) (m : Member) → 1 ≤ m.weight.cost → is_left_at t m ≡ true → IsLeftAt t m
-left_at t m some h =
+pub left_at : (t : ℕ) (m : Member) → IsWeight m.weight.cost m.weight.period → is_left_at t m ≡ true → IsLeftAt t m
+left_at t m weighed h =
+    let some = weighed.some_cost in
     let is = passes t m h in
     let again = stays m some is.next is.summed in
     record {
+      weighed = weighed;
       able = record { cost = (some, is.cost); offset = subst (λ (x : Member). last_offset x ≤ LAST_SLOT) (sym again) is.offset };
       again = again;
       first = is.first;

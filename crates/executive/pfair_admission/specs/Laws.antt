@@ -25,6 +25,7 @@ HaveRoom machine members = claimed machine.frame members ≤ machine.processors 
 pub record MembersKeepRoom : Type 0 where
   pub boundaries : (machine : Machine) (t : ℕ) (members : List Member) (announced : List Announcement) → HaveRoom machine members → HaveRoom machine (boundary machine t members announced)
   pub quanta : (machine : Machine) (name : List ℕ) (members : List Member) → HaveRoom machine members → HaveRoom machine (ran name members)
+  pub carrying : (machine : Machine) (members : List Member) → HaveRoom machine members → HaveRoom machine (map carried members)
 
 -- a refused announcement changes nothing
 abbrev pub RefusalsChangeNothing : Type 0
@@ -93,15 +94,17 @@ pub record PeriodsStayInFrame : Type 0 where
   pub quanta : (machine : Machine) (name : List ℕ) (members : List Member) → AreInFrame machine members → AreInFrame machine (ran name members)
   pub carrying : (machine : Machine) (members : List Member) → AreInFrame machine members → AreInFrame machine (map carried members)
 
--- members that are restored one behind the other have distinct names and room, and carrying leaves each of them as it is
+-- members that are restored one behind the other have distinct names, room and periods that divide the frame, and carrying leaves each
+-- of them as it is
 pub record RestoredMembersAreCarried : Type 0 where
   pub named : (machine : Machine) (t : ℕ) (members : List Member) (m : Member) → CanBeRestored machine t members m → NamesApart (λ m. m.name) members → NamesApart (λ m. m.name) (members ++ m ∷ [])
   pub room : (machine : Machine) (t : ℕ) (members : List Member) (m : Member) → CanBeRestored machine t members m → HaveRoom machine (members ++ m ∷ [])
+  pub in_frame : (machine : Machine) (t : ℕ) (members : List Member) (m : Member) → CanBeRestored machine t members m → AreInFrame machine members → AreInFrame machine (members ++ m ∷ [])
   pub left : (machine : Machine) (t : ℕ) (members : List Member) (m : Member) → CanBeRestored machine t members m → AllByRecursion (IsLeftAt t) members → AllByRecursion (IsLeftAt t) (members ++ m ∷ [])
   pub again : (t : ℕ) (members : List Member) → AllByRecursion (IsLeftAt t) members → map carried members ≡ members
   pub able : (t : ℕ) (members : List Member) → AllByRecursion (IsLeftAt t) members → AllByRecursion CanBeCarried members
 
 -- carried members that had joined and weren't freed before slot t can be restored, each behind those before it
 pub record CarriedMembersAreRestored : Type 0 where
-  pub left : (t : ℕ) (m : Member) → CanBeCarried m → 1 ≤ m.next → (carried m).joined < t → IsNotBefore (Some t) m.freed_at → IsLeftAt t (carried m)
+  pub left : (t : ℕ) (m : Member) → IsWeight m.weight.cost m.weight.period → CanBeCarried m → 1 ≤ m.next → (carried m).joined < t → IsNotBefore (Some t) m.freed_at → IsLeftAt t (carried m)
   pub in_turn : (machine : Machine) (t : ℕ) (before after : List Member) (m : Member) → NamesApart (λ m. m.name) (before ++ m ∷ after) → HaveRoom machine (before ++ m ∷ after) → machine.frame % m.weight.period ≡ 0 → IsLeftAt t m → CanBeRestored machine t before m

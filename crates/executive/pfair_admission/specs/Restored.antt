@@ -1,6 +1,7 @@
 -- Members that a run begins with, where they are restored one by one.
 use Rattle.std.specs.Prelude.{ℕ, ◌≡◌, ◌≤◌, ◌<◌, ◌+◌, ◌-◌, ◌==◌, ◌||◌, ◌&&◌, Bool, true, false, nat_le, nat_lt, List, [], ◌∷◌, Some, ⊤, if◌then◌else◌}
 use Rattle.std.specs.List.{list_all}
+use Rattle.pfair_weight.specs.Share.{IsWeight}
 use Rattle.pfair_entry.specs.declared.entry.TheConstants.Entry.{LAST_INDEX}
 use Rattle.pfair_admission.specs.declared.members.TheConstants.Members.{LAST_SLOT}
 use Rattle.pfair_admission.specs.declared.delay.Delay.{Delay}
@@ -16,8 +17,9 @@ use Rattle.pfair_admission.specs.Removal.{IsNotBefore}
 abbrev pub member_in : MemberState → Member
 member_in s = record { name = s.name; weight = s.weight; early = s.early; joined = s.joined; delays = s.delays.items; next = s.next; freed_at = s.freed_at }
 
--- what a run that ended before slot t can leave: a member with no whole job to take off, that had joined and isn't freed before t
+-- what a run that ended before slot t can leave: a member with a weight and no whole job to take off, that had joined and isn't freed before t
 pub record IsLeftAt (t : ℕ) (m : Member) : Type 0 where
+  pub weighed : IsWeight m.weight.cost m.weight.period
   pub able : CanBeCarried m
   pub again : carried m ≡ m
   pub first : 1 ≤ m.next

@@ -19,6 +19,7 @@ mod PlacesKept
 mod Filling
 mod PlacesOn
 mod Alike
+mod Left
 mod NextRuns
 pub mod RunsOn
 mod ReadOn

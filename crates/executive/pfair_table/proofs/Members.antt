@@ -30,7 +30,7 @@ module _ (o : Origin) (s : Settings) (before : NamesApart label (members_before 
 
 pub named_before : (o : Origin) (s : Settings) → IsOrigin o s → NamesApart label (members_before o)
 named_before None s began = apart_nil label
-named_before (Some c) s began = began.named
+named_before (Some c) s began = began.members.named
 
 pub named_world : (s : Settings) (x : Story) (t : ℕ) → NamesApart label (world s x t)
 named_world s x t = named_from None s (apart_nil label) x t

@@ -1,10 +1,6 @@
 -- What a finished run leaves can be taken over by a next run, and finished runs that agree leave the same.
-use Rattle.std.proofs.Common.{ℕ, ◌+◌, ◌≤◌, ◌<◌, ◌≡◌, refl, sym, ap, subst, ◌∙◌, arith, Bool, false, List, length, map}
+use Rattle.std.proofs.Common.{ℕ, ◌+◌, ◌≤◌, ◌<◌, ◌≡◌, sym, ap, subst, ◌∙◌, arith, Bool, false, List, length, map}
 use Rattle.std.specs.List.{AllByRecursion}
-use Rattle.std.proofs.lemmas.Simd.{map-map}
-use Rattle.pfair_weight.specs.Name.{NamesApart}
-use Rattle.pfair_weight.proofs.NamesApart.{apart_map}
-use Rattle.pfair_replica.specs.Among.{map_same}
 use Rattle.pfair_replica.specs.HeldRows.{HeldRows, replica_of}
 use Rattle.pfair_replica.specs.Replica.{Replica, IsReplica, has_torn, said}
 use Rattle.pfair_replica.proofs.Marks.{same_said}
@@ -16,10 +12,10 @@ use Rattle.pfair_table.specs.declared.answer.NextRunFault.{NextRunFault}
 use Rattle.pfair_table.specs.declared.answer.NextRunFault.TheVariants.{Torn, Spent, Unfinished, PastLastSlot, CannotCarry, Memory}
 use Rattle.pfair_admission.specs.Roster.{Roster}
 use Rattle.pfair_admission.specs.declared.members.TheConstants.Members.{LAST_SLOT}
-use Rattle.pfair_admission.proofs.CarriedAgain.{able_again, carried_again}
-use Rattle.pfair_admission.proofs.Each.{each_map}
+use Rattle.pfair_admission.specs.Admission.{Machine}
+use Rattle.pfair_admission.specs.Member.{Member}
 use Rattle.pfair_table.specs.declared.pick.Decided.{Decided}
-use Rattle.pfair_table.specs.Limits.{IsCarried}
+use Rattle.pfair_table.specs.Limits.{AreLeftAt, IsCarried}
 use Rattle.pfair_table.specs.NextRun.{CanBeFollowed, IsFinished, IsNextRunFault, IsResumeFault, LeaveAlike, end_of, left_by, members_left}
 use Rattle.pfair_table.specs.Places.{table_before, places_before, places_in, IsFit, ArePlacesOf}
 use Rattle.pfair_table.specs.Planned.{last_or}
@@ -27,11 +23,12 @@ use Rattle.pfair_table.specs.Refinement.{Dispatch, IsKept, members_after}
 use Rattle.pfair_table.specs.Table.{Settings, Origin, Carried, Table, machine, slot_of, history_from, history_over}
 use Rattle.pfair_table.proofs.Alike.{untorn_right}
 use Rattle.pfair_table.proofs.Keeping.{is_of_held, plan_now, step_now}
-use Rattle.pfair_table.proofs.Members.{label}
+use Rattle.pfair_table.proofs.Left.{all_left}
 use Rattle.pfair_table.proofs.PlacesKept.{places_before_are}
 use Rattle.pfair_table.proofs.PlacesOn.{fit_before, fit_plan, last_fit, last_places}
 use Rattle.pfair_table.proofs.Runs.{untorn_left}
 use Rattle.pfair_table.proofs.Steps.{plan_of_held}
+use Rattle.pfair_table.proofs.Within.{said_weighed}
 use Rattle.pfair_table.proofs.TableLaws.{same_history}
 
 module _ {o : Origin} {s : Settings} {held : Replica} {tables : List Table} {decided : List (List Decided)} {spent : Bool} {roster : Roster} {now : ℕ} {waiting : Queue} (kept : IsKept o s held tables decided spent roster now waiting) (sound : IsReplica held) (test : has_torn held ≡ false) (able : spent ≡ false) (all : s.slots ≤ length tables) where
@@ -53,14 +50,11 @@ module _ {o : Origin} {s : Settings} {held : Replica} {tables : List Table} {dec
   pub carried_on : (slots : ℕ) (c : Carried) → c.slot ≡ slot_of o s.slots → c.machine ≡ machine s → c.members ≡ map carried (members_after o s held s.slots) → AllByRecursion CanBeCarried (members_after o s held s.slots)
       → c.table ≡ last_or (table_before o) tables → c.places ≡ last_or (places_before o) (places_in o tables) → c.slot + slots ≤ LAST_SLOT → IsCarried (record s { slots = slots }) c
   carried_on slots c slot_is machine_is members_are can table_is places_are within =
-      let members = members_after o s held s.slots in
-      let named = subst (NamesApart label) left_members (step_now kept sound test able).steady.named in
       let fit = fit_plan kept.began kept.plan in
+      let left = all_left o s kept.began (said held) (said_weighed held sound) s.slots can in
       record {
         machine_is = machine_is;
-        named = subst (NamesApart label) (sym members_are) (apart_map label label carried (λ m. refl) members named);
-        again = ap (map carried) members_are ∙ map-map carried carried members ∙ map_same (λ m. carried (carried m)) carried members (λ m h. carried_again m) ∙ sym members_are;
-        able = subst (AllByRecursion CanBeCarried) (sym members_are) (each_map CanBeCarried CanBeCarried carried able_again members can);
+        members = subst (λ (p : ℕ × Machine × List Member). AreLeftAt p.0 p.1 p.2) (λ i. (sym slot_is i, sym machine_is i, sym members_are i)) left;
         in_time = within;
         rows = subst (IsFit s.processors) (sym table_is) (last_fit s.processors (table_before o) tables (fit_before o s kept.began) fit);
         places = subst (λ (p : Table × List ℕ). ArePlacesOf s.processors p.0 p.1) (λ i. (sym table_is i, sym places_are i)) (last_places s.processors (table_before o) (places_before o) (places_before_are o s kept.began) tables fit);

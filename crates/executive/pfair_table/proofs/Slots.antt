@@ -15,7 +15,7 @@ use Rattle.pfair_table.specs.Queue.{IsQueue, IsSteady}
 use Rattle.pfair_table.specs.Limits.{IsOrigin}
 use Rattle.pfair_admission.specs.declared.members.TheConstants.Members.{LAST_SLOT}
 use Rattle.pfair_weight.specs.declared.window.TheConstants.{MAX_INDEX}
-use Rattle.pfair_admission.specs.Carried.{carried, CanBeCarried}
+use Rattle.pfair_admission.specs.Restored.{IsLeftAt}
 use Rattle.pfair_admission.proofs.CarriedAgain.{next_fits}
 use Rattle.pfair_admission.proofs.NamesKept.{apart_boundary}
 use Rattle.pfair_table.proofs.TableLaws.{ordered_from}
@@ -57,7 +57,7 @@ few_before o s began x t early =
   where
     few : (o : Origin) → IsOrigin o s → AllByRecursion (λ m. m.next ≤ 1000001) (members_before o)
     few None began = tt
-    few (Some c) began = subst (AllByRecursion (λ (m : Member). m.next ≤ 1000001)) began.again (each_map CanBeCarried (λ m. m.next ≤ 1000001) carried next_fits c.members began.able)
+    few (Some c) began = each (IsLeftAt c.slot) (λ m. m.next ≤ 1000001) (λ m left. subst (λ (x : Member). x.next ≤ 1000001) left.again (next_fits m left.able)) c.members began.members.left
 
 -- and its time is within that of members
 pub in_time : (o : Origin) (s : Settings) → IsOrigin o s → s.slots ≤ 1000000 → (t : ℕ) → t < s.slots → slot_of o t ≤ LAST_SLOT

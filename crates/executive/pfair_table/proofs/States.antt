@@ -11,12 +11,12 @@ use Rattle.pfair_admission.specs.Member.{Member}
 use Rattle.pfair_admission.specs.declared.members.TheConstants.Members.{LAST_SLOT}
 use Rattle.pfair_table.specs.declared.pick.Pick.{Pick}
 use Rattle.pfair_table.specs.declared.settings.TheConstants.Settings.{MAX_PROCESSORS, MAX_FRAME}
-use Rattle.pfair_table.specs.Limits.{AreCarried, IsCarried, IsSettings, IsState, can_add_row, settings_from, with_row}
+use Rattle.pfair_table.specs.Limits.{AreLeftAt, IsCarried, IsSettings, IsState, can_add_row, settings_from, with_row}
 use Rattle.pfair_table.specs.Places.{AllDiffer, ArePlacesOf, IsFit, is_used}
 use Rattle.pfair_table.specs.Table.{Carried, Settings, Table, names_task}
 
-pub none_carried : AreCarried []
-none_carried = record { named = apart_nil (λ (m : Member). m.name); again = refl; able = tt }
+pub none_left : (t : ℕ) (machine : Machine) → AreLeftAt t machine []
+none_left t machine = record { named = apart_nil (λ (m : Member). m.name); room = omega arith; in_frame = tt; left = tt }
 
 -- ---- rows
 
@@ -83,7 +83,7 @@ state_of s slots c limits taken =
     let within = taken.in_time in record {
       processors = subst (λ (m : Machine). (0 < m.processors) × (m.processors ≤ MAX_PROCESSORS)) is limits.processors;
       frame = subst (λ (m : Machine). (0 < m.frame) × (m.frame ≤ MAX_FRAME)) is limits.frame;
-      members = record { named = taken.named; again = taken.again; able = taken.able };
+      members = taken.members;
       early = omega (arith, within);
       rows = subst (λ (m : Machine). IsFit m.processors c.table) is taken.rows;
       places = subst (λ (m : Machine). ArePlacesOf m.processors c.table c.places) is taken.places;
@@ -92,9 +92,7 @@ state_of s slots c limits taken =
 pub taken_over : (c : Carried) (slots : ℕ) → IsState c → c.slot + slots ≤ LAST_SLOT → IsCarried (settings_from c slots) c
 taken_over c slots state within = record {
   machine_is = refl;
-  named = state.members.named;
-  again = state.members.again;
-  able = state.members.able;
+  members = state.members;
   in_time = within;
   rows = state.rows;
   places = state.places;

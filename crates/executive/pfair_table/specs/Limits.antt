@@ -1,10 +1,12 @@
 -- The limits of settings, and of what a run takes over.
-use Rattle.std.specs.Prelude.{ℕ, ◌≡◌, ◌+◌, ◌≤◌, ◌<◌, Bool, not, ◌&&◌, nat_lt, List, [], ◌∷◌, ◌++◌, Some, None, ⊤, length, map}
+use Rattle.std.specs.Prelude.{ℕ, ◌≡◌, ◌+◌, ◌≤◌, ◌<◌, Bool, not, ◌&&◌, nat_lt, List, [], ◌∷◌, ◌++◌, Some, None, ⊤, length}
 use Rattle.std.specs.List.{AllByRecursion}
 use Rattle.pfair_weight.specs.Name.{NamesApart}
 use Rattle.pfair_admission.specs.declared.members.TheConstants.Members.{LAST_SLOT}
-use Rattle.pfair_admission.specs.Carried.{carried, CanBeCarried}
+use Rattle.pfair_admission.specs.Admission.{Machine}
+use Rattle.pfair_admission.specs.Laws.{AreInFrame, HaveRoom}
 use Rattle.pfair_admission.specs.Member.{Member}
+use Rattle.pfair_admission.specs.Restored.{IsLeftAt}
 use Rattle.pfair_table.specs.declared.pick.Pick.{Pick}
 use Rattle.pfair_table.specs.Places.{IsFit, ArePlacesOf, is_used}
 use Rattle.pfair_table.specs.Table.{Settings, Carried, Origin, machine, names_task}
@@ -15,17 +17,18 @@ pub record IsSettings (s : Settings) : Type 0 where
   pub frame : (0 < s.frame) × (s.frame ≤ MAX_FRAME)
   pub slots : (0 < s.slots) × (s.slots ≤ MAX_SLOTS)
 
--- members that a run can begin with: they have distinct names, and are counted as those of a next run
-pub record AreCarried (members : List Member) : Type 0 where
+-- members that a run which ended before slot t can leave: they have distinct names, the machine has room for them, and each can be left
+pub record AreLeftAt (t : ℕ) (machine : Machine) (members : List Member) : Type 0 where
   pub named : NamesApart (λ m. m.name) members
-  pub again : map carried members ≡ members
-  pub able : AllByRecursion CanBeCarried members
+  pub room : HaveRoom machine members
+  pub in_frame : AreInFrame machine members
+  pub left : AllByRecursion (IsLeftAt t) members
 
 -- what some run can take over
 pub record IsState (c : Carried) : Type 0 where
   pub processors : (0 < c.machine.processors) × (c.machine.processors ≤ MAX_PROCESSORS)
   pub frame : (0 < c.machine.frame) × (c.machine.frame ≤ MAX_FRAME)
-  pub members : AreCarried c.members
+  pub members : AreLeftAt c.slot c.machine c.members
   pub early : c.slot ≤ LAST_SLOT
   pub rows : IsFit c.machine.processors c.table
   pub places : ArePlacesOf c.machine.processors c.table c.places
@@ -46,13 +49,11 @@ can_add_row c p place =
 abbrev pub with_row : Carried → Pick → ℕ → Carried
 with_row c p place = record c { table = c.table ++ p ∷ []; places = c.places ++ place ∷ [] }
 
--- What a run of these settings can take over: members of its machine with distinct names, counted as a next run does, early
--- enough, and a table that a slot can have, with its places.
+-- What a run of these settings can take over: members of its machine that a run before it can leave, early enough, and a table that a
+-- slot can have, with its places.
 pub record IsCarried (s : Settings) (c : Carried) : Type 0 where
   pub machine_is : c.machine ≡ machine s
-  pub named : NamesApart (λ m. m.name) c.members
-  pub again : map carried c.members ≡ c.members
-  pub able : AllByRecursion CanBeCarried c.members
+  pub members : AreLeftAt c.slot c.machine c.members
   pub in_time : c.slot + s.slots ≤ LAST_SLOT
   pub rows : IsFit s.processors c.table
   pub places : ArePlacesOf s.processors c.table c.places

@@ -28,9 +28,9 @@ impl<R: Ready> Dispatcher<R> {
     /// dispatcher stays as it is.
     ///
     /// The next run begins with the members of this one, in their order, and a task that runs on
-    /// keeps its processor. Of each member the jobs before that of its last quantum are taken off: its
-    /// indexes begin anew, at most one job high, and its windows stay where they are. Stamps, floors
-    /// and slots of the next run count from its own slot 0, entries from 1. Announcements stamped after
+    /// keeps its processor. Each member's jobs before that of its last quantum are dropped: its
+    /// indexes are lower by their subtasks, and its windows stay where they are. Stamps, floors and
+    /// slots of the next run count from its own slot 0, entries from 1. Announcements stamped after
     /// the last slot of this run are not taken over.
     ///
     /// O(n log n + d log d) for n members with d accepted delays that are still to come.

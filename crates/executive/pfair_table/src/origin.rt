@@ -25,7 +25,7 @@ pub(crate) fn first_members(
     let Some(state) = origin else {
         return Ok(Members::new(alloc, settings.processors(), settings.frame()));
     };
-    // members that were carried can be carried again, and stay as they are
+    // members that a run left can be carried, and stay as they are
     state.members.carried()
 }
 

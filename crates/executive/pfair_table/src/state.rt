@@ -2,7 +2,7 @@
 ghost use Rattle.std.specs.Prelude.{◌≡◌, ◌≤◌, ◌==◌, [], IfOk, OnErr, if◌then◌else◌};
 ghost use Rattle.pfair_admission.specs.declared.members.TheConstants.Members.{LAST_SLOT};
 ghost use Rattle.pfair_entry.specs.Same.{name_eq};
-ghost use Rattle.pfair_table.specs.Limits.{AreCarried, IsState, can_add_row, first_state, with_row};
+ghost use Rattle.pfair_table.specs.Limits.{AreLeftAt, IsState, can_add_row, first_state, with_row};
 ghost use Rattle.pfair_table.specs.Places.{is_used};
 ghost use Rattle.pfair_table.specs.Table.{names_task};
 
@@ -59,12 +59,12 @@ impl State {
         State::new(alloc, 0, members)
     }
 
-    /// Creates the state of a run that begins at a slot with members that were carried, and behind a
-    /// slot in which nothing ran. Allocates nothing.
+    /// Creates the state of a run that begins at a slot with members that a run before it can leave, and
+    /// behind a slot in which nothing ran. Allocates nothing.
     pub fn new(alloc: Global, slot: u64, members: Members) -> State
         requires processors { 1 ≤ members.machine.processors }
         requires frame { 1 ≤ members.machine.frame }
-        requires members { AreCarried members.members }
+        requires members { AreLeftAt slot members.machine members.members }
         requires slot { slot ≤ LAST_SLOT }
         ensures { result ≡ record { slot = slot; machine = members.machine; members = members.members; table = []; places = [] } }
     {

@@ -1,33 +1,27 @@
--- The members that a run can begin with: none, and one more.
-use Rattle.std.proofs.Common.{ℕ, ◌≡◌, [], ◌∷◌, ◌++◌, List, ◌∙◌, refl, sym, subst}
+-- The members that a run can leave: none, and one more.
+use Rattle.std.proofs.Common.{ℕ, ◌≡◌, [], ◌∷◌, ◌++◌, List, arith, sym, subst}
 use Rattle.std.specs.Prelude.{Result, Ok, Err, OnOk}
-use Rattle.std.proofs.SliceLists.{all_by_recursion_push}
-use Rattle.std.proofs.lemmas.List.{map_push}
 use Rattle.pfair_weight.proofs.NamesApart.{apart_nil}
 use Rattle.pfair_admission.specs.Admission.{Machine}
-use Rattle.pfair_admission.specs.Carried.{carried, CanBeCarried}
 use Rattle.pfair_admission.specs.Roster.{Roster}
 use Rattle.pfair_admission.specs.Member.{Member}
 use Rattle.pfair_admission.specs.Restored.{CanBeRestored}
-use Rattle.pfair_admission.proofs.RestoredRuns.{named_more}
-use Rattle.pfair_table.specs.Limits.{AreCarried}
+use Rattle.pfair_admission.proofs.RestoredRuns.{in_frame_more, left_more, named_more, room_more}
+use Rattle.pfair_table.specs.Limits.{AreLeftAt}
 
-pub none_carried : AreCarried []
-none_carried = record { named = apart_nil (λ (m : Member). m.name); again = refl; able = tt }
+pub none_left : (slot : ℕ) (machine : Machine) → AreLeftAt slot machine []
+none_left slot machine = record { named = apart_nil (λ (m : Member). m.name); room = omega arith; in_frame = tt; left = tt }
 
-pub carried_more : (machine : Machine) (slot : ℕ) (members : List Member) (m : Member) → CanBeRestored machine slot members m → AreCarried members → AreCarried (members ++ m ∷ [])
-carried_more machine slot members m restored all =
-    let own = restored.left.again in
-    let others = all.again in
-    let able = all.able in
-    let one = restored.left.able in record {
-      named = named_more machine slot members m restored all.named;
-      again = map_push carried members m ∙ (λ i. others i ++ own i ∷ []);
-      able = all_by_recursion_push CanBeCarried members m able one;
-    }
+one_more : (machine : Machine) (slot : ℕ) (members : List Member) (m : Member) → CanBeRestored machine slot members m → AreLeftAt slot machine members → AreLeftAt slot machine (members ++ m ∷ [])
+one_more machine slot members m restored all = record {
+  named = named_more machine slot members m restored all.named;
+  room = room_more machine slot members m restored;
+  in_frame = in_frame_more machine slot members m restored all.in_frame;
+  left = left_more machine slot members m restored all.left;
+}
 
 -- if it is restored
-pub carried_on : {A E : Type 0} (r : Result A E) (machine : Machine) (slot : ℕ) (old new : Roster) (m : Member) → OnOk r (CanBeRestored machine slot old.members m) → OnOk r (new ≡ record old { members = old.members ++ m ∷ [] })
-    → AreCarried old.members → OnOk r (AreCarried new.members)
-carried_on (Ok x) machine slot old new m restored is all = subst (λ (now : Roster). AreCarried now.members) (sym is) (carried_more machine slot old.members m restored all)
-carried_on (Err e) machine slot old new m restored is all = tt
+pub left_on : {A E : Type 0} (r : Result A E) (slot : ℕ) (old new : Roster) (m : Member) → OnOk r (CanBeRestored old.machine slot old.members m) → OnOk r (new ≡ record old { members = old.members ++ m ∷ [] })
+    → AreLeftAt slot old.machine old.members → OnOk r (AreLeftAt slot new.machine new.members)
+left_on (Ok x) slot old new m restored is all = subst (λ (now : Roster). AreLeftAt slot now.machine now.members) (sym is) (one_more old.machine slot old.members m restored all)
+left_on (Err e) slot old new m restored is all = tt

@@ -2,10 +2,12 @@ mod Behind
 mod Carried
 mod DelaysRead
 mod MembersRead
+mod OneText
 mod QuantaRead
 mod RowKinds
 pub mod RowLists
 mod RowsRead
 mod RowsSaid
+mod RowsSpelled
 mod Spelled
 mod StateRead

@@ -10,7 +10,8 @@ use Rattle.pfair_admission.specs.Restored.{CanBeRestored, IsLeftAt}
 use Rattle.pfair_admission.specs.Roster.{Roster}
 use Rattle.pfair_admission.specs.declared.delay.Delay.{Delay}
 use Rattle.pfair_admission.proofs.RestoredRuns.{in_turn}
-use Rattle.pfair_state.specs.Reading.{AreLeftAt, IsBehindMembers, as_late, late_said, member_of, as_member, member_said, own_said}
+use Rattle.pfair_table.specs.Limits.{AreLeftAt}
+use Rattle.pfair_state.specs.Reading.{IsBehindMembers, as_late, late_said, member_of, as_member, member_said, own_said}
 use Rattle.pfair_state.specs.declared.row.MemberRow.{MemberRow}
 use Rattle.pfair_state.specs.declared.row.Row.{Row}
 use Rattle.pfair_state.specs.declared.row.Row.TheVariants.{Member as MemberIn}

@@ -5,9 +5,10 @@ use Rattle.std.proofs.lemmas.List.{length-append, length-drop}
 use Rattle.pfair_admission.specs.Admission.{Machine}
 use Rattle.pfair_admission.specs.Member.{Member}
 use Rattle.pfair_admission.specs.Roster.{Roster}
+use Rattle.pfair_table.specs.Limits.{AreLeftAt}
 use Rattle.pfair_table.specs.Places.{ArePlacesOf, IsFit}
 use Rattle.pfair_table.specs.Table.{Carried, Table}
-use Rattle.pfair_state.specs.Reading.{AreLeftAt, IsBehindMembers, IsWritable, as_first, as_end, member_said, as_quantum, ran_said, said_before_end, said_of}
+use Rattle.pfair_state.specs.Reading.{IsBehindMembers, IsWritable, as_first, as_end, member_said, as_quantum, ran_said, said_before_end, said_of}
 use Rattle.pfair_state.specs.declared.fault.ReadFault.{ReadFault}
 use Rattle.pfair_state.specs.declared.fault.ReadFault.TheVariants.{Memory}
 use Rattle.pfair_state.specs.declared.row.FirstRow.{FirstRow}
@@ -71,7 +72,7 @@ module _ (rows : List Row) (first : FirstRow) (got : Option FirstRow) (looked : 
   pub by_members : {P : List Member → List Row → Type 0} → ((all : List Member) (behind : List Row) → roster.members ≡ [] → AreLeftAt first.slot roster.machine all → drop 1 rows ≡ flat_map member_said all ++ behind → IsBehindMembers behind → P all behind) → P c.members (behind_members c)
   by_members back =
       back c.members (behind_members c) (ap (λ (r : Roster). r.members) made)
-      (subst (λ (m : Machine). AreLeftAt first.slot m c.members) (sym machine_is) (subst (λ slot. AreLeftAt slot c.machine c.members) (sym slot_is) can.members))
+      (subst (λ (m : Machine). AreLeftAt first.slot m c.members) (sym machine_is) (subst (λ slot. AreLeftAt slot c.machine c.members) (sym slot_is) can.state.members))
       (members_there rows c is) (ends_members c)
 
   module _ (at : ℕ) (now : Roster) (read : (drop at rows ≡ behind_members c) × (now ≡ record roster { members = c.members })) (state : Carried) (begun : state ≡ record { slot = first.slot; machine = now.machine; members = now.members; table = []; places = [] }) where

@@ -2,20 +2,17 @@
 use Rattle.std.specs.Prelude.{ℕ, ◌+◌, ◌<◌, ◌^◌, min, ◌≡◌, Option, None, Some, List, [], ◌∷◌, ◌++◌, length, map, drop, slice_get, Result, MatchResult, IfSome, codes}
 use Rattle.std.specs.Fmt.{decimal}
 use Rattle.std.specs.List.{AllByRecursion, flat_map, join_with_byte}
-use Rattle.pfair_weight.specs.Name.{IsTaskName, NamesApart}
+use Rattle.pfair_weight.specs.Name.{IsTaskName}
 use Rattle.pfair_weight.specs.Share.{IsWeight}
 use Rattle.pfair_entry_row.specs.Row.{truth}
-use Rattle.pfair_admission.specs.Admission.{Machine}
-use Rattle.pfair_admission.specs.Laws.{AreInFrame, HaveRoom}
 use Rattle.pfair_admission.specs.Member.{Member as MemberOf}
-use Rattle.pfair_admission.specs.Restored.{IsLeftAt}
 use Rattle.pfair_admission.specs.Roster.{Roster}
 use Rattle.pfair_admission.specs.declared.delay.Delay.{Delay}
-use Rattle.pfair_table.specs.Limits.{IsState}
+use Rattle.pfair_table.specs.Limits.{AreLeftAt, IsState}
 use Rattle.pfair_table.specs.Places.{ArePlacesOf, IsFit}
 use Rattle.pfair_table.specs.Table.{Carried, Table}
 use Rattle.pfair_table.specs.declared.pick.Pick.{Pick}
-use Rattle.pfair_state.specs.Rows.{slot_field}
+use Rattle.pfair_state.specs.Rows.{slot_field, state_text}
 use Rattle.pfair_state.specs.declared.fault.ReadFault.{ReadFault}
 use Rattle.pfair_state.specs.declared.fault.ReadFault.TheVariants.{Memory}
 use Rattle.pfair_state.specs.declared.row.FirstRow.{FirstRow}
@@ -57,6 +54,13 @@ IsSpelled (Member m) =
 IsSpelled (Late l) = IsTaskName l.name × (l.index < 2 ^ 64) × (l.by < 2 ^ 64)
 IsSpelled (Ran p place) = IsTaskName p.name × (p.index < 2 ^ 64) × (place < 2 ^ 8)
 IsSpelled (End rows) = rows < 2 ^ 64
+
+abbrev pub AreSpelled : List Row → Type 0
+AreSpelled rows = AllByRecursion IsSpelled rows
+
+-- a quantum whose row is spelled at each place of a machine
+abbrev pub IsSpelledQuantum : Pick → Type 0
+IsSpelledQuantum p = IsTaskName p.name × (p.index < 2 ^ 64)
 
 -- the member of a row, with the late releases behind it
 abbrev pub member_of : MemberRow → List Delay → MemberOf
@@ -114,18 +118,14 @@ IsBehindMembers rows = (as_member (slice_get rows 0) ≡ None) × (as_late (slic
 
 -- ---- a state
 
--- members that a run which ended before slot t can leave: they can be restored, each behind those before it
-pub record AreLeftAt (t : ℕ) (machine : Machine) (members : List MemberOf) : Type 0 where
-  pub named : NamesApart (λ m. m.name) members
-  pub room : HaveRoom machine members
-  pub in_frame : AreInFrame machine members
-  pub left : AllByRecursion (IsLeftAt t) members
-
--- a state that is read back: a run can begin with it, its members can be restored, and its rows are spelled
+-- a state that is read back: a run can begin with it, and its rows are spelled
 pub record IsWritable (c : Carried) : Type 0 where
   pub state : IsState c
-  pub members : AreLeftAt c.slot c.machine c.members
-  pub spelled : AllByRecursion IsSpelled (said_of c)
+  pub spelled : AreSpelled (said_of c)
+
+-- Equal texts are of equal states.
+abbrev pub StatesHaveOneText : Type 0
+StatesHaveOneText = (c d : Carried) → IsWritable c → IsWritable d → state_text c ≡ state_text d → c ≡ d
 
 -- ---- what is read of such rows
 

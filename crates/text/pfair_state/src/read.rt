@@ -2,7 +2,7 @@
 ghost use Rattle.std.specs.Prelude.{◌≡◌, ◌+◌, ◌≤◌, [], ◌++◌, ◌∷◌, None, drop, length, IfErr, IfOk, OnOk};
 ghost use Rattle.pfair_admission.specs.Restored.{CanBeRestored};
 ghost use Rattle.pfair_admission.specs.declared.member_state.RestoreFault.TheVariants.{Memory as OutOfMemory};
-ghost use Rattle.pfair_table.specs.Limits.{AreCarried};
+ghost use Rattle.pfair_table.specs.Limits.{AreLeftAt};
 ghost use Rattle.pfair_table.specs.Table.{Carried};
 ghost use Rattle.pfair_state.specs.Reading.{IfDelaysFrom, IfMembersBehindFirst, IfQuantaFrom};
 ghost use Rattle.pfair_state.specs.Reading.{IsReadAs, IsWritable, member_of, said_of};
@@ -21,9 +21,9 @@ use std::alloc::{AllocError, Global};
 
 /// Returns the state that a text is of.
 ///
-/// Only the texts that [`add_state`] writes are read, and of a state that a run can leave the text is
-/// read as that state. No check tells whether a run has left it: compare its bytes with those of
-/// another machine. O(bytes).
+/// Only the texts that [`add_state`] writes are read, and each of them is read as the state that was
+/// written. No check tells whether a run has left it: compare its bytes with those of another machine.
+/// O(bytes).
 ///
 /// # Errors
 /// [`ReadFault::NoRow`] at the first line that isn't a row which a state has there;
@@ -31,6 +31,7 @@ use std::alloc::{AllocError, Global};
 /// allocation fails.
 pub fn read_state(alloc: Global, text: &[u8]) -> Result<State, ReadFault>
     ensures text { IfOk result (λ state. text.now ≡ state_text state) }
+    ensures writable { IfOk result (λ state. IsWritable state) }
     ensures back { (c : Carried) → IsWritable c → text.now ≡ state_text c → IsReadAs result (λ state. state ≡ c) }
 {
     let rows = read_rows(alloc, text)?;
@@ -94,9 +95,9 @@ fn read_members(
     rows: &[Row],
 ) -> Result<usize, ReadFault>
     requires some { 1 ≤ length rows.now }
-    requires carried { AreCarried members.old.members }
+    requires left { AreLeftAt slot members.old.machine members.old.members }
     requires before { members.old.last_slot ≡ None }
-    ensures carried { OnOk result (AreCarried members.new.members) }
+    ensures left { OnOk result (AreLeftAt slot members.new.machine members.new.members) }
     ensures machine { OnOk result (members.new.machine ≡ members.old.machine) }
     ensures inside { IfOk result (λ at. at ≤ length rows.now) }
     ensures back { IfMembersBehindFirst rows.now slot members.old (λ all behind.
@@ -145,9 +146,9 @@ fn restore(
     row: MemberRow,
     delays: Vec<Delay>,
 ) -> Result<(), RestoreFault>
-    requires carried { AreCarried members.old.members }
+    requires left { AreLeftAt slot members.old.machine members.old.members }
     requires before { members.old.last_slot ≡ None }
-    ensures carried { OnOk result (AreCarried members.new.members) }
+    ensures left { OnOk result (AreLeftAt slot members.new.machine members.new.members) }
     ensures members { OnOk result (members.new ≡ record members.old { members = members.old.members ++ member_of row delays.items ∷ [] }) }
     ensures back { CanBeRestored members.old.machine slot members.old.members (member_of row delays.items) → IfErr result (λ fault. fault ≡ OutOfMemory) }
 {

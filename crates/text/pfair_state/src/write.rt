@@ -1,7 +1,8 @@
 //! The rows of a state.
-ghost use Rattle.std.specs.Prelude.{◌≡◌, ◌++◌, map, min, length, IsTrue, OnOk};
-ghost use Rattle.std.specs.List.{flat_map};
+ghost use Rattle.std.specs.Prelude.{◌≡◌, ◌<◌, ◌^◌, ◌++◌, map, min, length, IfSome, IsTrue, OnOk};
+ghost use Rattle.std.specs.List.{AllByRecursion, flat_map};
 ghost use Rattle.pfair_text.specs.Rows.{IsOpen, is_plain, line, lines_text, text_so_far};
+ghost use Rattle.pfair_state.specs.Reading.{AreSpelled, IsSpelled, IsSpelledQuantum, IsWritable, late_said, member_said, own_said};
 ghost use Rattle.pfair_state.specs.Rows.{first_row, late_row, member_row, member_rows, ran_row, ran_rows, rows_before_end, slot_field, state_text};
 
 use csv::Writer;
@@ -13,7 +14,8 @@ use pfair_text::add_row;
 use pfair_weight::TaskName;
 use std::alloc::AllocError;
 
-/// Adds the rows of a state. Equal states have equal rows, so that two machines compare the bytes.
+/// Adds the rows of a state, which [`read_state`](crate::read_state) reads as this state. Just equal
+/// states have equal rows, so that two machines compare the bytes.
 ///
 /// Each row has less than 256 bytes. O(rows).
 ///
@@ -23,6 +25,7 @@ pub fn add_state(writer: &mut Writer<Vec<u8>>, state: &State) -> Result<(), Allo
     requires { IsOpen writer.old }
     ensures open { OnOk result (IsOpen writer.new) }
     ensures text { OnOk result (text_so_far writer.new ≡ text_so_far writer.old ++ state_text state.now) }
+    ensures readable { OnOk result (IsWritable state.now) }
 {
     add_first(writer, state)?;
     add_members(writer, state.members())?;
@@ -56,6 +59,7 @@ fn add_members(writer: &mut Writer<Vec<u8>>, members: &Members) -> Result<(), Al
     requires { IsOpen writer.old }
     ensures open { OnOk result (IsOpen writer.new) }
     ensures text { OnOk result (text_so_far writer.new ≡ text_so_far writer.old ++ lines_text (flat_map member_rows members.now.members)) }
+    ensures spelled { OnOk result (AllByRecursion (λ m. AreSpelled (member_said m)) members.now.members) }
 {
     for place in 0..members.len() {
         let Some((_, member)) = members.at(place) else {
@@ -71,6 +75,7 @@ fn add_member(writer: &mut Writer<Vec<u8>>, member: &Incarnation) -> Result<(), 
     requires { IsOpen writer.old }
     ensures open { OnOk result (IsOpen writer.new) }
     ensures text { OnOk result (text_so_far writer.new ≡ text_so_far writer.old ++ lines_text (member_rows member.now)) }
+    ensures spelled { OnOk result (AreSpelled (member_said member.now)) }
 {
     add_own(writer, member)?;
     add_delays(writer, member.name(), member.delays())
@@ -81,6 +86,7 @@ fn add_own(writer: &mut Writer<Vec<u8>>, member: &Incarnation) -> Result<(), All
     requires { IsOpen writer.old }
     ensures open { OnOk result (IsOpen writer.new) }
     ensures text { OnOk result (text_so_far writer.new ≡ text_so_far writer.old ++ line (member_row member.now)) }
+    ensures spelled { OnOk result (IsSpelled (own_said member.now)) }
 {
     let name = *member.name();
     add_row(
@@ -101,6 +107,7 @@ fn add_own(writer: &mut Writer<Vec<u8>>, member: &Incarnation) -> Result<(), All
 // A slot, or a dash.
 fn slot_field(slot: Option<u64>, buffer: &mut Buffer) -> &str
     ensures value { result.now ≡ slot_field slot }
+    ensures fits { IfSome slot (λ t. t < 2 ^ 64) }
     ensures plain { IsTrue (is_plain result.now) }
 {
     match slot {
@@ -118,6 +125,7 @@ fn add_delays(
     requires { IsOpen writer.old }
     ensures open { OnOk result (IsOpen writer.new) }
     ensures text { OnOk result (text_so_far writer.new ≡ text_so_far writer.old ++ lines_text (map (late_row name.now) delays.now)) }
+    ensures spelled { OnOk result (AllByRecursion (λ d. IsSpelled (late_said name.now d)) delays.now) }
 {
     for delay in delays {
         add_delay(writer, name, delay)?;
@@ -129,6 +137,7 @@ fn add_delay(writer: &mut Writer<Vec<u8>>, name: &TaskName, delay: &Delay) -> Re
     requires { IsOpen writer.old }
     ensures open { OnOk result (IsOpen writer.new) }
     ensures text { OnOk result (text_so_far writer.new ≡ text_so_far writer.old ++ line (late_row name.now delay.now)) }
+    ensures spelled { OnOk result (IsSpelled (late_said name.now delay.now)) }
 {
     add_row(
         writer,
@@ -147,6 +156,7 @@ fn add_ran(writer: &mut Writer<Vec<u8>>, table: &[Pick], places: &[u8]) -> Resul
     requires places { length places.now ≡ length table.now }
     ensures open { OnOk result (IsOpen writer.new) }
     ensures text { OnOk result (text_so_far writer.new ≡ text_so_far writer.old ++ lines_text (ran_rows table.now places.now)) }
+    ensures spelled { OnOk result (AllByRecursion IsSpelledQuantum table.now) }
 {
     for row in 0..table.len() {
         add_quantum(writer, table[row], places[row])?;
@@ -158,6 +168,7 @@ fn add_quantum(writer: &mut Writer<Vec<u8>>, pick: Pick, place: u8) -> Result<()
     requires { IsOpen writer.old }
     ensures open { OnOk result (IsOpen writer.new) }
     ensures text { OnOk result (text_so_far writer.new ≡ text_so_far writer.old ++ line (ran_row pick place)) }
+    ensures spelled { OnOk result (IsSpelledQuantum pick) }
 {
     add_row(
         writer,

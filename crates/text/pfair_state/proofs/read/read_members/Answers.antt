@@ -21,7 +21,7 @@ loop-member-preserved c =
     let machine = c.loop-member.invariant.2 in
     let before = c.loop-member.invariant.3 in (
       omega (arith, inside, long),
-      c.in_default-restore.ensures.carried,
+      c.in_default-restore.ensures.left,
       ap (λ (r : Roster). r.machine) grown ∙ machine,
       ap (λ (r : Roster). r.last_slot) grown ∙ before,
       subst (λ (n : ℕ). AreRestoredSoFar rows c.args.slot c.args.members.now c.restore.new.members (c.loop-member.at + 1 + n)) (sym long)

@@ -1,17 +1,17 @@
 use Rattle.std.proofs.Common.{◌≡◌, ◌<◌, arith, rules, sym, subst, ◌∙◌, length, slice_get}
 use Rattle.std.proofs.lemmas.Option.{slice_get_within}
 use Rattle.pfair_admission.specs.Roster.{Roster}
-use Rattle.pfair_table.specs.Limits.{AreCarried}
+use Rattle.pfair_table.specs.Limits.{AreLeftAt}
 use Rattle.pfair_table.specs.Table.{Carried}
-use Rattle.pfair_state.proofs.Carried.{none_carried}
+use Rattle.pfair_state.proofs.Carried.{none_left}
 use Rattle.pfair_state.specs.declared.row.Row.TheVariants.{End}
 use Rattle.pfair_state.proofs.RowKinds.{end_is}
 use Rattle.pfair_state.proofs.StateRead.{by_members, by_quanta, ends, memory, whole}
 use Rattle.pfair_state.proofs.read.state_of.Goals.{then-count-rows+else-rows-end, else-count-rows}
 use Rattle.pfair_state.proofs.read.state_of.Goals as goal
 
-pub read_members-requires-clause-carried : goal.read_members-requires-clause-carried
-read_members-requires-clause-carried c = subst (λ (r : Roster). AreCarried r.members) (sym c.new-members.ensures) none_carried
+pub read_members-requires-clause-left : goal.read_members-requires-clause-left
+read_members-requires-clause-left c = subst (λ (r : Roster). AreLeftAt c.in-Some.first.slot r.machine r.members) (sym c.new-members.ensures) (none_left c.in-Some.first.slot _)
 
 pub returns-in_err-quanta : goal.returns-in_err-quanta
 returns-in_err-quanta c all can is =

@@ -1,9 +1,12 @@
-use Rattle.std.proofs.Common.{◌≡◌, ◌++◌, drop, map}
+use Rattle.std.proofs.Common.{◌≡◌, ◌++◌, drop, map, take}
+use Rattle.std.specs.List.{AllByRecursion}
 use Rattle.pfair_text.specs.Rows.{IsOpen, lines_text, text_so_far}
+use Rattle.pfair_state.specs.Reading.{IsSpelled, late_said}
 use Rattle.pfair_state.specs.Rows.{late_row}
 use Rattle.pfair_state.proofs.write.add_delays.Given as goal
 
--- the text so far, with the rows that are left, is the whole
+-- the text so far, with the rows that are left, is the whole, and the rows so far are spelled
 abbrev pub invariant-loop-delay : goal.invariant-loop-delay
 invariant-loop-delay l = IsOpen l.writer
     × (text_so_far l.writer ++ lines_text (map (late_row l.name) (drop l.delay-index l.delays)) ≡ text_so_far l.fn.writer ++ lines_text (map (late_row l.name) l.delays))
+    × AllByRecursion (λ d. IsSpelled (late_said l.name d)) (take l.delay-index l.delays)

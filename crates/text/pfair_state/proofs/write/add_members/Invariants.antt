@@ -1,10 +1,12 @@
-use Rattle.std.proofs.Common.{◌≡◌, ◌++◌, drop}
-use Rattle.std.specs.List.{flat_map}
+use Rattle.std.proofs.Common.{◌≡◌, ◌++◌, drop, take}
+use Rattle.std.specs.List.{AllByRecursion, flat_map}
 use Rattle.pfair_text.specs.Rows.{IsOpen, lines_text, text_so_far}
+use Rattle.pfair_state.specs.Reading.{AreSpelled, member_said}
 use Rattle.pfair_state.specs.Rows.{member_rows}
 use Rattle.pfair_state.proofs.write.add_members.Given as goal
 
--- the text so far, with the rows of the members that are left, is the whole
+-- the text so far, with the rows of the members that are left, is the whole, and the rows so far are spelled
 abbrev pub invariant-loop-place : goal.invariant-loop-place
 invariant-loop-place l = IsOpen l.writer
     × (text_so_far l.writer ++ lines_text (flat_map member_rows (drop l.place l.members.members)) ≡ text_so_far l.fn.writer ++ lines_text (flat_map member_rows l.members.members))
+    × AllByRecursion (λ m. AreSpelled (member_said m)) (take l.place l.members.members)
