@@ -1,12 +1,7 @@
 //! The lags in several slots, in rows.
 ghost use Rattle.std.specs.Prelude.{◌≡◌, ◌≤◌, ◌+◌, ◌++◌, [], ◌∷◌, length, min, slice_get, IfOk, OnOk};
-ghost use Rattle.std.specs.List.{AllByRecursion};
 ghost use Rattle.pfair_weight.specs.Name.{NameValue};
 ghost use Rattle.pfair_lag.specs.Book.{Tally};
-ghost use Rattle.pfair_admission.specs.declared.members.TheConstants.Members.{LAST_SLOT};
-ghost use Rattle.pfair_admission.specs.Carried.{CanBeCarried};
-ghost use Rattle.pfair_admission.specs.Member.{Member};
-ghost use Rattle.pfair_output.specs.Told.{entered_again, first_book};
 ghost use Rattle.pfair_c.specs.Answered.{Reads};
 ghost use Rattle.pfair_c.specs.Lags.{lag_row, book_rows, book_after, lags_of};
 ghost use Rattle.pfair_c.specs.Told.{AreLagsTold};
@@ -15,10 +10,9 @@ use crate::answer::{DONE, MEMORY, NO_ROOM, NOT_PLANNED};
 use crate::name::{PfairName, name_row};
 use crate::open::tell_rows;
 use crate::rows::fits;
-use pfair_admission::Members;
 use pfair_handle::Handle;
 use pfair_lag::LagBook;
-use pfair_output::tell_slots;
+use pfair_output::{first_book, tell_slots};
 use pfair_ready::{HeapReady, Ready};
 use pfair_table::Dispatcher;
 use std::alloc::{AllocError, Global};
@@ -120,7 +114,7 @@ fn collect_lags<R: Ready>(
     Ok((count, lags))
 }
 
-// The book after the first slots, as many as these.
+// The book after the first `slots` slots.
 fn book_after<R: Ready>(
     alloc: Global,
     dispatcher: &Dispatcher<R>,
@@ -132,43 +126,6 @@ fn book_after<R: Ready>(
     let mut book = first_book(alloc, dispatcher)?;
     tell_slots(&mut book, dispatcher, slots)?;
     Ok(book)
-}
-
-// The book before the run's first slot: the lags of the members that were carried into it.
-fn first_book<R: Ready>(alloc: Global, dispatcher: &Dispatcher<R>) -> Result<LagBook, AllocError>
-    ensures { IfOk result (λ book. book ≡ first_book dispatcher.now.origin) }
-{
-    let mut book = LagBook::new(alloc);
-    let Some(state) = dispatcher.state() else {
-        return Ok(book);
-    };
-    let (members, slot) = (state.members(), state.slot());
-    for place in 0..members.len() {
-        enter_at(&mut book, members, place, slot)?;
-    }
-    Ok(book)
-}
-
-// Enters the member at a place of those that were carried into a run that begins at the slot, unless it
-// is departing.
-fn enter_at(
-    book: &mut LagBook,
-    members: &Members,
-    place: usize,
-    slot: u64,
-) -> Result<(), AllocError>
-    requires able { AllByRecursion CanBeCarried members.now.members }
-    requires slot { slot ≤ LAST_SLOT }
-    ensures { OnOk result ((member : Member) → slice_get members.now.members place ≡ Some member → book.new ≡ entered_again slot member book.old) }
-{
-    let Some((_, member)) = members.at(place) else {
-        return Ok(());
-    };
-    if !member.is_departing() {
-        let slots = slot.saturating_sub(member.joined());
-        book.enter_after(*member.name(), member.weight(), slots, member.next() - 1)?;
-    }
-    Ok(())
 }
 
 // Appends the lags of a book, if there are at most `room` then.

@@ -1,3 +1,4 @@
+pub mod BookFacts
 mod PlacedFacts
 pub mod RunFacts
 mod SignedFacts

@@ -159,7 +159,7 @@ pub(crate) fn add_lags(writer: &mut Writer<Vec<u8>>, book: &LagBook) -> Result<(
     Ok(())
 }
 
-// Adds the row of the task at a place of the book, whose time is handed in as it is written.
+// Adds the row of the task at a place of the book. `time` is the book's, as text.
 fn add_task(
     writer: &mut Writer<Vec<u8>>,
     book: &LagBook,

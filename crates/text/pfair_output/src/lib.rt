@@ -1,11 +1,13 @@
 //! What the commands write of a run: its tables, its decisions and its lags, as rows of text.
 #![tactic(auto)]
 
+mod book;
 mod decisions;
 mod lags;
 mod replay;
 mod runs;
 
+pub use book::first_book;
 pub use decisions::{add_decisions_from, add_decisions_header};
 pub use lags::{add_lags_from, add_lags_header, tell_slots};
 pub use replay::{

@@ -1,6 +1,7 @@
 use Rattle.std.proofs.Common.{ap, ◌∙◌, arith}
 use Rattle.pfair_lag.specs.Book.{Book}
-use Rattle.pfair_c.proofs.LagFacts.{first_time, told_first}
+use Rattle.pfair_output.proofs.BookFacts.{first_time}
+use Rattle.pfair_c.proofs.LagFacts.{told_first}
 use Rattle.pfair_c.proofs.lags.book_after.Goals as goal
 
 pub tell_slots-requires-clause-to : goal.tell_slots-requires-clause-to

@@ -5,8 +5,8 @@ use Rattle.pfair_admission.specs.Member.{Member}
 use Rattle.pfair_lag.specs.Book.{empty_book}
 use Rattle.pfair_output.specs.Told.{all_entered}
 use Rattle.pfair_table.specs.Table.{Carried, Origin}
-use Rattle.pfair_c.proofs.LagFacts.{begun_with, entered_next}
-use Rattle.pfair_c.proofs.lags.first_book.Goals as goal
+use Rattle.pfair_output.proofs.BookFacts.{begun_with, entered_next}
+use Rattle.pfair_output.proofs.book.first_book.Goals as goal
 
 pub loop-place-preserved : goal.loop-place-preserved
 loop-place-preserved g c =

@@ -4,7 +4,7 @@ use Rattle.pfair_weight.specs.Share.{Share}
 use Rattle.pfair_admission.specs.declared.members.TheConstants.Members.{LAST_SLOT}
 use Rattle.pfair_admission.specs.Carried.{CanBeCarried}
 use Rattle.pfair_admission.proofs.Successors.{able_at}
-use Rattle.pfair_feed.proofs.book.enter_at.Goals as goal
+use Rattle.pfair_output.proofs.book.enter_at.Goals as goal
 
 pub enter_after-requires-clause-fits : goal.enter_after-requires-clause-fits
 enter_after-requires-clause-fits c =
