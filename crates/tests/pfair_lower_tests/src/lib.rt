@@ -1,5 +1,5 @@
-//! Worked rows of the crates below the tables: windows and weights, the order, joins, entries,
-//! replicas, members and ready structures.
+//! Worked rows of the crates below the tables: windows, the order, logs, replicas, members and ready
+//! structures.
 //!
 //! Each module tests one crate through its public calls; `admission` and `full_replicas` do so at the
 //! sizes that users have, with ample memory.
@@ -11,8 +11,6 @@ mod admission;
 mod entry;
 #[cfg(test)]
 mod full_replicas;
-#[cfg(test)]
-mod lattice;
 #[cfg(test)]
 mod order;
 #[cfg(test)]

@@ -47,7 +47,7 @@ fn assert_row(rt: &impl Abort, x: &mut Replica, row: Row) {
     for (number, at) in entries {
         assert!(rt; x.take(0, *number, floor(rt, *at)).is_ok());
     }
-    assert_eq!(rt; (x.mark(0), x.missing(0)), (mark, missing));
+    assert!(rt; x.mark(0) == mark && x.missing(0) == missing);
     let faults = x.faults().expect(rt, "memory");
     assert!(rt; faults.torn.as_slice() == torn && faults.fallen.as_slice() == fallen);
 }
@@ -68,11 +68,10 @@ fn refuses(rt: &impl Abort, x: &mut Replica, y: &mut Replica, larger: &mut Repli
         (0, 0, TakeFault::NumberOutOfRange),
         (0, 2, TakeFault::NumberOutOfRange),
     ] {
-        assert_eq!(rt; x.take(processor, number, entry), Err(fault));
+        assert!(rt; x.take(processor, number, entry) == Err(fault));
     }
-    assert_eq!(rt; y.take(0, 1, entry), Ok(Taken::New));
-    assert_eq!(rt; larger.merge(y), Err(MergeFault::OtherShape));
-    assert!(rt; larger.get(0, 1).is_none());
+    assert!(rt; y.take(0, 1, entry) == Ok(Taken::New));
+    assert!(rt; larger.merge(y) == Err(MergeFault::OtherShape) && larger.get(0, 1).is_none());
 }
 
 #[test]
@@ -83,7 +82,20 @@ fn other_keys_and_shapes_are_refused(rt: HostRuntime) {
     refuses(&rt, &mut x, &mut y, &mut larger);
 }
 
-// Whether a replica holds an entry that the other one holds, and if they differ a torn one.
+// Entries, each by its processor, its number and its floor.
+type Held = &'static [(u8, u32, u64)];
+
+const ONE: Held = &[(0, 1, 1), (0, 2, 2)];
+
+const OTHER: Held = &[(0, 2, 3), (1, 1, 1)];
+
+fn takes(rt: &impl Abort, x: &mut Replica, entries: Held) {
+    for (processor, number, at) in entries {
+        assert!(rt; x.take(*processor, *number, floor(rt, *at)) == Ok(Taken::New));
+    }
+}
+
+// Whether a replica holds what either one does, and a torn entry where they differ.
 fn is_torn(rt: &impl Abort, x: &Replica) -> bool {
     let held = Some(Flat::One(floor(rt, 1)));
     x.get(0, 1) == held
@@ -92,31 +104,20 @@ fn is_torn(rt: &impl Abort, x: &Replica) -> bool {
         && x.get(1, 2).is_none()
 }
 
-fn are_equal(x: &Replica, y: &Replica) -> bool {
-    x.le(y) && y.le(x)
-}
-
-// Merges the second into the first, whose copy is given too, and then either once more.
-fn assert_merged(rt: &impl Abort, now: &mut Replica, x: &Replica, y: &Replica) {
-    assert!(rt; are_equal(now, x) && !x.le(y));
-    assert!(rt; now.merge(y).is_ok());
-    assert!(rt; is_torn(rt, now) && x.le(now) && y.le(now));
-    assert!(rt; now.merge(x).is_ok() && now.merge(y).is_ok());
-    assert!(rt; is_torn(rt, now));
-}
-
-fn take_two(rt: &impl Abort, x: &mut Replica, y: &mut Replica) {
-    assert!(rt; x.take(0, 1, floor(rt, 1)) == Ok(Taken::New));
-    assert!(rt; x.take(0, 2, floor(rt, 2)) == Ok(Taken::New));
-    assert!(rt; y.take(0, 2, floor(rt, 3)) == Ok(Taken::New));
-    assert!(rt; y.take(1, 1, floor(rt, 1)) == Ok(Taken::New));
+// Merges the second into the first, and then once more.
+fn assert_merged(rt: &impl Abort, x: &mut Replica, y: &Replica) {
+    assert!(rt; !x.le(y) && !y.le(x));
+    assert!(rt; x.merge(y).is_ok() && is_torn(rt, x) && y.le(x));
+    assert!(rt; x.merge(y).is_ok() && is_torn(rt, x));
 }
 
 #[test]
 fn two_contents_of_a_key_tear_it(rt: HostRuntime) {
-    let mut x = Replica::new(rt.alloc(), 2, 2).expect(&rt, "memory");
-    let mut y = Replica::new(rt.alloc(), 2, 2).expect(&rt, "memory");
-    take_two(&rt, &mut x, &mut y);
-    assert_merged(&rt, &mut x.copy().expect(&rt, "memory"), &x, &y);
-    assert_merged(&rt, &mut y.copy().expect(&rt, "memory"), &y, &x);
+    for (one, other) in [(ONE, OTHER), (OTHER, ONE)] {
+        let mut x = Replica::new(rt.alloc(), 2, 2).expect(&rt, "memory");
+        let mut y = Replica::new(rt.alloc(), 2, 2).expect(&rt, "memory");
+        takes(&rt, &mut x, one);
+        takes(&rt, &mut y, other);
+        assert_merged(&rt, &mut x, &y);
+    }
 }

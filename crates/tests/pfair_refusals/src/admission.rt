@@ -1,5 +1,4 @@
-//! Boundaries of admission: members that hear each boundary at once, beside twins that hear one
-//! announcement after another.
+//! Boundaries of admission.
 ghost use Rattle.std.specs.Prelude.{IfOk};
 ghost use Rattle.std.specs.List.{AllByRecursion};
 ghost use Rattle.std.specs.Option.{ForSome};
@@ -8,7 +7,7 @@ ghost use Rattle.pfair_entry.specs.Entry.{IsWithinLimits};
 use crate::entries::name;
 use crate::{Look, Made, Named};
 use Kind::{Arrives, Departs, IsLate};
-use pfair_admission::{Decision, Incarnation, Members, Refusal};
+use pfair_admission::{Decision, Members, Refusal};
 use pfair_entry::{Announcement, Entry, Said};
 use pfair_weight::Weight;
 use std::alloc::{AllocError, Global};
@@ -24,11 +23,11 @@ enum Kind {
 }
 
 // The letter of a task, what is said of it, and the decision.
-type Heard = (u8, Kind, Decision);
+type Told = (u8, Kind, Decision);
 
 // A slot, what is heard at it, and the task that is then given a quantum with the subtask that runs,
 // if it may have one.
-type Step = (u64, &'static [Heard], (u8, Option<u64>));
+type Step = (u64, &'static [Told], (u8, Option<u64>));
 
 // Decisions, by short names.
 const YES: Decision = Decision::Admitted;
@@ -94,26 +93,21 @@ pub(crate) fn looks(alloc: Global) -> [Named; 3] {
     ]
 }
 
-// The boundaries of some slots on a machine of one processor. After a failed allocation the members have
-// to be those of a beginning, as their twins were on their way, and then hear the rest.
+// The boundaries of some slots on a machine of one processor, up to one at which an allocation fails.
 fn boundaries(alloc: Global, frame: u64, steps: &[Step]) -> Look {
     if !(1..=1_000_000_000).contains(&frame) {
         return Ok(false);
     }
-    let mut members = Members::new(alloc, 1, frame);
-    let mut twins = Members::new(alloc, 1, frame);
-    walk(alloc, &mut members, &mut twins, steps)
+    walk(alloc, &mut Members::new(alloc, 1, frame), steps)
 }
 
-fn walk(alloc: Global, members: &mut Members, twins: &mut Members, steps: &[Step]) -> Look {
+fn walk(alloc: Global, members: &mut Members, steps: &[Step]) -> Look {
     for (slot, heard, (letter, index)) in steps {
         let announced = announced(alloc, heard)?;
-        let answer = hears(members, *slot, &announced, heard);
-        let is_right = is_begun(answer, members, twins, *slot, heard)?
-            && runs(members, *letter) == *index
-            && runs(twins, *letter) == *index;
-        if !is_right {
-            return Ok(false);
+        match hears(members, *slot, &announced, heard) {
+            Heard::All if runs(members, *letter) == *index => {}
+            Heard::ABeginning => return Ok(true),
+            _ => return Ok(false),
         }
     }
     Ok(true)
@@ -138,7 +132,7 @@ fn said(letter: u8, kind: Kind) -> Option<Said>
     Some((0, 1, announcement))
 }
 
-fn announced(alloc: Global, heard: &[Heard]) -> Made<Vec<Said>>
+fn announced(alloc: Global, heard: &[Told]) -> Made<Vec<Said>>
     ensures { IfOk result (λ all. AllByRecursion (λ a. IsWithinLimits a.2) all.items) }
 {
     let mut all = Vec::new(alloc);
@@ -151,25 +145,38 @@ fn announced(alloc: Global, heard: &[Heard]) -> Made<Vec<Said>>
     Ok(all)
 }
 
-// Whether the boundary of a slot is decided as it should be, and counts all that it heard, also after a
-// failed allocation.
-fn hears(members: &mut Members, slot: u64, announced: &[Said], heard: &[Heard]) -> Look
+// How far a boundary came.
+#[derive(Clone, Copy)]
+enum Heard {
+    All,
+    // Until an allocation failed.
+    ABeginning,
+    // Not as it should.
+    Otherwise,
+}
+
+// The boundary of a slot, which counts all that it heard, also if an allocation fails.
+fn hears(members: &mut Members, slot: u64, announced: &[Said], heard: &[Told]) -> Heard
     requires { AllByRecursion (λ a. IsWithinLimits a.2) announced.now }
 {
     let before = members.heard();
     let count = announced.len() as u64;
     let last = members.last_slot().unwrap_or(0);
     if slot > 1_000_000 || count > 1000 || before + count > 262_144 || last > slot {
-        return Ok(false);
+        return Heard::Otherwise;
     }
     let answer = members.boundary(slot, announced);
     if members.heard() != before + count || members.last_slot() != Some(slot) {
-        return Ok(false);
+        return Heard::Otherwise;
     }
-    Ok(are_decided(&answer?, heard))
+    match answer {
+        Ok(decisions) if are_decided(&decisions, heard) => Heard::All,
+        Ok(_) => Heard::Otherwise,
+        Err(_) => Heard::ABeginning,
+    }
 }
 
-fn are_decided(decisions: &[Decision], heard: &[Heard]) -> bool {
+fn are_decided(decisions: &[Decision], heard: &[Told]) -> bool {
     for place in 0..decisions.len() {
         match (decisions.get(place), heard.get(place)) {
             (Some(decision), Some((_, _, known))) if decision == known => {}
@@ -177,59 +184,6 @@ fn are_decided(decisions: &[Decision], heard: &[Heard]) -> bool {
         }
     }
     decisions.len() == heard.len()
-}
-
-fn hears_one(members: &mut Members, slot: u64, one: &Heard) -> Look {
-    match said(one.0, one.1) {
-        Some(said) => hears(members, slot, [said].as_slice(), [*one].as_slice()),
-        None => Ok(false),
-    }
-}
-
-// Whether the members are like their twins, once these have heard the boundary of a slot one by one. After
-// a failed allocation the members then hear what their beginning lacks.
-fn is_begun(
-    answer: Look,
-    members: &mut Members,
-    twins: &mut Members,
-    slot: u64,
-    heard: &[Heard],
-) -> Look {
-    let Some(beginning) = follow(members, twins, slot, heard)? else {
-        return Ok(false);
-    };
-    if let Ok(is_right) = answer {
-        return Ok(is_right && beginning == heard.len());
-    }
-    for one in heard.iter().skip(beginning) {
-        if !hears_one(members, slot, one)? {
-            return Ok(false);
-        }
-    }
-    Ok(are_same(members, twins))
-}
-
-// The twins hear the announcements one by one. How many they had heard when they were last like the
-// members; `None` if they never were, or if a decision is another one.
-fn follow(
-    members: &Members,
-    twins: &mut Members,
-    slot: u64,
-    heard: &[Heard],
-) -> Made<Option<usize>> {
-    let nothing: [Said; 0] = [];
-    let mut is_right = hears(twins, slot, nothing.as_slice(), &[])?;
-    let mut beginning = None;
-    for (place, one) in heard.iter().enumerate() {
-        if are_same(members, twins) {
-            beginning = Some(place);
-        }
-        is_right = is_right && hears_one(twins, slot, one)?;
-    }
-    if are_same(members, twins) {
-        beginning = Some(heard.len());
-    }
-    Ok(if is_right { beginning } else { None })
 }
 
 // The subtask that a task runs with a quantum, if it has more and may have one.
@@ -240,26 +194,4 @@ fn runs(members: &mut Members, letter: u8) -> Option<u64> {
         None => true,
     };
     if has_more { members.ran(&name) } else { None }
-}
-
-// Whether the members are the same, in the same order.
-fn are_same(members: &Members, twins: &Members) -> bool {
-    for place in 0..members.len() {
-        let (Some((_, member)), Some((_, twin))) = (members.at(place), twins.at(place)) else {
-            return false;
-        };
-        if !is_same(member, twin) {
-            return false;
-        }
-    }
-    members.len() == twins.len()
-}
-
-fn is_same(member: &Incarnation, twin: &Incarnation) -> bool {
-    member.name() == twin.name()
-        && member.weight() == twin.weight()
-        && member.joined() == twin.joined()
-        && member.next() == twin.next()
-        && member.theta(2) == twin.theta(2)
-        && member.freed_at() == twin.freed_at()
 }

@@ -14,7 +14,6 @@ mod lag;
 mod lattice;
 mod ready;
 mod replica;
-mod states;
 mod table;
 mod threads;
 
@@ -43,12 +42,10 @@ fn main(rt: HostRuntime) -> ExitCode {
         tell(&rt, "", &lattice::looks(alloc)),
         tell(&rt, "over lists, ", &ready::looks::<PlainReady>(alloc)),
         tell(&rt, "over heaps, ", &ready::looks::<HeapReady>(alloc)),
-        tell(&rt, "over heaps, ", &ready::reserved::<HeapReady>(alloc)),
         tell(&rt, "", &replica::looks(alloc)),
         tell(&rt, "", &admission::looks(alloc)),
         tell(&rt, "over lists, ", &table::looks::<PlainReady>(alloc)),
         tell(&rt, "over heaps, ", &table::looks::<HeapReady>(alloc)),
-        tell(&rt, "", &states::looks(alloc)),
         tell(&rt, "", &book),
         tell(&rt, "", &board::looks(alloc)),
         tell(&rt, "", &threads::looks(&rt, alloc)),

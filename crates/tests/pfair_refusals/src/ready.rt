@@ -1,9 +1,9 @@
 //! Insertions and selections of a ready structure.
-ghost use Rattle.std.specs.Prelude.{◌≡◌, ◌≤◌};
+ghost use Rattle.std.specs.Prelude.{◌≡◌};
 
 use crate::{Look, Named};
 use pfair_order::Key;
-use pfair_ready::{Ready, Seated};
+use pfair_ready::Ready;
 use pfair_weight::TaskName;
 use std::alloc::{AllocError, Global};
 
@@ -12,14 +12,6 @@ pub(crate) fn looks<R: Ready>(alloc: Global) -> [Named; 2] {
         ("insert", insert_into(&mut R::new(alloc))),
         ("take_first", take_first_of(&mut R::new(alloc))),
     ]
-}
-
-/// The same of a structure that makes room for keys.
-pub(crate) fn reserved<R: Ready>(alloc: Global) -> [Named; 1] {
-    [(
-        "calls after reserve",
-        after_reserve(alloc, &mut R::new(alloc)),
-    )]
 }
 
 // A key with this deadline and name.
@@ -71,77 +63,4 @@ fn take_first_of<R: Ready>(ready: &mut R) -> Look
     }
     let is_left = ready.held(&b.name).is_none() && holds(ready, 2, c);
     Ok(first?.as_slice() == [b].as_slice() && is_left)
-}
-
-// Inserts the keys of some rows of 25 names, and returns whether all were new and no allocation failed.
-fn insert_rows<R: Ready>(ready: &mut R, rows: (u8, u8), release: u64) -> bool
-    requires { rows.1 ≤ 26 }
-{
-    for row in rows.0..rows.1 {
-        for place in 0..25u8 {
-            let Ok(key) = key(4, &[b'a' + row, b'a' + place]) else {
-                return false;
-            };
-            if !matches!(ready.insert(release, key), Ok(true)) {
-                return false;
-            }
-        }
-    }
-    true
-}
-
-// Removes the keys of these names.
-fn remove_rows<R: Ready>(ready: &mut R, rows: (u8, u8)) -> bool
-    requires { rows.1 ≤ 26 }
-{
-    for row in rows.0..rows.1 {
-        for place in 0..25u8 {
-            let Ok(name) = TaskName::from_bytes(&[b'a' + row, b'a' + place]) else {
-                return false;
-            };
-            if !ready.remove(&name) {
-                return false;
-            }
-        }
-    }
-    true
-}
-
-// Takes one key after another, and inserts one of another name for each. Returns whether each
-// selection gave one, and no allocation failed.
-fn replace_each<R: Ready>(ready: &mut R, mut room: Vec<Seated>, rows: (u8, u8)) -> bool
-    requires { rows.1 ≤ 26 }
-{
-    for row in rows.0..rows.1 {
-        for place in 0..25u8 {
-            let Ok(key) = key(4, &[b'a' + row, b'a' + place]) else {
-                return false;
-            };
-            if ready.now() > 100 {
-                return false;
-            }
-            let Ok(first) = ready.take_seated(100, 1, room) else {
-                return false;
-            };
-            room = first;
-            if room.len() != 1 || !matches!(ready.insert(200, key), Ok(true)) {
-                return false;
-            }
-        }
-    }
-    true
-}
-
-// What comes after room for 300 keys was made allocates nothing: 300 keys for one slot, which are
-// removed and leave their dates behind; the same names for a later slot; and one after another a key
-// of another name in place of each.
-fn after_reserve<R: Ready>(alloc: Global, ready: &mut R) -> Look {
-    let room = Vec::with_capacity(alloc, 1)?;
-    ready.reserve(300)?;
-    Ok(
-        insert_rows(ready, (0, 12), 64)
-            && remove_rows(ready, (0, 12))
-            && insert_rows(ready, (0, 12), 100)
-            && replace_each(ready, room, (12, 24)),
-    )
 }

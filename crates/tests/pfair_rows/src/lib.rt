@@ -12,5 +12,3 @@ mod run;
 mod runs;
 #[cfg(test)]
 mod shown;
-#[cfg(test)]
-mod sizes;

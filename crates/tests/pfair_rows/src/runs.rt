@@ -49,6 +49,14 @@ new, new, new, new, new, new, slot 0, done
 [a1]
 [0.1 a refused 21, 0.2 a admitted, 0.3 a refused 20, 0.4 b refused 21, 0.5 b refused 22]
 
+and so for each of five arrivals
+1 4 4
+0 1 0 0 arrive a 1 2; 0 2 0 0 arrive a 1 4; 0 3 0 0 arrive d 1 3; 0 4 0 0 arrive b 1 4; \
+0 5 0 0 arrive c 1 2; 0 6 4; plan 5
+new, new, new, new, new, new, slot 0, slot 1, slot 2, slot 3, done
+[a1][b1][a2][]
+[0.1 a admitted, 0.2 a refused 20, 0.3 d refused 21, 0.4 b admitted, 0.5 c refused 22][][][]
+
 slots are planned up to the frontier
 1 1 20
 plan 1; 0 1 10; plan 11

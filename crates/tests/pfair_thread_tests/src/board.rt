@@ -1,9 +1,11 @@
 //! Runs of scripts in threads.
-ghost use Rattle.std.specs.Prelude.{◌≡◌, ◌<◌, ◌≤◌, ◌+◌, IfOk, length};
+ghost use Rattle.std.specs.Prelude.{◌≡◌, ◌<◌, ◌≤◌, ◌+◌, IfOk, length, vec_len};
 ghost use Rattle.pfair_desk.specs.Desks.{IsDeskOf};
 
-use crate::gates::{InTurn, Meeting, ShutGate, comes_to};
-use crate::sample::{busy, entry, falling, first_log, is_sample, sample, second_log, silent};
+use crate::gates::{InTurn, Meeting, OpenBefore, ShutGate};
+use crate::sample::{
+    busy, entry, falling, first_log, is_sample, sample, second_log, silent, silent_log,
+};
 use pfair_board::{Board, Desk, Gate, Hints, OpenGate, RunFault, run_dispatchers, run_worker};
 use pfair_entry::Entry;
 use pfair_lattice::Flat;
@@ -150,13 +152,6 @@ fn two_workers_on_one_board(rt: HostRuntime) {
     assert!(&rt; gate.has_ended());
 }
 
-// The sample's first log stands on the board.
-fn publish_first_log(rt: &impl Abort, board: &Board, first: &mut Desk)
-    requires { IsDeskOf first.old board.now }
-{
-    assert!(rt; publish_all(board, first, &first_log(rt)));
-}
-
 // Publishes a log. Answers whether all went well.
 fn publish_all(board: &Board, desk: &mut Desk, log: &[Entry]) -> bool
     requires { IsDeskOf desk.old board.now }
@@ -170,81 +165,91 @@ fn publish_all(board: &Board, desk: &mut Desk, log: &[Entry]) -> bool
     true
 }
 
-// Publishes the log of the sample's second processor, as its worker, which tells of each entry and
-// then comes to a shut gate, since its desk knows the other log. Then it waits until the first
-// worker has come to its own gate for each slot. As long as an end of the hints is held here, that
-// one doesn't know that no hint can come any more. Answers whether all that happened.
-fn tells_and_waits<P: Wait>(
+// Whether a worker of three comes to a slot at which its gate gives up.
+fn gives_up<P: Wait, G: Gate>(
     rt: &P,
     alloc: Global,
     board: &Board,
     desk: &mut Desk,
     log: &[Entry],
-    ends: (Hints, Hints),
-    gate: &InTurn,
+    hints: Hints,
+    gate: &G,
 ) -> bool
     requires own { IsDeskOf desk.old board.now }
-    requires first { desk.old.next_number ≡ 1 }
-    requires room { length log.now ≤ board.now.capacity }
-    requires processors { board.now.processors ≡ 2 }
+    requires room { desk.old.next_number + length log.now ≤ board.now.capacity + 1 }
+    requires processors { board.now.processors ≡ 3 }
 {
-    let (hints, held) = ends;
-    let (Some(settings), Some(calls)) = (Settings::new(2, 6, 6), gate.calls.first()) else {
+    let Some(settings) = Settings::new(3, 1, 6) else {
         return false;
     };
-    let run = run_worker::<HeapReady, _>(rt, alloc, settings, desk, board, log, hints, &ShutGate);
-    let came = matches!(run, Err(RunFault::GateGaveUp)) && comes_to(calls, 6);
-    drop(held);
-    came
+    let run = run_worker::<HeapReady, G>(rt, alloc, settings, desk, board, log, hints, gate);
+    matches!(run, Err(RunFault::GateGaveUp))
 }
 
-// One worker of the sample works, and beside it the other one tells of its log and waits.
-fn plans_what_hints_tell<P: Threads + Wait + Abort + Sync>(
+// A worker tells of its log and comes to a shut gate, since its desk holds the other logs. Another
+// worker then comes to slot 5, which the last of the five entries settles. As long as the third
+// one's end of the hints is held it makes no last refresh, and without a hint of each entry it would
+// wait for good.
+fn assert_told<P: Wait + Abort>(
     rt: &P,
     alloc: Global,
     board: &Board,
-    gate: &InTurn,
     desks: (Desk, Desk),
-) -> bool
-    requires processors { board.now.processors ≡ 2 }
+    ends: (Hints, Hints),
+)
+    requires processors { board.now.processors ≡ 3 }
     requires capacity { board.now.capacity ≡ 5 }
     requires first { IsDeskOf desks.0 board.now × (desks.0.next_number ≡ 1) }
     requires second { IsDeskOf desks.1 board.now × (desks.1.next_number ≡ 1) }
 {
-    let (first, second) = desks;
-    let mut all = Hints::all(alloc, 3).expect(rt, "memory");
-    let held = last_of(rt, &mut all);
-    let others = (last_of(rt, &mut all), held);
-    let mine = last_of(rt, &mut all);
-    let logs = (first_log(rt), second_log(rt));
-    let (left, right) = (&logs.0, &logs.1);
-    let (worked, came) = thread::join(
-        rt,
-        move || -> bool
-            requires { IsDeskOf first board.now × (first.next_number ≡ 1) × (board.now.capacity ≡ 5) × (board.now.processors ≡ 2) }
-        {
-            let mut desk = first;
-            works(rt, alloc, board, &mut desk, left, mine, gate)
-        },
-        move || -> bool
-            requires { IsDeskOf second board.now × (second.next_number ≡ 1) × (board.now.capacity ≡ 5) × (board.now.processors ≡ 2) }
-        {
-            let mut desk = second;
-            desk.refresh(board).is_ok()
-                && tells_and_waits(rt, alloc, board, &mut desk, right, others, gate)
-        },
-    );
-    worked && came
+    let (mut teller, mut listener) = desks;
+    let (mine, others) = ends;
+    assert!(rt; teller.refresh(board) == Ok(10) && listener.refresh(board) == Ok(10));
+    let log = silent_log(rt);
+    assert!(rt; gives_up(rt, alloc, board, &mut teller, &log, mine, &ShutGate));
+    let gate = OpenBefore { slot: 5 };
+    assert!(rt; gives_up(rt, alloc, board, &mut listener, &[], others, &gate));
+}
+
+// The logs of all workers of three but one stand on the board.
+fn publish_others(rt: &impl Abort, board: &Board, teller: u8)
+    requires { board.now.processors ≡ 3 }
+{
+    for processor in 0..3u8 {
+        if processor != teller {
+            let mut desk = row(board, processor).expect(rt, "memory");
+            assert!(rt; publish_all(board, &mut desk, &silent_log(rt)));
+        }
+    }
+}
+
+// The ends of two workers of three come out of those of all.
+fn ends_of(rt: &impl Abort, all: &mut Vec<Hints>, teller: u8, listener: u8) -> (Hints, Hints)
+    requires all { vec_len all.old ≡ 3 }
+    requires workers { (teller < 3) × (listener < 3) }
+{
+    let mine = all.swap_remove(teller as usize);
+    // the last one is in the place of the first that came out
+    let place = if listener == 2 { teller } else { listener };
+    assert!(rt; place < 2);
+    let others = all.swap_remove(place as usize);
+    (mine, others)
 }
 
 #[test]
-fn hints_are_planned_before_the_last_refresh(rt: HostRuntime) {
-    let board = Board::new(rt.alloc(), 2, 5).expect(&rt, "memory");
-    publish_first_log(&rt, &board, &mut row(&board, 0).expect(&rt, "memory"));
-    let gate = InTurn::new(&rt, rt.alloc(), 1);
-    let first = row(&board, 0).expect(&rt, "memory");
-    let second = row(&board, 1).expect(&rt, "memory");
-    assert!(&rt; plans_what_hints_tell(&rt, rt.alloc(), &board, &gate, (first, second)));
+fn a_worker_tells_each_other_of_its_log(rt: HostRuntime) {
+    for teller in 0..3u8 {
+        for after in 1..3u8 {
+            let listener = (teller + after) % 3;
+            let board = Board::new(rt.alloc(), 3, 5).expect(&rt, "memory");
+            publish_others(&rt, &board, teller);
+            let first = row(&board, teller).expect(&rt, "memory");
+            let second = row(&board, listener).expect(&rt, "memory");
+            let mut all = Hints::all(rt.alloc(), 3).expect(&rt, "memory");
+            let ends = ends_of(&rt, &mut all, teller, listener);
+            assert_told(&rt, rt.alloc(), &board, (first, second), ends);
+        }
+    }
 }
 
 // A worker whose log has another entry at its first number than stands there goes astray, and its

@@ -47,8 +47,8 @@ impl Gate for Meeting {
     }
 }
 
-/// Waits until so many calls are counted. Answers whether they were.
-pub(crate) fn comes_to(calls: &AtomicU64, wanted: u64) -> bool {
+// Waits until so many calls are counted. Answers whether they were.
+fn comes_to(calls: &AtomicU64, wanted: u64) -> bool {
     for _ in 0..10_000_000 {
         if calls.load(Ordering::SeqCst) >= wanted {
             return true;
@@ -72,10 +72,26 @@ impl Gate for ShutGate {
     }
 }
 
+/// Opens before a slot, and gives up there.
+#[derive(Drop)]
+pub(crate) struct OpenBefore {
+    pub(crate) slot: u64,
+}
+
+impl Gate for OpenBefore {
+    ghost use Rattle.std.specs.Prelude.{true};
+
+    ghost may_give_up = { true };
+
+    fn come<P: Wait>(&self, _rt: &P, _worker: u8, slot: u64) -> bool {
+        slot < self.slot
+    }
+}
+
 /// Opens to each worker at slots 0, 1, 2 and so on, once for each, and counts its calls.
 #[derive(Drop)]
 pub(crate) struct InTurn {
-    pub(crate) calls: Vec<AtomicU64>,
+    calls: Vec<AtomicU64>,
 }
 
 impl InTurn {

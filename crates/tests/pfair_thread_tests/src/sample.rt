@@ -94,6 +94,17 @@ pub(crate) fn second_log(rt: &impl Abort) -> [Entry; 5] {
     ]
 }
 
+/// A log of five entries that announces nothing, and settles six slots.
+pub(crate) fn silent_log(rt: &impl Abort) -> [Entry; 5] {
+    [
+        entry(rt, 0, None),
+        entry(rt, 1, None),
+        entry(rt, 2, None),
+        entry(rt, 3, None),
+        entry(rt, 6, None),
+    ]
+}
+
 fn script(rt: &impl Abort, settings: Option<Settings>, logs: Vec<Vec<Entry>>) -> Script {
     let settings = settings.expect(rt, "settings");
     Script::new(settings, logs).ok().expect(rt, "a script")

@@ -39,21 +39,6 @@ impl Read for Source<'_> {
     }
 }
 
-/// Gives `left` spaces.
-#[derive(Drop)]
-pub(crate) struct Spaces {
-    pub(crate) left: usize,
-}
-
-impl Read for Spaces {
-    fn read(&mut self, buf: &mut [u8]) -> io::Result<usize> {
-        let count = buf.len().min(self.left);
-        buf[..count].fill(b' ');
-        self.left -= count;
-        Ok(count)
-    }
-}
-
 /// Takes at most `at_once` bytes a call; at the call `failing` alone, counted from 0, it fails or takes none.
 ///
 /// It counts its calls, of `write` and of `flush`, and the bytes that it had taken when it was last flushed.

@@ -1,9 +1,9 @@
-//! Readers and writers that fail once and would then go on, and a file that is too long.
+//! Readers and writers that fail once and would then go on.
 
-use crate::devices::{Sink, Source, Spaces};
+use crate::devices::{Sink, Source};
 use crate::reports::{COMMANDS, Command, SAMPLE, assert_fault, run};
 use pfair_board::OpenGate;
-use pfair_reports::{ProgramFault, replay, windows, write_fault};
+use pfair_reports::{ProgramFault, windows, write_fault};
 use pfair_weight::Weight;
 use std::alloc::Global;
 use std::process::Abort;
@@ -85,15 +85,4 @@ fn windows_over_a_writer_that_fails_after_the_header(rt: HostRuntime) {
     broken.takes_none = true;
     assert_eq!(rt; write_fault(&ProgramFault::CommandLine, &mut broken), 1);
     assert!(rt; broken.taken.is_empty());
-}
-
-#[test]
-fn a_file_that_is_too_long_by_a_byte(rt: HostRuntime) {
-    let mut reader = Spaces { left: 67_108_865 };
-    let mut text: Vec<u8> = Vec::new(rt.alloc());
-    let fault = replay(&rt, rt.alloc(), &mut reader, &mut text, &OpenGate)
-        .err()
-        .expect(&rt, "a fault");
-    assert_fault(&rt, rt.alloc(), &fault, "pfair: 66 file too long\n", 2);
-    assert!(rt; text.is_empty());
 }

@@ -59,46 +59,6 @@ fn faults_of_the_program_are_lines_of_one_write(rt: HostRuntime) {
     assert_eq!(rt; writer.calls, faults.len());
 }
 
-const REFUSED: &str = "pfair: 64 entry 4294967295 of processor 255 refused: ";
-
-#[test]
-fn refused_entries_are_lines_of_one_write(rt: HostRuntime) {
-    for (cause, text) in [
-        (NoticeFault::Name(NameFault::Empty), "1 empty name"),
-        (NoticeFault::Name(NameFault::TooLong), "2 name too long"),
-        (
-            NoticeFault::Name(NameFault::BadByte { at: usize::MAX }),
-            "3 bad byte at 18446744073709551615",
-        ),
-        (NoticeFault::Weight(WeightFault::ZeroCost), "4 zero cost"),
-        (
-            NoticeFault::Entry(EntryFault::StampBeforeFloor),
-            "7 stamp before floor",
-        ),
-        (
-            NoticeFault::Entry(EntryFault::StampTooFar),
-            "8 slot too far",
-        ),
-        (NoticeFault::Entry(EntryFault::BadDelay), "9 bad delay"),
-        (NoticeFault::Entry(EntryFault::BadIndex), "10 bad index"),
-        (NoticeFault::LogFull, "12 log full"),
-    ] {
-        // the greatest processor and number that their types can hold
-        let fault = ProgramFault::File(FileFault::Entry {
-            proc: u8::MAX,
-            number: u32::MAX,
-            cause,
-        });
-        let mut writer = Sink::of(rt.alloc(), usize::MAX);
-        let _ = write_fault(&fault, &mut writer);
-        let line = format!(in rt.alloc(); "{REFUSED}{text}\n").expect(&rt, "memory");
-        assert!(rt;
-            writer.taken.as_slice() == line.as_bytes() && writer.calls == 1,
-            "{text}"
-        );
-    }
-}
-
 const OF_CALLS: &str = "pfair: 30 entry 2 of processor 1 torn
 pfair: 31 spent
 pfair: 90 out of memory
@@ -243,12 +203,11 @@ fn refused_rows_are_reported_in_one_write(rt: HostRuntime) {
 }
 
 #[test]
-fn the_longest_row_that_is_kept_is_reported_in_one_write(rt: HostRuntime) {
-    let long = "1".repeat(rt.alloc(), 257).expect(&rt, "memory");
-    let fault = ProgramFault::Row(RowFault::NoRow);
+fn a_long_line_is_not_cut(rt: HostRuntime) {
+    let text = "a text that is longer than the room for a line, ";
+    let long = text.repeat(rt.alloc(), 3).expect(&rt, "memory");
     let mut writer = Sink::of(rt.alloc(), usize::MAX);
-    tell_refused(&mut writer, &fault, long.as_bytes());
-    let line = format!(in rt.alloc(); "pfair_follow: 67 no entry's row: {long}\n");
-    let line = line.expect(&rt, "memory");
-    assert!(rt; writer.taken.as_slice() == line.as_bytes() && writer.calls == 1);
+    write_line("pfair", 1, &long, &mut writer);
+    let line = format!(in rt.alloc(); "pfair: 1 {long}\n").expect(&rt, "memory");
+    assert_eq!(rt; writer.taken.as_slice(), line.as_bytes());
 }

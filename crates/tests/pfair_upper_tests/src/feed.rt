@@ -1,15 +1,13 @@
 //! Runs that are fed the rows of a reader: in pieces, with refused lines and questions, over devices that fail.
 ghost use Rattle.pfair_feed.specs.Feeding.{IsCaughtUp};
 
-use crate::devices::{Sink, Source};
-use crate::reports::EARLY;
-use pfair_entry::Entry;
+use crate::devices::Source;
 use pfair_entry_row::RowFault;
-use pfair_feed::{Follower, Output, entries_of, follow, follow_to_last_slot, tell_missing};
-use pfair_file::{ProgramFault, read_file};
+use pfair_feed::{Follower, Output, follow, follow_to_last_slot};
+use pfair_file::ProgramFault;
 use pfair_ready::{HeapReady, Ready};
 use pfair_table::Settings;
-use std::alloc::{AllocError, Global};
+use std::alloc::Global;
 use std::process::Abort;
 
 // A task of weight 2/4 that may run ahead of its windows, and the end of the log.
@@ -64,23 +62,22 @@ struct End {
     fault: Option<ProgramFault>,
 }
 
-// A follower of a run with frame 4.
-fn follower_of<R: Ready>(rt: &impl Abort, alloc: Global, processors: u8, slots: u64) -> Follower<R>
+// A follower of a run of one processor for four slots.
+fn new_follower<R: Ready>(rt: &impl Abort, alloc: Global) -> Follower<R>
     ensures { IsCaughtUp result }
 {
-    let settings = Settings::new(processors, 4, slots).expect(rt, "settings");
+    let settings = Settings::new(1, 4, 4).expect(rt, "settings");
     Follower::new(alloc, settings, 4096, Output::Tables, 0).expect(rt, "memory")
 }
 
-// Feeds a reader to a follower of one processor.
+// Feeds a reader to a new follower.
 fn feed_all<R: Ready>(
     rt: &impl Abort,
     alloc: Global,
-    slots: u64,
     reader: &mut Source<'_>,
     is_strict: bool,
 ) -> End {
-    let mut follower: Follower<R> = follower_of(rt, alloc, 1, slots);
+    let mut follower: Follower<R> = new_follower(rt, alloc);
     let mut rows: Vec<u8> = Vec::new(alloc);
     let mut complaints: Vec<u8> = Vec::new(alloc);
     let ended = follow(
@@ -104,7 +101,7 @@ fn lines_are_fed_in_pieces(rt: HostRuntime) {
     for (text, is_strict, rows, complaints, fault) in FEEDS {
         for at_once in [1, 7, 4096] {
             let mut reader = Source::of(text.as_bytes(), at_once);
-            let end = feed_all::<HeapReady>(&rt, rt.alloc(), 4, &mut reader, is_strict);
+            let end = feed_all::<HeapReady>(&rt, rt.alloc(), &mut reader, is_strict);
             assert_eq!(&rt; end.rows.as_slice(), rows.as_bytes());
             assert_eq!(&rt; end.complaints.as_slice(), complaints.as_bytes());
             assert!(&rt; end.fault == fault);
@@ -114,7 +111,7 @@ fn lines_are_fed_in_pieces(rt: HostRuntime) {
 
 // Whether a strict run ends with its last slot, whatever is behind.
 fn ends_with_its_last_slot<R: Ready>(rt: &impl Abort, alloc: Global) -> bool {
-    let mut follower: Follower<R> = follower_of(rt, alloc, 1, 4);
+    let mut follower: Follower<R> = new_follower(rt, alloc);
     let mut reader = Source::of(BEHIND.as_bytes(), 4096);
     let (mut rows, mut complaints) = (Vec::new(alloc), Vec::new(alloc));
     let ended = follow_to_last_slot(
@@ -136,46 +133,13 @@ fn a_run_ends_with_its_last_slot(rt: HostRuntime) {
     assert!(rt; ends_with_its_last_slot::<HeapReady>(&rt, rt.alloc()));
 }
 
-// Questions before and after each of 300 entries, and the answers.
-fn push_questions(text: &mut String, answers: &mut String) -> Result<(), AllocError> {
-    for slot in 1..=300u32 {
-        write!(text, "?\n0,{slot},{slot},-,-,-,-,-,-,-,-\n")?;
-        write!(answers, "missing 0,{slot}\n")?;
-    }
-    text.push_str("?\n")
-}
-
-#[test]
-fn each_question_is_answered(rt: HostRuntime) {
-    let (mut text, mut answers) = (String::new(rt.alloc()), String::new(rt.alloc()));
-    assert!(rt; push_questions(&mut text, &mut answers).is_ok());
-    let mut reader = Source::of(text.as_bytes(), 4096);
-    let end = feed_all::<HeapReady>(&rt, rt.alloc(), 300, &mut reader, true);
-    assert!(rt; end.fault == None && end.rows.is_empty());
-    assert!(rt; end.complaints.as_slice() == answers.as_bytes());
-}
-
-#[test]
-fn a_row_of_100000_bytes_is_refused(rt: HostRuntime) {
-    let mut text = "1".repeat(rt.alloc(), 100_000).expect(&rt, "memory");
-    text.push('\n').expect(&rt, "memory");
-    text.push_str(ROWS).expect(&rt, "memory");
-    for at_once in [1, 4096] {
-        let mut reader = Source::of(text.as_bytes(), at_once);
-        let end = feed_all::<HeapReady>(&rt, rt.alloc(), 4, &mut reader, false);
-        assert!(rt; end.fault == None && reader.left.is_empty());
-        assert_eq!(rt; end.rows.as_slice(), WHOLE.as_bytes());
-        assert_eq!(rt; end.complaints.len(), 33 + 257 + 1);
-    }
-}
-
 #[test]
 fn a_reader_that_fails_at_each_call(rt: HostRuntime) {
     let mut fault = None;
     for failing in 0..20 {
         let mut reader = Source::of(TURNED.as_bytes(), 7);
         reader.failing = failing;
-        let end = feed_all::<HeapReady>(&rt, rt.alloc(), 4, &mut reader, true);
+        let end = feed_all::<HeapReady>(&rt, rt.alloc(), &mut reader, true);
         // what was read before it failed is fed
         let rows = if reader.left.len() <= 2 { WHOLE } else { "" };
         assert_eq!(&rt; end.rows.as_slice(), rows.as_bytes());
@@ -184,35 +148,4 @@ fn a_reader_that_fails_at_each_call(rt: HostRuntime) {
         assert!(&rt; fault.is_some() || reader.left.is_empty());
     }
     assert!(&rt; fault == None);
-}
-
-const MISSING: &str = "missing 0,1\nmissing 63,1\n";
-
-// Reports to a writer what is missing from 64 logs, the first and the last of which are short.
-// Returns whether the writer took all.
-fn report_all<R: Ready>(rt: &impl Abort, alloc: Global, writer: &mut Sink) -> bool {
-    let mut follower: Follower<R> = follower_of(rt, alloc, 64, 4);
-    let mut out: Vec<u8> = Vec::new(alloc);
-    let entry = Entry::new(4, None).expect(rt, "an entry");
-    for processor in 1..63 {
-        let _ = follower.take(&mut out, processor, 1, entry);
-    }
-    tell_missing(&follower, writer).is_ok()
-}
-
-#[test]
-fn missing_entries_are_reported_as_far_as_the_writer_takes_them(rt: HostRuntime) {
-    for failing in 0..=MISSING.len() {
-        let mut writer = Sink::failing_at(rt.alloc(), 1, failing);
-        let is_whole = report_all::<HeapReady>(&rt, rt.alloc(), &mut writer);
-        assert_eq!(&rt; is_whole, failing == MISSING.len());
-        assert_eq!(&rt; writer.taken.as_slice(), &MISSING.as_bytes()[..failing]);
-    }
-}
-
-#[test]
-fn entries_of_a_file_have_their_rows(rt: HostRuntime) {
-    let script = read_file(rt.alloc(), EARLY.as_bytes()).expect(&rt, "a script");
-    let text = entries_of(rt.alloc(), &script).expect(&rt, "memory");
-    assert_eq!(&rt; text.as_slice(), ROWS.as_bytes());
 }

@@ -1,4 +1,4 @@
-//! Rows of each output come out as soon as they are settled, also over writers that fail.
+//! Rows of each output over writers that fail, and of more than a writer's buffer.
 
 use crate::devices::Sink;
 use pfair_entry::{Announcement, Entry};
@@ -6,7 +6,8 @@ use pfair_feed::{Follower, Output};
 use pfair_file::ProgramFault;
 use pfair_ready::{HeapReady, Ready};
 use pfair_replica::Taken;
-use pfair_table::Settings;
+use pfair_state::read_state;
+use pfair_table::{Settings, State};
 use pfair_weight::{TaskName, Weight};
 use std::alloc::Global;
 use std::process::Abort;
@@ -56,40 +57,8 @@ fn follower<R: Ready>(
     Follower::new(alloc, settings, 4096, output, 0).expect(rt, "memory")
 }
 
-// A function that owns a follower is generic over its ready structure, and lends it to one with the
-// looks.
-fn assert_by_slot<R: Ready>(rt: &impl Abort, alloc: Global, output: Output, whole: &str) {
-    let mut writer = Sink::of(alloc, 7);
-    let mut follower: Follower<R> = follower(rt, alloc, output, 4, 4);
-    look_by_slot(rt, &mut follower, &mut writer, whole);
-}
-
-fn look_by_slot<R: Ready>(
-    rt: &impl Abort,
-    follower: &mut Follower<R>,
-    writer: &mut Sink,
-    whole: &str,
-) {
-    assert!(rt; follower.write_header(writer).is_ok());
-    let arrives = arrival(rt, b"a", 2, 4);
-    assert!(rt; follower.take(writer, 0, 1, arrives) == Ok(Taken::New));
-    for slot in 1..5u32 {
-        let closing = closing_entry(rt, slot as u64);
-        assert!(rt; follower.take(writer, 0, slot + 1, closing).is_ok());
-        assert!(rt; follower.told() == slot as u64 && writer.flushed == writer.taken.len());
-        assert!(rt; whole.as_bytes().starts_with(writer.taken.as_slice()));
-    }
-    assert_eq!(rt; writer.taken.as_slice(), whole.as_bytes());
-}
-
-#[test]
-fn rows_are_flushed_slot_by_slot(rt: HostRuntime) {
-    for (output, whole) in WHOLE {
-        assert_by_slot::<HeapReady>(&rt, rt.alloc(), output, whole);
-    }
-}
-
-// Whether a writer takes the header and all rows.
+// Whether a writer takes the header and all rows. A function that owns a follower is generic over its
+// ready structure, and lends it to one with the looks.
 fn is_written<R: Ready>(
     rt: &impl Abort,
     alloc: Global,
@@ -167,4 +136,22 @@ fn look_at_many<R: Ready>(rt: &impl Abort, follower: &mut Follower<R>, writer: &
 #[test]
 fn rows_of_more_than_65536_bytes_are_flushed(rt: HostRuntime) {
     assert_many_rows::<HeapReady>(&rt, rt.alloc());
+}
+
+// Whether a follower that begins with a state writes the rows of its four slots.
+fn goes_on<R: Ready>(rt: &impl Abort, alloc: Global, state: State, writer: &mut Sink) -> bool {
+    let begun = Follower::<R>::resume(alloc, state, 4, 4096, Output::Tables, 0);
+    let mut follower = begun.ok().expect(rt, "a follower");
+    follower.write_header(writer).is_ok()
+        && follower.take(writer, 0, 1, closing_entry(rt, 4)).is_ok()
+}
+
+#[test]
+fn a_run_that_begins_with_a_state(rt: HostRuntime) {
+    let text = "state,1,4,1,4\nmember,a,2,4,true,0,3,-\nend,3\n";
+    let state = read_state(rt.alloc(), text.as_bytes()).expect(&rt, "a state");
+    let mut writer = Sink::of(rt.alloc(), usize::MAX);
+    assert!(&rt; goes_on::<HeapReady>(&rt, rt.alloc(), state, &mut writer));
+    let rows = "slot,processor,task,index\n0,0,a,3\n1,0,a,4\n";
+    assert!(&rt; writer.taken.as_slice() == rows.as_bytes());
 }

@@ -1,4 +1,4 @@
-//! Tests of lags, texts of faults, task files, long runs, fed runs and reports, through public calls.
+//! Tests of lags, texts of faults, fed runs and reports, through public calls.
 //!
 //! `devices` has readers and writers that are slow or fail; the other modules have tests.
 #![tactic(auto)]
@@ -12,15 +12,13 @@ mod faults;
 #[cfg(test)]
 mod feed;
 #[cfg(test)]
-mod file;
-#[cfg(test)]
 mod follower;
 #[cfg(test)]
 mod gates;
 #[cfg(test)]
-mod lag;
+mod given;
 #[cfg(test)]
-mod long_runs;
+mod lag;
 #[cfg(test)]
 mod reports;
 #[cfg(test)]

@@ -14,9 +14,9 @@ pub(crate) struct Hint {
     pub(crate) number: u32,
 }
 
-/// A worker's end of the hints: a receiver, and a sender to each other worker. What a worker learns
-/// stands on the board, and a hint only says where to look. But once all senders to a worker are
-/// gone, all others have published their logs, and so its last look at the board finds them all.
+/// A worker's end of the hints: a receiver, and a sender to each other worker. A hint only says
+/// where to look on the board. But once all senders to a worker are gone, all others have published
+/// their logs, and its last look at the board finds them all.
 #[derive(Drop)]
 pub struct Hints {
     pub(crate) receiver: Receiver<Hint, Global>,

@@ -24,6 +24,3 @@ pub use pfair_desk::{Board, Desk, LookFault, PublishFault};
 pub use pfair_table::{Run, RunFault};
 pub use sink::Sink;
 pub use worker::run_worker;
-
-#[cfg(test)]
-mod hint_tests;
