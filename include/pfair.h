@@ -589,10 +589,10 @@ uint32_t pfair_next_slot(struct pfair_dispatcher *d, uint64_t *slot);
  *
  * Slots, stamps and floors count from the next run's own slot 0, and entries from 1; `joined`, `theta` and `freed_at`
  * count from slot 0 of the first run. What is stamped after the last slot of this run isn't taken over: whoever
- * announced it announces it again, in the next run's logs. Of each member the jobs before that of its last quantum are
- * counted no more: `joined` is so many periods later, and all its indexes are so many costs lower. Its windows and lags
- * stay. In a next run an index is at most 2,000,001. Of one over 1,000,001, ask pfair_window for the index a whole
- * number of costs lower, with the offset as many periods later.
+ * announced it announces it again, in the next run's logs. Each member's jobs before that of its last quantum are
+ * dropped from its count: `joined` is as many periods later, and all its indexes are as many costs lower. Its windows
+ * and lags stay. In a next run an index is at most 2,000,001. Of one over 1,000,001, ask pfair_window for the index a
+ * whole number of costs lower, with the offset as many periods later.
  *   100  the number of slots is out of its range
  *   30   a number is torn
  *   31   the dispatcher is spent

@@ -129,7 +129,7 @@ def test_planted():
         seen += 1
         assert seen < 5 * SETS, done
         sown = Sown(drawn(rng), rng)
-        assert seen > SETS or pfair.check(sown.script, sown.rows, order=True) == []
+        assert pfair.check(sown.script, sown.rows, order=True) == []
         for kind in KINDS:
             if done[kind] < SETS and (planted := sown.planted(kind)):
                 rows, wanted = planted
@@ -182,9 +182,9 @@ def judged(tasks, slots, rows):
     return sorted(miss for miss in misses if miss)
 
 
-@pytest.mark.parametrize("policy", [edf, by_lag, without_groups])
-def test_other_policies(policy):
-    """Sets at full load, by other policies: the misses are those that the windows say."""
+@pytest.mark.parametrize("policy,least", [(edf, 21), (by_lag, 0), (without_groups, 0)])
+def test_other_policies(policy, least):
+    """Sets at full load, by other policies: the misses are those that the windows say, in so many sets."""
     rng, missed = random.Random(7), 0
     for _ in range(60):
         processors, tasks = rng.randint(2, 4), []
@@ -199,7 +199,7 @@ def test_other_policies(policy):
         wanted = judged(tasks, 48, rows)
         assert found_in(set_of(tasks, processors, 48), rows) == wanted
         missed += bool(wanted)
-    assert missed > 20 or policy is not edf
+    assert missed >= least
 
 
 def test_without_group_deadlines():

@@ -106,9 +106,10 @@ class Dispatcher:
 
     @classmethod
     def resume(cls: type[Own], state: Union[bytes, bytearray, memoryview], slots: int, capacity: int = 4096) -> Own:
-        """Makes a dispatcher for a run that begins with a state, as the run did in which `state` gave it.
+        """Makes a dispatcher for a run that begins with a state, as the run did whose `state` it is.
 
-        No check tells whether a run has left a state, so that no deadline is missed: compare the bytes of two machines.
+        No check can tell whether a run has left the state; by another one tasks may miss deadlines. So compare its
+        bytes with those of another machine.
 
         Parameters
         ----------

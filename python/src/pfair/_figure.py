@@ -39,7 +39,7 @@ class Sizes(NamedTuple):
 
 
 def slot_width(slots: int) -> int:
-    """Returns the width of a slot in a picture of so many."""
+    """Returns the width of a slot in a picture of that many slots."""
     return next(width for most, width in WIDTHS if slots <= most)
 
 

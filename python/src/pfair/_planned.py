@@ -133,7 +133,7 @@ def members(self: Dispatcher) -> Rows:
     -------
     ndarray of dtype MEMBER
         In the order of admission, a row for each task that was admitted and isn't freed at the boundary of the last
-        planned slot, as it is after that slot's table, with its lag then (also in later runs, and whatever was forgotten).
+        planned slot, as it is after that slot's table, with its lag then, in any run and after any `forget`.
 
     Raises
     ------

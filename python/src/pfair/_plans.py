@@ -146,10 +146,10 @@ def next_run(self: Dispatcher, slots: int) -> None:
 
     The dispatcher then has no entries and no planned slots, and the members that the run left. Slots, stamps and
     floors count from the next run's own slot 0, and entries from 1; in `members`, and in `freed_at` of `decisions`,
-    slots count from the first run's slot 0. What is stamped after this run's last slot isn't taken over. Of each
-    member the jobs before that of its last quantum are counted no more: it counts as joined so many periods later,
-    and its indexes are so many costs lower. Windows and lags stay as they are, and a task that runs on stays on its
-    processor.
+    slots count from the first run's slot 0. What is stamped after this run's last slot isn't taken over. Each
+    member's jobs before that of its last quantum are dropped from its count: it counts as joined as many periods
+    later, and its indexes are as many costs lower. Windows and lags stay as they are, and a task that runs on stays
+    on its processor.
 
     Parameters
     ----------

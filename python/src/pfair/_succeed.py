@@ -50,7 +50,7 @@ def succeed(
     That task gets a quantum in each slot, on one place. The processor whose place it is runs what has the dead one's
     place instead, and all other tasks meet their deadlines on the processors that are left.
 
-    Before the call, no dispatcher takes an entry of the dead processor any more that comes late (a fence), and `joined`
+    Before the call the dead processor's log is fenced: no dispatcher takes a late entry of it any more. And `joined`
     has absorbed all that any survivor holds. Until the task is admitted, nobody announces anything but floors.
 
     Parameters

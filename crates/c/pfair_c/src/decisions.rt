@@ -121,7 +121,8 @@ fn write_several<R: Ready>(
     count
 }
 
-// Writes the decisions of a slot over the rows from `at` on, if there is room, and says where the next ones stand.
+// Writes the decisions of a slot over the rows from `at` on, if there is room, and returns the
+// index behind them.
 fn write_slot<R: Ready>(
     dispatcher: &Dispatcher<R>,
     slot: u64,

@@ -31,8 +31,8 @@ pub(crate) fn with_open<T, F: FnOnce(&mut Dispatcher<HeapReady>) -> T>(
     Some(told)
 }
 
-/// Tells something of the dispatcher in a count and rows, and returns what the function answers; or 102 if there is
-/// no dispatcher, and then nothing is written.
+/// Writes rows about the dispatcher and their count, and returns what the function answers; or 102
+/// if there is no dispatcher, and then nothing is written.
 pub(crate) fn tell_rows<B, F: FnOnce(&Dispatcher<HeapReady>, &mut u64, &mut [B]) -> u32>(
     alloc: Global,
     handle: &mut Handle,

@@ -151,9 +151,9 @@ pub extern "C" fn pfair_reserve(alloc: Global, handle: &mut Handle, slots: u64, 
     }
 }
 
-/// Forgets the tables, places and decisions of the planned slots below `slots`: their memory is freed,
-/// 1,024 slots at a time, and they can't be read again. Plans go on as before. O(slots freed);
-/// allocates nothing.
+/// Forgets the tables, places and decisions of the planned slots below `slots`: their memory is
+/// freed, or used for slots to come, and they can't be read again. Plans go on as before. O(slots
+/// freed); allocates nothing.
 ///
 /// Answers 0; or 102 if the handle has no dispatcher.
 #[unsafe(no_mangle)]

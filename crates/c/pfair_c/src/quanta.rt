@@ -81,7 +81,8 @@ fn write_quanta<R: Ready>(
     count
 }
 
-// Writes the quanta of a slot over the rows from `at` on, if there is room, and says where the next ones stand.
+// Writes the quanta of a slot over the rows from `at` on, if there is room, and returns the index
+// behind them.
 fn write_slot<R: Ready>(
     dispatcher: &Dispatcher<R>,
     slot: u64,

@@ -21,7 +21,7 @@ pub(crate) fn are_told(dispatcher: &Dispatcher<HeapReady>, from: u64, to: u64) -
     to <= dispatcher.next_slot() && (to <= from || dispatcher.forgotten() <= from)
 }
 
-/// Writes `wanted` rows if there are as many, and notes in `count` how many are wanted.
+/// Writes `wanted` to `count`, and the rows if there is room for all.
 ///
 /// Returns 0; or 103 if there are fewer rows, and then none is written.
 pub(crate) fn lay_rows<B, W: FnOnce(&mut [B])>(

@@ -22,7 +22,7 @@ use std::alloc::Global;
 pub struct PfairTakenLog {
     /// How many were taken.
     pub taken: u64,
-    /// Under how many of their numbers nothing was held.
+    /// How many of them met nothing under their number.
     pub fresh: u64,
     /// Under how many an equal entry was.
     pub known: u64,

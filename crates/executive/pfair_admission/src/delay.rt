@@ -37,7 +37,7 @@ pub(crate) fn is_delayed_at(delays: &[Delay], index: u64) -> bool
     delays.iter().any(|d| d.index == index)
 }
 
-/// The delay of subtask `index` grows by so many slots.
+/// Adds `by` slots to the delay of subtask `index`.
 pub(crate) fn add_at(delays: &mut BTreeMap<u64, u64>, index: u64, by: u64) -> Result<(), AllocError>
     requires { unwrap_or (map.get nat_cmp delays.old index) 0 + by < 2 ^ 64 }
     ensures ok { OnOk result (map.Updates nat_cmp delays.old delays.new index (Some (unwrap_or (map.get nat_cmp delays.old index) 0 + by))) }
@@ -74,8 +74,8 @@ pub(crate) fn coming_after(
     Ok(coming)
 }
 
-/// The delays if subtask `next` is the next one, and subtasks are counted from so many later: one
-/// of subtask 1 for all that have passed, and the others at lower indexes.
+/// The delays of a carried member: those before subtask `next` as one, of subtask 1, and the others
+/// at lower indexes.
 pub(crate) fn carried_delays(
     alloc: Global,
     delays: &[Delay],

@@ -197,8 +197,8 @@ impl Incarnation {
         (self.stepper.release(), key)
     }
 
-    /// It departs at `slot`, unless that is refused. Its weight and its name are free from that
-    /// slot on if it never ran, else from the later of that slot and the one in which the
+    /// Decides on a departure at `slot`. Unless it is refused, its weight and its name are free
+    /// from that slot on if it never ran, else from the later of that slot and the one in which the
     /// claim of its last subtask ends.
     pub(crate) fn depart(&mut self, slot: u64) -> Decision
         ensures decision { result ≡ departure slot (Some self.old) }
@@ -212,8 +212,8 @@ impl Incarnation {
         Decision::Departing { freed_at }
     }
 
-    /// At `slot` subtask `index` and all after it are put off by so many slots, unless that is
-    /// refused.
+    /// Decides on a late release at `slot`: unless it is refused, subtask `index` and all later
+    /// ones come `by` slots later.
     pub(crate) fn delay(&mut self, slot: u64, index: u64, by: u64) -> Result<Decision, AllocError>
         requires first { 1 ≤ index }
         requires last { index ≤ MAX_INDEX }
@@ -232,7 +232,8 @@ impl Incarnation {
         Ok(Decision::Delayed)
     }
 
-    // Its offset is at least that of the next subtask, so the delays are gone through only if that is too small.
+    // Its offset is at least that of the next subtask: only if this doesn't settle it are the
+    // delays summed.
     fn is_released_before(&self, slot: u64, index: u64) -> bool
         requires later { self.now.next ≤ index }
         requires last { index ≤ MAX_INDEX }
@@ -262,7 +263,7 @@ impl Incarnation {
         Ok(())
     }
 
-    /// It has one quantum more, unless it is departing, and the answer is the subtask's index.
+    /// Counts a quantum and returns its subtask's index, or `None` if it is departing.
     pub(crate) fn run(&mut self) -> Option<u64>
         requires { self.old.next < MAX_INDEX }
         ensures index { result ≡ option_map (λ m. m.next) (running (Some self.old)) }
@@ -281,7 +282,7 @@ impl Incarnation {
         Some(index)
     }
 
-    /// It has one quantum more at this seat, unless it is departing, and the answer is that quantum.
+    /// Counts a quantum at this seat and returns it, or `None` if it is departing.
     pub(crate) fn run_on(&mut self, seat: usize) -> Option<Quantum>
         requires { self.old.next < MAX_INDEX }
         ensures quantum { option_map seatless result ≡ option_map quantum_of (running (Some self.old)) }
@@ -369,7 +370,7 @@ impl Incarnation {
         }
     }
 
-    // Where the claim ends of a member whose last subtask was `index`.
+    // The slot at which a member's claim ends if its last subtask was `index`.
     fn busy_until(&self, index: u64) -> u64
         requires first { 1 ≤ index }
         requires last { index ≤ MAX_INDEX }

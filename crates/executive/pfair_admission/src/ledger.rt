@@ -52,7 +52,7 @@ impl Ledger {
     {
         let (hint, _, number) = self.names.get_full(name)?;
         match self.members.get_index(hint) {
-            // Names mostly stand in the order of their members.
+            // A name mostly has the index of its member.
             Some((there, _)) if there == number => Some(hint),
             _ => self.members.get_index_of(number),
         }
@@ -237,7 +237,7 @@ impl Ledger {
         Some(place)
     }
 
-    /// Adds a member that a run left that ended before `slot`, unless that is refused.
+    /// Adds a member as a run that ended before `slot` left it, unless that is refused.
     pub(crate) fn restore(&mut self, slot: u64, state: MemberState) -> Result<(), RestoreFault>
         requires kept { IsLedger (λ _. true) self.old }
         requires numbers { self.old.admitted + 1 < 2 ^ 64 }

@@ -1,6 +1,7 @@
 //! Members as a run begins with them.
-ghost use Rattle.std.specs.Prelude.{◌≡◌, ◌≤◌, ◌+◌, nat_le, sum_by};
+ghost use Rattle.std.specs.Prelude.{◌≡◌, ◌+◌, nat_le, sum_by};
 ghost use Rattle.std.specs.List.{list_all};
+ghost use Rattle.pfair_weight.specs.Share.{IsWeight};
 ghost use Rattle.pfair_admission.specs.Restored.{is_left_at, is_summed_up, member_in};
 
 use crate::delay::Delay;
@@ -60,7 +61,7 @@ impl MemberState {
     // Whether a run that ended before the slot can have left it.
     pub(crate) fn is_left_at(&self, slot: u64) -> bool
         ensures value { result ≡ is_left_at slot (member_in self.now) }
-        ensures weight { 1 ≤ self.now.weight.cost }
+        ensures weight { IsWeight self.now.weight.cost self.now.weight.period }
     {
         let cost = self.weight.cost();
         if cost > Entry::LAST_INDEX || self.next < 1 || self.next > cost + 1 {

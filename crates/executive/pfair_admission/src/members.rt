@@ -98,9 +98,9 @@ impl Members {
 
     /// Creates the members of a next run: these, with their indexes lowered by whole jobs.
     ///
-    /// Of each member the jobs before that of its last quantum are counted no more, and it counts
-    /// as joined as many periods later. Its accepted delays up to its last quantum become one, of
-    /// subtask 1. Slots stay as they are. O(n + d log d) for n members with d accepted delays.
+    /// Each member's jobs before that of its last quantum are dropped, and it counts as joined as
+    /// many periods later. Its accepted delays up to its last quantum become one, of subtask 1.
+    /// Slots stay as they are. O(n + d log d) for n members with d accepted delays.
     ///
     /// All of these members can be carried, as [`Members::first_left_behind`] tells.
     ///
@@ -119,8 +119,8 @@ impl Members {
 
     /// Adds a member behind the others, as a run that ended before `slot` can have left it to the next.
     ///
-    /// Nothing tells whether there was such a run: a member that none left can pass. Call this before
-    /// the first boundary. O(d log d) for d delays, and O(n) at worst for n members, when a map grows.
+    /// No check can tell whether there was such a run. Call this before the first boundary.
+    /// O(d log d) for d delays, and O(n) at worst for n members, when a map grows.
     ///
     /// # Errors
     /// Returns [`RestoreFault`], with nothing changed, if the name or the weight isn't admitted, if no
@@ -148,8 +148,8 @@ impl Members {
     ///
     /// # Errors
     /// Returns [`AllocError`] if an allocation fails, and only if something was announced. The
-    /// members are then those that the frees and some beginning of the announcements leave, and
-    /// all announcements count as heard.
+    /// members are then as after the first few of the announcements, and all of them count among
+    /// those that were handed in.
     pub fn boundary(&mut self, slot: u64, announced: &[Said]) -> Result<Vec<Decision>, AllocError>
         requires slot { slot ≤ Members.LAST_SLOT }
         requires order { ForSome self.old.last_slot (λ last. last ≤ slot) }

@@ -146,7 +146,7 @@ impl LagBook {
     }
 
     /// Records that one slot has passed, in which the tasks of these picks ran. A task that is
-    /// named twice had one quantum, and one that isn't entered counts for nobody.
+    /// named twice had one quantum, and a name that isn't entered is ignored.
     ///
     /// Fewer than [`MAX_HORIZON`] slots have been recorded. O(picks); it allocates nothing.
     pub fn record(&mut self, picks: &[Pick])
@@ -166,8 +166,8 @@ impl LagBook {
     }
 
     /// Returns the lag of a task, as a numerator over its period p: `e * t - p * A`, where e is its
-    /// cost, t the number of slots recorded since it was entered, and A the number of those of them
-    /// in which it ran, each with those that it was entered with. `None` if it isn't there. O(1).
+    /// cost, t the number of slots recorded since it was entered, and A the number of those in
+    /// which it ran; both include what it was entered with. `None` if it isn't there. O(1).
     pub fn lag(&self, name: &TaskName) -> Option<(i64, u64)>
         ensures { result ≡ option_map lag_of (tally_of name.now self.now) }
     {

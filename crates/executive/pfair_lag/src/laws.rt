@@ -34,8 +34,8 @@ pub fn first_late_are_one()
 {}
 
 /// After any calls the lag of a task goes by the slots recorded since it was last entered, and by
-/// those of them whose list names it, with the slots and quanta that it was entered with. It goes by
-/// no other slot, also if the task was there before and left.
+/// those of them whose list names it, with the slots and quanta that it was entered with. Slots
+/// before it was last entered don't count, even if it had been entered before.
 #[tactic(auto, using(crate::proofs::RunLemmas::counts_since_entering))]
 pub fn lags_count_since_entering()
     ensures { CountsSinceEntering }

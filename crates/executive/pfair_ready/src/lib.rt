@@ -116,8 +116,8 @@ pub trait Ready: Drop {
         self.insert(release, key)
     }
 
-    /// Does what [`Ready::take_first`] does, and returns each key with its seats. The list is a given one,
-    /// whose content is dropped and which grows only if its room is too small.
+    /// Does what [`Ready::take_first`] does, and returns each key with its seats. The list is
+    /// cleared first, and grows only if its capacity is too small.
     ///
     /// # Errors
     /// `AllocError` if an allocation fails. Nothing but `now` has changed if no two released keys are the

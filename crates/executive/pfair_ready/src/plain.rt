@@ -129,7 +129,7 @@ fn listed(alloc: Global, keys: IntoIter<Key>) -> Result<Vec<Key>, AllocError>
     keys.collect(alloc)
 }
 
-// Lets go what waits under the names of these keys.
+// Removes the keys under these names.
 fn keep_others(waiting: &mut Vec<Waiting>, keys: &[Key])
     ensures { waiting.new.items ≡
         filter (λ w. not (list_any (λ k. name_eq w.key.name k.name) keys.now)) waiting.old.items }

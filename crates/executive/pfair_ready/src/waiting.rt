@@ -62,7 +62,7 @@ struct Entry {
 
 type Entries = IndexMap<TaskName, Entry>;
 
-/// Under each name the release and the key that wait.
+/// The release and the key that wait under each name.
 ///
 /// A name keeps its entry when its key is taken, since the next key of its task mostly follows. Such
 /// entries are dropped when a new name comes and more than half of the names are new since the last
@@ -145,7 +145,7 @@ impl Waiting {
         Ok(index)
     }
 
-    /// Takes out the key of a turn if it is the one under its name, and released by the slot.
+    /// Removes the key of a turn if it is the one under its name, and released by the slot.
     pub(crate) fn take(&mut self, slot: u64, turn: &Turn) -> Option<Seated>
         ensures answer { is_some result ≡ is_due turn.now.0 slot (finmap.get self.old turn.now.0.name) }
         ensures key { IfSome result (λ seated. seated.key ≡ turn.now.0) }
@@ -168,7 +168,7 @@ impl Waiting {
         }
     }
 
-    /// Makes room for so many names, also while names come and go.
+    /// Reserves memory for that many names at once.
     pub(crate) fn reserve(&mut self, names: usize) -> Result<(), AllocError>
         ensures { self.new ≡ self.old }
     {

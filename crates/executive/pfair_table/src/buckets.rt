@@ -28,8 +28,8 @@ impl Buckets {
         Buckets { ends }
     }
 
-    /// The place of a task in the table, whose rows have these places. It costs the rows only if
-    /// two tasks of the table fall into its bucket.
+    /// The place of a task in the table, whose rows have these places. O(1), and O(rows) if two
+    /// tasks of the table are in its bucket.
     pub(crate) fn place(&self, table: &[Pick], places: &[u8], name: &TaskName) -> Option<u8>
         requires of { AreBucketsOf table.now self.now.ends }
         requires once { NamesApart (λ p. p.name) table.now }

@@ -125,10 +125,10 @@ impl<R: Ready> Dispatcher<R> {
         &self.replica
     }
 
-    /// States the headline of two dispatchers, whatever was called on either: if their settings are
-    /// equal, their runs began alike and their replicas agree, each slot that both have planned has
-    /// the same table, which is that of either replica, the same decisions and the same places, and
-    /// what a next run takes over is the same. It does nothing.
+    /// The headline, for two concrete dispatchers after any calls. If their settings are equal,
+    /// their runs began alike and their replicas agree, each slot that both have planned has the
+    /// same table, which is that of either replica, the same decisions and the same places, and
+    /// both leave the same to a next run. Does nothing.
     pub fn plans_alike<Q: Ready>(&self, other: &Dispatcher<Q>)
         ensures planned { HavePlannedAlike self.now other.now }
         ensures placed { HavePlacedAlike self.now other.now }

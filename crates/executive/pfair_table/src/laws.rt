@@ -75,11 +75,11 @@ pub fn one_placing()
     ensures { OnePlacing }
 {}
 
-/// Runs go on as one: each slot of a next run is the slot of one long run, in which all is said that is
-/// said in both, as many slots later as the first run has. It has the same table, decisions and places,
-/// and members with the same keys, freeing slots and lags; only indexes are lower, by the subtasks of
-/// the jobs that were taken off. So the long run is notified of the next run's late releases with
-/// indexes that are greater by as much. A next run can be followed by another.
+/// Runs go on as one: each slot of a next run is a slot of one long run. That has the announcements
+/// of both, those of the next run later by the slots of the first. It has the same table, decisions
+/// and places, and members with the same keys, freeing slots and lags; only indexes are lower, by
+/// the subtasks of the jobs that were taken off. So the long run is notified of the next run's late
+/// releases with indexes that are greater by as much. A next run can be followed by another.
 #[tactic(auto, using(crate::proofs::RunsOn::runs_go_on))]
 pub fn runs_go_on()
     ensures { RunsGoOn }

@@ -14,8 +14,8 @@ use std::alloc::AllocError;
 // The most rows of a table that are gone through for each task: with more, buckets cost less.
 const FEW_ROWS: usize = 4;
 
-/// The places of a table, if the one before it has those places. They use the room of a list, and
-/// what the rows keep that of another one, which is kept.
+/// The places of a table, if the one before it has those places. They reuse the memory of two
+/// lists.
 pub(crate) fn places_beside(
     before: &[Pick],
     places: &[u8],
@@ -85,7 +85,7 @@ fn keep_by_buckets(
     Ok(())
 }
 
-// The kept places, and for each other row the least processor that is not in use.
+// The kept places; each other row gets the least free processor.
 fn fill_places(kept: &[Option<u8>], room: Vec<u8>) -> Result<Vec<u8>, AllocError>
     requires below { AllByRecursion (λ k. k < Settings.MAX_PROCESSORS) (all_kept kept.now) }
     requires rows { length kept.now ≤ Settings.MAX_PROCESSORS }

@@ -92,7 +92,7 @@ pub(crate) struct Planned {
     first: usize,
     slots: VecDeque<PlannedSlot>,
     forgotten: usize,
-    // slots whose lists are used again, and what more of them are made from
+    // emptied slots for reuse, and the allocator for more
     rooms: Vec<PlannedSlot>,
     alloc: Global,
 }
@@ -206,7 +206,7 @@ impl Planned {
         }
     }
 
-    /// Takes the room of so many further slots, of so many rows each.
+    /// Reserves memory for further slots, with that many rows each.
     pub(crate) fn reserve(&mut self, slots: usize, rows: usize) -> Result<(), AllocError>
         ensures { self.new ≡ self.old }
     {
@@ -214,7 +214,7 @@ impl Planned {
         add_rooms(self.alloc, &mut self.rooms, slots, rows)
     }
 
-    /// Lists for the next slot: those of a slot that was forgotten, or that were taken for it.
+    /// Returns empty lists for the next slot: those of a forgotten slot, or reserved ones.
     pub(crate) fn take_room(&mut self) -> PlannedSlot
         ensures { self.new ≡ self.old }
     {
@@ -230,7 +230,7 @@ impl Planned {
         }
     }
 
-    /// Puts the next slot of the replica behind those before it, which are slots of the replica too.
+    /// Appends the next slot of the replica.
     pub(crate) fn push(&mut self, replica: &Replica, next: PlannedSlot) -> Result<(), AllocError>
         requires few { length self.old.tables < Settings.MAX_SLOTS }
         requires next { IsNext self.old replica.now next }
@@ -261,7 +261,7 @@ fn kept_at(
     slots.get(slot - first)
 }
 
-// Takes so many slots off the front. As many of them as there is a place for are used again.
+// Removes that many slots from the front. Their lists are kept for reuse as far as there is room.
 fn give_back(slots: &mut VecDeque<PlannedSlot>, rooms: &mut Vec<PlannedSlot>, count: usize)
     ensures { slots.new.items ≡ drop count slots.old.items }
 {

@@ -1,5 +1,5 @@
-//! What is kept from slot to slot beside the replica and the tables: the members, what waits of
-//! them, and what was read of the replica.
+//! The state between slots, beside the replica and the tables: the members, the ready structure,
+//! and how far the replica was read.
 ghost use Rattle.std.specs.Prelude.{◌≡◌, ◌≤◌, ◌<◌, ◌+◌, false, if◌then◌else◌, is_err, is_ok, IfOk, IfErr, OnOk, length};
 ghost use Rattle.pfair_replica.specs.HeldRows.{replica_of};
 ghost use Rattle.pfair_replica.specs.Replica.{Replica as Held, IsReplica, has_torn};
@@ -27,7 +27,7 @@ use std::alloc::{AllocError, Global};
 pub(crate) struct Planner<R: Ready> {
     pub alloc: Global,
     pub settings: Settings,
-    // whether a plan was refused memory: then members and what waits of them say nothing
+    // whether an allocation failed in a plan: then members and ready structure aren't valid
     pub spent: bool,
     readings: Readings,
     // after the slots that were planned last
@@ -66,7 +66,7 @@ impl<R: Ready> Planner<R> {
         })
     }
 
-    /// Takes room for slots of so many processors while no more than so many tasks are members.
+    /// Reserves memory for slots of that many processors and for that many members.
     pub(crate) fn reserve(&mut self, processors: u8, tasks: usize) -> Result<(), AllocError>
         ensures settings { self.new.settings ≡ self.old.settings }
         ensures spent { self.new.spent ≡ self.old.spent }
@@ -81,8 +81,7 @@ impl<R: Ready> Planner<R> {
         self.kept.reserve(processors as usize)
     }
 
-    /// Returns what becomes of slot n, the next one: whether it can be planned of the replica, and
-    /// else what it waits for or why it is refused.
+    /// Returns whether slot n, the next one, can be planned from the replica, and if not, why.
     pub(crate) fn next_step(&self, replica: &Replica, slot: u64) -> Result<Step, PlanFault>
         ensures step { IfOk result (IsNextStep self.now.settings (replica_of replica.now) slot) }
         ensures able { OnOk result ((has_torn (replica_of replica.now) ≡ false) × (self.now.spent ≡ false)) }
@@ -105,8 +104,8 @@ impl<R: Ready> Planner<R> {
         Ok(Step::Planned(slot))
     }
 
-    /// Plans slot n of the replica, in step with the n slots before it. The table uses the room of a
-    /// list.
+    /// Plans slot n of the replica, after the n slots before it. The table reuses the memory of
+    /// `room`.
     pub(crate) fn plan(
         &mut self,
         origin: &Origin,

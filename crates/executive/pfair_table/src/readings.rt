@@ -1,4 +1,4 @@
-//! What the sound beginnings of a replica say, where each entry is looked at once.
+//! The announcements of a replica's sound beginnings, by slot. Each entry is read once.
 ghost use Rattle.std.specs.Prelude.{◌≡◌, ◌≤◌, ℕ, [], IfOk, OnOk, length};
 ghost use Rattle.pfair_replica.specs.Agenda.{said_at};
 ghost use Rattle.pfair_replica.specs.HeldRows.{replica_of};
@@ -29,7 +29,8 @@ impl Reading {
         }
     }
 
-    // Reads on in a sound beginning, from where it stood. After a failed allocation nothing counts as read.
+    // Reads the entries of a sound beginning that weren't read yet. After a failed allocation
+    // nothing counts as read.
     fn read_on(&mut self, alloc: Global, replica: &Replica, processor: u8) -> Result<(), AllocError>
         requires { IsReadingOf processor (sound_beginning (replica_of replica.now) processor) self.old }
         ensures reading { IsReadingOf processor (sound_beginning (replica_of replica.now) processor) self.new }
@@ -94,7 +95,7 @@ impl Readings {
         self.said(slot)
     }
 
-    // Reads on in all sound beginnings, from where it stood in each, unless all were read to their ends.
+    // Reads the entries of all sound beginnings that weren't read yet, if there are any.
     fn read_on(&mut self, replica: &Replica) -> Result<(), AllocError>
         requires replica { IsReplica (replica_of replica.now) }
         requires untorn { Untorn (replica_of replica.now) }

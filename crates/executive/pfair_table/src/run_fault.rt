@@ -17,7 +17,7 @@ pub enum RunFault {
     /// The board holds something other than the script's logs.
     #[error("gone astray")]
     Astray,
-    /// The logs end before the slots do: they settle only the slots below this one.
+    /// The logs don't cover all slots: they settle only those below this one.
     #[error("stalled at slot {slot}")]
     Stalled {
         /// The frontier of the logs.

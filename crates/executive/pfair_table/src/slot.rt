@@ -85,7 +85,7 @@ pub(crate) fn tell_of<R: Ready>(
     Ok(())
 }
 
-/// Notifies the ready structure of all tasks that something was said about.
+/// Updates the ready structure for each task that the slot's announcements name.
 pub(crate) fn tell_ready<R: Ready>(
     ready: &mut R,
     members: &Members,
@@ -115,8 +115,8 @@ pub(crate) fn ready_of<R: Ready>(alloc: Global, members: &Members) -> Result<R, 
     Ok(ready)
 }
 
-/// Each of these keys has a quantum, and the next subtask of its task waits. The table uses the room
-/// of a list.
+/// Gives each of these keys a quantum, and inserts the next subtask of its task. The table reuses
+/// the memory of `room`.
 pub(crate) fn run_each<R: Ready>(
     ready: &mut R,
     members: &mut Members,

@@ -22,8 +22,8 @@ use std::alloc::{AllocError, Global};
 use std::marker::Model;
 use std::snapshot::Snapshot;
 
-/// Plans slot after slot of a replica that stands and grows elsewhere, and keeps no planned slot: as
-/// a [`Dispatcher`](crate::Dispatcher) that is handed its entries and forgets each slot at once.
+/// Plans slot after slot of a replica that the caller keeps, and keeps no planned slot: it acts as
+/// a [`Dispatcher`](crate::Dispatcher) with these entries that forgets each slot at once.
 ///
 /// Its memory is that of the tasks and of the announcements at slots that are not planned yet; it
 /// doesn't grow with the slots.
@@ -166,7 +166,7 @@ impl<R: Ready> SlotPlanner<R> {
         Ok(Some(next))
     }
 
-    // What is handed in from now on is this replica, or one that holds more.
+    // From now on the caller hands in this replica, or one that holds more.
     fn see(&mut self, replica: &Replica)
         requires shape { SameShape self.old.held replica.now }
         requires above { Below (replica_of self.old.held) (replica_of replica.now) }

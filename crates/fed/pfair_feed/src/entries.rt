@@ -15,9 +15,8 @@ use pfair_text::{finish, new_text};
 use std::alloc::{AllocError, Global};
 
 /// Returns the entries of a script as rows: the logs in order of processors, and in each its
-/// entries, from number 1 on. O(rows). What comes of them when they are fed, in whatever
-/// order and however often each,
-/// [`entries_give_their_schedule`](crate::laws::entries_give_their_schedule) says.
+/// entries, from number 1 on. O(rows). Fed in any order, repeated or not, they give the script's
+/// schedule ([`entries_give_their_schedule`](crate::laws::entries_give_their_schedule)).
 ///
 /// # Errors
 /// Returns [`AllocError`] if an allocation fails.

@@ -178,7 +178,7 @@ impl<R: Ready> Follower<R> {
         Ok(taken)
     }
 
-    // Writes the rows of the slots that are planned and not told.
+    // Writes the rows of planned slots that aren't written yet.
     fn tell<W: Write>(&mut self, writer: &mut W) -> Result<(), ProgramFault>
         ensures rest { self.new ≡ record self.old { told = self.new.told } }
         ensures told { OnOk result (self.new.told ≡ max self.old.told (length self.old.dispatch.tables)) }
@@ -284,9 +284,9 @@ impl<R: Ready> Follower<R> {
         }
     }
 
-    /// States the law of two followers, whatever was called on either: if their settings, the beginnings
-    /// of their runs and their outputs are equal and what they hold agrees, what one has planned has
-    /// rows that begin those of the other, from any slot on. It does nothing.
+    /// The law of two concrete followers after any calls: if their settings, the beginnings of
+    /// their runs and their outputs are equal and their replicas agree, the rows of one begin those
+    /// of the other, from any slot on. Does nothing.
     pub fn tells_alike<Q: Ready>(&self, other: &Follower<Q>)
         ensures { HaveToldAlike self.now other.now }
     {

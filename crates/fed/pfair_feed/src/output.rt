@@ -55,9 +55,9 @@ pub(crate) fn write_header<W: Write>(
     send_now(writer, text.as_slice())
 }
 
-/// Writes the rows of the slots that are planned, from a slot on, and flushes them if there are some.
-/// If there is a book of lags, it knows some slots before that one; after rows of lags there is one,
-/// and it knows all slots that are planned. After a fault it is of no use.
+/// Writes the rows of the slots that are planned, from a slot on, and flushes them if there are
+/// some. A book of lags, if there is one, has the slots up to some slot before that one; afterwards
+/// it has all planned slots. After a fault it isn't valid.
 pub(crate) fn write_rows<R: Ready, W: Write>(
     alloc: Global,
     output: Output,

@@ -54,9 +54,9 @@ pub enum Asked {
 /// `entries FILE` asks for the rows of the entries of that file, whatever its name is. `replay`,
 /// `decisions` and `lags` ask for the rows of a run. Each of them has to have the options
 /// `--processors M`, 1 to 64, `--frame F`, 1 to 1,000,000,000, and `--slots S`, 1 to 1,000,000, and
-/// may have `--from SLOT`, 0 to 1,000,000, which is 0 if it isn't given, and `--strict`; `replay` may
-/// have `--affinity` too. Options stand in any order, each once. The clause says by `clap`'s own
-/// definitions what is answered to any words.
+/// may have `--from SLOT`, 0 to 1,000,000, which is 0 if it isn't given, and `--strict`; `replay`
+/// may have `--affinity` too. Options come in any order, each once. The clause cites `clap`'s own
+/// definitions, for any words.
 ///
 /// # Errors
 /// [`ProgramFault::CommandLine`] if a number isn't spelt as one or is out of its range, a word is

@@ -1,4 +1,4 @@
-//! The one reading of words, by `clap`: what it makes of them, and what stands under a name.
+//! Reads command lines by `clap`, and looks values up by their names.
 ghost use Rattle.std.specs.Prelude.{◌≡◌, ◌⊎◌, ℕ, IfOk, MatchResult, None, Some, codes, string_bytes, true};
 ghost use Rattle.clap.specs.Walk.{one_of};
 ghost use Rattle.clap.specs.Words.{app_of, first_of, found_of, is_simple_and_free, kind_of, rows_of};

@@ -17,7 +17,7 @@ pub fn read_version(table: &Table) -> Result<u64, FileFault>
     within(stated, 1, 2, FileFault::Version)
 }
 
-/// Reads what the run is set to, or the first fault of its keys.
+/// Reads the settings of the run, or the first fault of their keys.
 pub fn read_settings(table: &Table) -> Result<Settings, FileFault>
     ensures { result ≡ settings_of (table_view table.now) }
 {

@@ -34,8 +34,8 @@ pub fn dispatchers_never_miss()
     one_schedule();
 }
 
-/// No admitted task misses its deadline by what a dispatcher in hand has planned, whatever was called
-/// on it: while its replica has nothing torn, each of these slots has the table that follows from the
+/// No admitted task misses its deadline by what a concrete dispatcher has planned, after any calls:
+/// while its replica has nothing torn, each of these slots has the table that follows from the
 /// replica, and is served as [`none_misses`] says.
 ///
 /// Premises: what the calls of each dispatcher ensure of it. If its run isn't the first, the
@@ -46,8 +46,8 @@ pub fn never_misses()
     ensures { NeverMisses }
 {}
 
-/// A dispatcher that was handed on from run to run is in a run after those of the dispatchers before
-/// it, so that all laws of runs speak of it.
+/// A dispatcher that `next_run` gave is in a run after those of the dispatchers before it, so that
+/// all laws of runs hold of it.
 #[tactic(auto, using(crate::proofs::Planned::dispatchers_run_on))]
 pub fn dispatchers_run_on()
     ensures { DispatchersRunOn }
@@ -97,10 +97,10 @@ pub fn served_where_there_is_room()
     ensures { ServedWhereThereIsRoom }
 {}
 
-/// A set that starts together and doesn't fit can't be served: if the arrivals of
-/// [`served_where_there_is_room`] need more quanta than that, then by any tables with at most as many
-/// rows in a slot as there are processors, some task is late at one of its deadlines up to the end of
-/// the frame.
+/// If a set that starts together doesn't fit, no scheduler can meet all its deadlines: if the
+/// arrivals of [`served_where_there_is_room`] need more quanta than that, then by any tables with
+/// at most as many rows in a slot as there are processors, some task is late at one of its
+/// deadlines up to the end of the frame.
 pub fn none_serves_more()
     ensures { NoneServesMore }
 {}

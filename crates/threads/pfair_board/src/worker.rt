@@ -24,7 +24,7 @@ use std::sync::Wait;
 ///
 /// Publishes the log from the desk's next number on, sends a hint of each entry to the other
 /// workers and drops its senders, looks where a hint points, plans by itself what its desk settles,
-/// and refreshes and plans the rest once no hint can come any more. The answer doesn't rest on
+/// and refreshes and plans the rest once no hint can come any more. The result does not depend on
 /// hints: at Ok the run has the plan of what the desk then holds, and the places of its tables. So
 /// of the answers of two desks of one board, under equal settings, the shorter begins the longer.
 ///
