@@ -114,15 +114,22 @@ def changes(tree):
             yield node, "value", not node.value if isinstance(node.value, bool) else node.value + more
 
 
+def plain(source):
+    """A file without what a parser passes over, as its mutants are."""
+    return ast.unparse(ast.parse(source))
+
+
 def mutants_of(file, source):
-    """The mutants of a file: its new text, and by what it is known: the file, and the line in it that is new."""
+    """The mutants of a file: its new text, by what it is known (the file, and the line in it that is new), and the number
+    of that line in `plain`."""
     tree = ast.parse(source)
-    lines = ast.unparse(tree).splitlines()
+    lines = plain(source).splitlines()
     for node, name, new in changes(tree):
         old = getattr(node, name)
         setattr(node, name, new)
         text = ast.unparse(tree)
         setattr(node, name, old)
-        changed = next((one for one, other in zip(text.splitlines(), lines) if one != other), None)
+        pairs = enumerate(zip(text.splitlines(), lines), 1)
+        number, changed = next(((number, one) for number, (one, other) in pairs if one != other), (0, None))
         if changed is not None:
-            yield text, f"{file}: {changed.strip()}"
+            yield text, f"{file}: {changed.strip()}", number
