@@ -1,6 +1,7 @@
 -- What the parser makes of words, and what stands under the names of arguments.
-use Rattle.std.specs.Prelude.{ℕ, ◌≡◌, ◌≢◌, ◌<◌, ◌^◌, ◌⊎◌, true, false, List, [], map, Option, Some, None, codes, String, string_bytes}
+use Rattle.std.specs.Prelude.{ℕ, ◌≡◌, ◌≢◌, ◌<◌, ◌^◌, ◌⊎◌, true, false, List, [], map, Option, Some, None, MatchOption, codes, String, string_bytes}
 use Rattle.std.specs.declared.alloc.Global.{Global}
+use Rattle.std.specs.Option.{option_map}
 use Rattle.std.specs.Str.Parse.{IsNumeral, digits_value, without_leading_plus}
 use Rattle.clap.specs.Words.{App, IsAmong, Row, Text, fault_of, first_of, subcommand_of, subcommand_rows_of}
 use Rattle.clap.specs.Walk.{one_of}
@@ -29,6 +30,14 @@ SpellsIfAny (Some word) n = Spells word n
 -- the number under a name
 abbrev pub IsNumber : List Row → Text → ℕ → Type 0
 IsNumber rows name n = SpellsIfAny (one_of name rows) n
+
+-- the number under a name if it is one, and none if no word stands there or it spells no number
+abbrev pub IsNumberIfAny : List Row → Text → Option ℕ → Type 0
+IsNumberIfAny rows name found = MatchOption found ((n : ℕ) → ¬ IsNumber rows name n) (IsNumber rows name)
+
+-- the word under a name, and none if none stands there
+abbrev pub IsTextIfAny : List Row → Text → Option (String Global) → Type 0
+IsTextIfAny rows name found = first_of name rows ≡ option_map string_bytes found
 
 -- set if the flag's value is `true`, and not if it is `false` or there is none
 pub record IsFlag (value : Option Text) (set : _) : Type 0 where

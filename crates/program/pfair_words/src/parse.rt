@@ -2,7 +2,7 @@
 ghost use Rattle.std.specs.Prelude.{◌≡◌, ◌⊎◌, ℕ, IfOk, MatchResult, None, Some, codes, string_bytes, true};
 ghost use Rattle.clap.specs.Walk.{one_of};
 ghost use Rattle.clap.specs.Words.{app_of, first_of, found_of, is_simple_and_free, kind_of, rows_of};
-ghost use Rattle.pfair_words.specs.Parse.{IsFlag, IsNumber, IsParsed, IsUntakenAs, texts};
+ghost use Rattle.pfair_words.specs.Parse.{IsFlag, IsNumber, IsNumberIfAny, IsParsed, IsTextIfAny, IsUntakenAs, texts};
 ghost use Rattle.pfair_file.specs.declared.program_fault.ProgramFault.TheVariants.{CommandLine, Memory};
 
 use clap::error::ErrorKind;
@@ -68,6 +68,30 @@ pub(crate) fn file_name(alloc: Global, words: &ArgMatches<'_>) -> Result<String,
     }
 }
 
+/// The word under a name, if there is one.
+///
+/// # Errors
+/// [`AllocError`] if an allocation fails.
+pub(crate) fn text_if_any(
+    alloc: Global,
+    words: &ArgMatches<'_>,
+    name: &str,
+) -> Result<Option<String>, AllocError>
+    ensures { IfOk result (IsTextIfAny (rows_of (found_of words.now)) name.now) }
+{
+    match words.get_str(name) {
+        Some(word) => Ok(Some(String::from_str(alloc, word)?)),
+        None => Ok(None),
+    }
+}
+
+/// The number under a name, if there is one.
+pub(crate) fn number_if_any(words: &ArgMatches<'_>, name: &str) -> Option<u64>
+    ensures { IsNumberIfAny (rows_of (found_of words.now)) name.now result }
+{
+    words.get_one::<u64>(name)
+}
+
 /// The number under a name.
 ///
 /// # Errors
@@ -77,7 +101,7 @@ pub(crate) fn number(words: &ArgMatches<'_>, name: &str) -> Result<u64, ProgramF
         (IsNumber (rows_of (found_of words.now)) name.now)
         (λ e. (e ≡ CommandLine) × ((n : ℕ) → ¬ IsNumber (rows_of (found_of words.now)) name.now n)) }
 {
-    words.get_one::<u64>(name).ok_or(ProgramFault::CommandLine)
+    number_if_any(words, name).ok_or(ProgramFault::CommandLine)
 }
 
 /// Whether a flag is set.

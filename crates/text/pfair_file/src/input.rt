@@ -23,7 +23,7 @@ const PIECE: usize = 8192;
 /// [`ProgramFault::FileTooLong`] only if more than [`LONGEST_FILE`] bytes came,
 /// [`ProgramFault::ReadFailed`] if the reader answered an error, at once and whatever its kind, and
 /// [`ProgramFault::Memory`] if an allocation fails.
-pub(crate) fn read_bytes<R: Read>(alloc: Global, reader: &mut R) -> Result<Vec<u8>, ProgramFault>
+pub fn read_bytes<R: Read>(alloc: Global, reader: &mut R) -> Result<Vec<u8>, ProgramFault>
     ensures short { IfOk result (λ bytes. length bytes.items ≤ 67108864) }
     ensures whole { IfOk result (λ bytes. Consumes (R.remaining reader.old) (R.remaining reader.new) bytes.items) }
     ensures end { IfOk result (λ _. IsAtEnd (R.remaining reader.new)) }

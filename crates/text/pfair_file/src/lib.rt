@@ -27,7 +27,7 @@ pub use document::read_file;
 pub use fault::FileFault;
 pub use field::Field;
 pub use given::given_words;
-pub use input::LONGEST_FILE;
+pub use input::{LONGEST_FILE, read_bytes};
 pub use line::write_line;
 pub use program_fault::ProgramFault;
 pub use schedule::{opened, read_script};

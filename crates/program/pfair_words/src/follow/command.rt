@@ -6,7 +6,7 @@ ghost use Rattle.pfair_words.specs.FollowLine as line;
 
 use super::help::{
     ABOUT, AFTER, DECISIONS_TEXTS, ENTRIES_TEXTS, FRAME_HELP, FROM_HELP, LAGS_TEXTS,
-    PROCESSORS_HELP, REPLAY_TEXTS, SLOTS_HELP, STRICT_HELP,
+    PROCESSORS_HELP, REPLAY_TEXTS, RESUME_HELP, SAVE_HELP, SLOTS_HELP, STRICT_HELP,
 };
 use crate::command::{Texts, affinity, command, file, flag, program, with};
 use clap::builder::ValueParser;
@@ -57,42 +57,55 @@ fn run<'a>(alloc: Global, name: &'a str, texts: Texts) -> Result<Command<'a>, Al
 {
     with_settings(alloc, name, texts)?
         .arg(from(alloc))?
-        .arg(flag(alloc, "strict", STRICT_HELP))
+        .arg(flag(alloc, "strict", STRICT_HELP))?
+        .arg(worded(alloc, "resume", RESUME_HELP))?
+        .arg(worded(alloc, "save", SAVE_HELP))
 }
 
 // A command over a run, with the options of its settings alone.
 fn with_settings<'a>(alloc: Global, name: &'a str, texts: Texts) -> Result<Command<'a>, AllocError>
     ensures { IfOk result (IsRead (line.with_settings (new_app name.now))) }
 {
+    let slots = numbered(alloc, "slots", "S", SLOTS_HELP, Settings::MAX_SLOTS).required(true);
     command(alloc, name, texts)
-        .arg(needed(
+        .arg(numbered(
             alloc,
             "processors",
             "M",
             PROCESSORS_HELP,
             Settings::MAX_PROCESSORS as u64,
         ))?
-        .arg(needed(alloc, "frame", "F", FRAME_HELP, Settings::MAX_FRAME))?
-        .arg(needed(alloc, "slots", "S", SLOTS_HELP, Settings::MAX_SLOTS))
+        .arg(numbered(alloc, "frame", "F", FRAME_HELP, Settings::MAX_FRAME))?
+        .arg(slots)
 }
 
-// An option with a number from 1 to `most`, which has to be there.
-fn needed<'a>(
+// An option with a number from 1 to `most`.
+fn numbered<'a>(
     alloc: Global,
     name: &'a str,
     value_name: &'a str,
     help: &'a str,
     most: u64,
 ) -> Arg<'a>
-    ensures rule { rule_of result ≡ line.needed name.now most }
+    ensures rule { rule_of result ≡ line.option name.now 1 most }
     ensures here { result.global ≡ false }
 {
     Arg::new(alloc, name)
         .long(name)
         .value_name(value_name)
         .help(help)
-        .required(true)
         .value_parser(ValueParser::Unsigned(1, most))
+}
+
+// An option with the name of a file.
+fn worded<'a>(alloc: Global, name: &'a str, help: &'a str) -> Arg<'a>
+    ensures rule { rule_of result ≡ line.worded name.now }
+    ensures here { result.global ≡ false }
+{
+    Arg::new(alloc, name)
+        .long(name)
+        .value_name("FILE")
+        .help(help)
 }
 
 // The first slot whose rows are written: 0 if it isn't given.

@@ -16,6 +16,12 @@ pub(crate) const FROM_HELP: &str = "First slot with rows; no header unless it is
 
 pub(crate) const STRICT_HELP: &str = "End with status 2 at the first refused row";
 
+pub(crate) const RESUME_HELP: &str =
+    "Begin with this file's state, and its processors and frame; no header";
+
+pub(crate) const SAVE_HELP: &str =
+    "End as soon as all slots are printed, and save the state that is left";
+
 pub(crate) const AFTER: &str = "Examples:
   pfair_follow entries examples/two_processors.toml
   pfair_follow entries examples/two_processors.toml |
@@ -29,8 +35,8 @@ A fault is one line on standard error, `pfair_follow: NUMBER TEXT`.
 Exit status, by the numbers of the faults:
   0  done: all slots are settled, and their rows are printed
   1  refused: the command line (80)
-  2  refused: the task file (60 to 66), or with --strict a row (1 to 10, 13, 14, 67)
-  3  two contents of one entry met (30), or the input ended before all slots were settled (52)
+  2  refused: a task file (60 to 66), a state (66, 68, 69), or with --strict a row (1 to 14, 67)
+  3  two contents of one entry met (30), the input ended too early (52), or no run can follow (33, 34)
   4  out of memory (90)
   5  reading or writing failed (70, 71)
 
@@ -69,17 +75,23 @@ The rows of a slot are printed as soon as it is settled, that is, as soon as all
 without a gap, to a floor above it. They are flushed before more is read.
 A refused row is reported on standard error, `pfair_follow: NUMBER TEXT: ROW`, and skipped, unless
 --strict is set. For `?`, and if the input ends too early, lines `missing PROCESSOR,NUMBER` on
-standard error name the entries that would settle more.
+standard error name the entries that would settle more. At the end of a run, lines
+`dropped PROCESSOR,NUMBER` name the entries that are stamped after its last slot.
 If two contents of one entry meet, the run ends at once (30).
 
-Restart: feed all entries again. `--from S` leaves out the rows of the slots below S."
+Restart: feed all entries of the run again. `--from S` leaves out the rows of the slots below S.
+
+Run after run: `--save FILE` writes the state that a run leaves, and `--resume FILE` begins the next
+one with it. Slots, stamps and the numbers of entries begin anew in each run. FILE has then been
+written whole, or is as it was; `--resume` and `--save` may name one file."
         )
     };
 }
 
 pub(crate) const REPLAY_TEXTS: Texts = Texts {
     about: "Reads rows of entries, and prints the schedule slot by slot as soon as it is settled",
-    usage: "pfair_follow replay --processors <M> --frame <F> --slots <S> [OPTIONS]",
+    usage: "pfair_follow replay --processors <M> --frame <F> --slots <S> [OPTIONS]
+       pfair_follow replay --resume <FILE> --slots <S> [OPTIONS]",
     after: with_rows!(
         "Columns:
   slot       the slot, from 0; a slot in which no task runs has no row
@@ -92,7 +104,8 @@ pub(crate) const REPLAY_TEXTS: Texts = Texts {
 
 pub(crate) const DECISIONS_TEXTS: Texts = Texts {
     about: "Reads rows of entries, and prints who is admitted or refused and who departs",
-    usage: "pfair_follow decisions --processors <M> --frame <F> --slots <S> [OPTIONS]",
+    usage: "pfair_follow decisions --processors <M> --frame <F> --slots <S> [OPTIONS]
+       pfair_follow decisions --resume <FILE> --slots <S> [OPTIONS]",
     after: with_rows!(
         "Columns:
   slot       the slot of the stamp, at the beginning of which it is decided
@@ -107,7 +120,8 @@ pub(crate) const DECISIONS_TEXTS: Texts = Texts {
 
 pub(crate) const LAGS_TEXTS: Texts = Texts {
     about: "Reads rows of entries, and prints how far each task is from its fluid share",
-    usage: "pfair_follow lags --processors <M> --frame <F> --slots <S> [OPTIONS]",
+    usage: "pfair_follow lags --processors <M> --frame <F> --slots <S> [OPTIONS]
+       pfair_follow lags --resume <FILE> --slots <S> [OPTIONS]",
     after: with_rows!(
         "Columns:
   time       the end of a slot: its number plus 1

@@ -1,29 +1,14 @@
--- The number that is read of a text is the one that it spells.
-use Rattle.std.proofs.Common.{rules, ◌≡◌, ◌∙◌, ℕ, refl, sym, ap, subst, Option, Some, None, MatchOption, Result, Ok, Err, is_some, true≢false}
+-- A number that isn't there is a refusal.
+use Rattle.std.proofs.Common.{◌≡◌, ℕ, refl, sym, subst, Option, Some, None, MatchOption, Result}
 use Rattle.std.specs.Prelude.{MatchResult}
 use Rattle.std.specs.Option.{ok_or}
-use Rattle.std.specs.contracts.prelude.U64FromStr.TheImpl.{ghosts}
-use Rattle.clap.specs.Matches.{ReadsOne}
-use Rattle.clap.specs.Words.{Text, found_of}
-use Rattle.clap.proofs.WalkLemmas.{one_text-rows}
 use Rattle.pfair_file.specs.declared.program_fault.ProgramFault.{ProgramFault}
 use Rattle.pfair_file.specs.declared.program_fault.ProgramFault.TheVariants.{CommandLine}
-use Rattle.pfair_words.specs.Parse.{Spells, SpellsIfAny}
 use Rattle.pfair_words.proofs.parse.number.Goals as goal
-
-read : {E : Type 0} (gives : Text → Result ℕ E → Type 0) (at : Option Text) (r : Option ℕ) → (at ≡ None → r ≡ None) → ((t : Text) → at ≡ Some t → ReadsOne gives t r)
-    → ((t : Text) (n : ℕ) → gives t (Ok n) → Spells t n) → ((t : Text) (e : E) (n : ℕ) → gives t (Err e) → ¬ Spells t n) → MatchOption r ((n : ℕ) → ¬ SpellsIfAny at n) (SpellsIfAny at)
-read gives None None absent value some none = λ n s. s
-read gives None (Some n) absent value some none = absurd (true≢false (ap is_some (absent refl)))
-read gives (Some t) None absent value some none = λ n s. let e = value t refl in none t e.0 n e.1 s
-read gives (Some t) (Some n) absent value some none = some t n (value t refl)
 
 answered : (found : Option ℕ) (r : Result ℕ ProgramFault) (P : Type 0) (Q : ℕ → Type 0) → r ≡ ok_or found CommandLine → MatchOption found P Q → MatchResult r Q (λ e. (e ≡ CommandLine) × P)
 answered None r P Q is h = subst (λ r. MatchResult r Q (λ e. (e ≡ CommandLine) × P)) (sym is) (refl, h)
 answered (Some n) r P Q is h = subst (λ r. MatchResult r Q (λ e. (e ≡ CommandLine) × P)) (sym is) h
 
 pub returns : goal.returns
-returns c =
-    let same = one_text-rows (found_of c.args.words.now) c.args.name.now in
-    answered c.get_one.result c.ok_or.result _ _ c.ok_or.ensures.value
-    (read ghosts.from_str_gives _ c.get_one.result (λ e. c.get_one.ensures.none (same ∙ e)) (λ t e. c.get_one.ensures.value t (same ∙ e)) (λ t n h. search (rules, h)) (λ t e n h s. search (rules, h, s)))
+returns c = answered c.number_if_any.result c.ok_or.result _ _ c.ok_or.ensures.value c.number_if_any.ensures
