@@ -1,5 +1,5 @@
 -- What a follower that was new comes to, by what it holds.
-use Rattle.std.proofs.Common.{ℕ, zero, suc, Bool, false, ◌≡◌, ◌≤◌, ◌<◌, refl, sym, ap, subst, ◌∙◌, arith, inl, inr, List, [], ◌∷◌, ◌++◌, length, append_assoc, Option, None, Some, Result, Ok, Err}
+use Rattle.std.proofs.Common.{ℕ, zero, suc, Bool, false, ◌≡◌, ◌≤◌, ◌<◌, refl, sym, ap, subst, ◌∙◌, arith, inl, inr, List, [], ◌∷◌, ◌++◌, length, append_assoc, append-nil, Option, None, Some, Result, Ok, Err}
 use Rattle.std.specs.List.{list_any}
 use Rattle.std.specs.Prelude.{map, min, IfErr, IsErrOf, OnOk}
 use Rattle.std.specs.Io.KnownBytes.{Appends, Consumes}
@@ -7,18 +7,16 @@ use Rattle.pfair_text.specs.Rows.{line, lines_text}
 use Rattle.pfair_replica.specs.HeldRows.{replica_of}
 use Rattle.pfair_replica.specs.Replica.{Replica, empty_replica, frontier, has_torn, numbers_below}
 use Rattle.pfair_table.specs.Events.{Course}
-use Rattle.pfair_table.specs.Refinement.{IsWholePlan}
-use Rattle.pfair_table.specs.Table.{Settings, decisions, plan}
+use Rattle.pfair_table.specs.Table.{Origin, Settings, decisions_from, plan_from}
 use Rattle.pfair_feed.specs.declared.output.Output.{Output}
-use Rattle.pfair_feed.specs.Follow.{Follow, news}
+use Rattle.pfair_feed.specs.Follow.{Follow, IsPlannedOut, news}
 use Rattle.pfair_feed.specs.RowLaws.{text_of}
-use Rattle.pfair_feed.specs.Rows.{header_of, rows_from, rows_in}
-use Rattle.pfair_feed.specs.Feeding.{AreFedBytes, AreTakenFrom, AreWelcome}
+use Rattle.pfair_feed.specs.Rows.{header_of, rows_in}
+use Rattle.pfair_feed.specs.Feeding.{AreFedBytes, AreTakenFrom, AreWelcome, IsCaughtUp}
 use Rattle.pfair_feed.specs.Laws.{WholeText}
-use Rattle.pfair_words.specs.declared.follow.Run.{Run}
 use Rattle.pfair_file.specs.declared.program_fault.ProgramFault.{ProgramFault}
-use Rattle.pfair_feed.proofs.Planned.{decided_first, planned, tables_first}
-use Rattle.pfair_follow.specs.Runs.{AreTakenAll, IsEndOf, IsFed, IsFedEndOf, IsFedShort, IsFollowed, IsFresh, IsSettled, IsSettledBelow, IsShort, IsUnread, head_from, text_from}
+use Rattle.pfair_feed.proofs.Planned.{planned, whole_start}
+use Rattle.pfair_follow.specs.Runs.{AreBrought, AreTakenAll, HasReachedLast, IsEndOf, IsFed, IsFedEndOf, IsFedShort, IsFedToLast, IsFollowed, IsFresh, IsSettled, IsSettledBelow, IsShort, IsWelcomeAll, head_from, rows_of_plan, text_from}
 
 -- one text behind another
 appends_more : (u v w : Option (List ℕ)) (a b : List ℕ) → Appends u v a → Appends v w b → Appends u w (a ++ b)
@@ -29,19 +27,28 @@ appends_more (Some xs) (Some ys) (Some zs) a b p q = q ∙ ap (λ l. l ++ b) p �
 
 -- ---- what is written
 
--- of a follower that has told nothing before the first slot whose rows it writes, and has planned all that is settled
-whole_text : WholeText → (output : Output) (slot : ℕ) (s : Settings) (f g : Follow) (bytes rest : List ℕ) (old new : Option (List ℕ)) → f.dispatch.origin ≡ None → f.output ≡ output → f.told ≡ slot → g.dispatch.settings ≡ s
-    → AreFedBytes bytes f g old new rest → head_from output slot ++ news f g ≡ text_from output slot s (replica_of g.dispatch.held)
-whole_text law output zero s f g bytes rest old new first out told set fed =
-    ap (λ (o : Output). line (header_of o) ++ news f g) (sym (fed.fed.gone_on.output_is ∙ out))
-    ∙ law bytes rest f g old new first told fed
-    ∙ (λ i. text_of ((fed.fed.gone_on.output_is ∙ out) i) (set i) (replica_of g.dispatch.held))
-whole_text law output (suc slot) s f g bytes rest old new first out told set fed =
-    let none : g.dispatch.origin ≡ None = fed.fed.gone_on.grown.origin_is ∙ first in
-    let tables = tables_first g.dispatch none fed.fed.gone_on.caught_up.whole in
-    let decided = decided_first g.dispatch none fed.fed.gone_on.caught_up.whole in
-    (λ i. lines_text (rows_in (none i) (out i) (told i) (tables i) (decided i)))
-    ∙ ap (λ (t : Settings). lines_text (rows_from output (suc slot) (plan t (replica_of g.dispatch.held)) (map (decisions t (replica_of g.dispatch.held)) (numbers_below (min (frontier (replica_of g.dispatch.held)) t.slots))))) set
+-- of a run that begins there, with all planned that is settled
+plan_rows : (o : Origin) (slot : ℕ) (f g : Follow) (bytes rest : List ℕ) (old new : Option (List ℕ)) → f.dispatch.origin ≡ o → f.told ≡ slot → AreFedBytes bytes f g old new rest
+    → news f g ≡ rows_of_plan o f.output slot f.dispatch.settings (replica_of g.dispatch.held)
+plan_rows o slot f g bytes rest old new begins told fed =
+    let whole = fed.fed.gone_on.caught_up.whole in
+    let origin : g.dispatch.origin ≡ o = fed.fed.gone_on.grown.origin_is ∙ begins in
+    let set : g.dispatch.settings ≡ f.dispatch.settings = fed.fed.gone_on.grown.settings_are in
+    (λ i. lines_text (rows_in (origin i) f.output (told i) (whole.tables_are i) (whole.decided_are i)))
+    ∙ ap (λ (b : Origin). lines_text (rows_in o f.output slot (plan_from b g.dispatch.settings (replica_of g.dispatch.held)) (map (decisions_from b g.dispatch.settings (replica_of g.dispatch.held)) (numbers_below (min (frontier (replica_of g.dispatch.held)) g.dispatch.settings.slots))))) origin
+    ∙ ap (λ (t : Settings). rows_of_plan o f.output slot t (replica_of g.dispatch.held)) set
+
+-- of a follower that has told nothing before the first slot whose rows it writes
+whole_text : WholeText → (o : Origin) (slot : ℕ) (f g : Follow) (bytes rest : List ℕ) (old new : Option (List ℕ)) → f.dispatch.origin ≡ o → f.told ≡ slot → AreFedBytes bytes f g old new rest
+    → head_from o f.output slot ++ news f g ≡ text_from o f.output slot f.dispatch.settings (replica_of g.dispatch.held)
+whole_text law None zero f g bytes rest old new begins told fed =
+    let out : g.output ≡ f.output = fed.fed.gone_on.output_is in
+    let set : g.dispatch.settings ≡ f.dispatch.settings = fed.fed.gone_on.grown.settings_are in
+    ap (λ (o : Output). line (header_of o) ++ news f g) (sym out)
+    ∙ law bytes rest f g old new begins told fed
+    ∙ (λ i. text_of (out i) (set i) (replica_of g.dispatch.held))
+whole_text law None (suc slot) f g bytes rest old new begins told fed = plan_rows None (suc slot) f g bytes rest old new begins told fed
+whole_text law (Some c) slot f g bytes rest old new begins told fed = plan_rows (Some c) slot f g bytes rest old new begins told fed
 
 -- ---- what is torn
 
@@ -52,66 +59,120 @@ none_such p fails (x ∷ xs) = rw (fails x) (none_such p fails xs)
 nothing_torn : (processors capacity : ℕ) → has_torn (empty_replica processors capacity) ≡ false
 nothing_torn processors capacity = none_such _ (λ k. none_such _ (λ n. refl) (numbers_below capacity)) (numbers_below processors)
 
--- ---- how a run ends
+-- ---- a new follower
 
-module _ (law : WholeText) (output : Output) (run : Run) (f g : Follow) (fresh : IsFresh output run f) (given left before after : Option (List ℕ)) where
-  followed : (P : Replica → Type 0) → IsFed f g given left before after → (IsWholePlan g.dispatch → g.dispatch.settings ≡ run.settings → P (replica_of g.dispatch.held)) → IsFollowed output run P given left before after
-  followed P fed p =
-      let set : g.dispatch.settings ≡ run.settings = fed.fed.fed.gone_on.grown.settings_are ∙ fresh.settings_are in
-      record {
-        bytes = fed.bytes;
-        held = replica_of g.dispatch.held;
-        consumed = fed.consumed;
-        at_end = fed.at_end;
-        brought = record {
-          lines = fed.fed.lines;
-          rest = fed.rest;
-          are_lines = fed.fed.are_lines;
-          taken = subst (λ (x : Replica). AreTakenFrom fed.fed.lines x (replica_of g.dispatch.held)) (ap (λ (c : Course). c.held) fresh.course_is) fed.fed.fed.held_is;
-        };
-        sound = fed.fed.fed.gone_on.sound (ap has_torn (ap (λ (c : Course). c.held) fresh.course_is) ∙ nothing_torn run.settings.processors 4096);
-        settled = p fed.fed.fed.gone_on.caught_up.whole set;
-        written = subst (λ (text : List ℕ). Appends before after text)
-            (whole_text law output run.from run.settings f g fed.bytes fed.rest fed.begun after (ap (λ (c : Course). c.origin) fresh.course_is) fresh.output_is fresh.told_is set fed.fed)
-            (appends_more before fed.begun after (head_from output run.from) (news f g)
-            (subst (λ (text : List ℕ). Appends before fed.begun text) (λ i. head_from (fresh.output_is i) (fresh.told_is i)) fed.head) fed.fed.fed.gone_on.written);
-      }
+module _ (f : Follow) (fresh : IsFresh f) where
+  holds_none : replica_of f.dispatch.held ≡ empty_replica f.dispatch.settings.processors 4096
+  holds_none = ap (λ (c : Course). c.held) fresh
 
-  -- if all slots are planned
-  pub all_settled : IsFed f g given left before after → g.dispatch.settings.slots ≤ length g.dispatch.tables → IsFollowed output run (IsSettled run.settings) given left before after
-  all_settled fed many = followed (IsSettled run.settings) fed (λ whole set.
-      (let as_many = planned g.dispatch whole in
-      subst (λ (s : Settings). s.slots ≤ frontier (replica_of g.dispatch.held)) set (omega (arith, as_many, many))))
+  pub caught_up : IsCaughtUp f
+  caught_up = record {
+    whole = whole_start f.dispatch.origin f.dispatch f.dispatch.settings 4096 fresh;
+    all_told = (let none : length f.dispatch.tables ≡ 0 = ap (λ (c : Course). length c.tables) fresh in omega (arith, none));
+  }
 
-  -- if some are not
-  short : (fault : ProgramFault) → IsFedShort f g given left before after fault → IsShort output run given left before after fault
-  short fault (is, few, fed) = (
-    length g.dispatch.tables,
-    is,
-    followed (IsSettledBelow run.settings (length g.dispatch.tables)) fed (λ whole set.
-        (let as_many = planned g.dispatch whole in
-        (omega (arith, as_many, few), subst (λ (s : Settings). length g.dispatch.tables < s.slots) set few))),
-  )
+  -- it has room for the logs of the settings
+  welcome_all : (bytes rest : List ℕ) → AreWelcome f.dispatch.held.processors f.dispatch.held.capacity bytes rest → AreWelcome f.dispatch.settings.processors 4096 bytes rest
+  welcome_all bytes rest welcome =
+      let processors : f.dispatch.held.processors ≡ f.dispatch.settings.processors = ap (λ (x : Replica). x.processors) holds_none in
+      let capacity : f.dispatch.held.capacity ≡ 4096 = ap (λ (x : Replica). x.capacity) holds_none in
+      subst (λ (n : ℕ). AreWelcome f.dispatch.settings.processors n bytes rest) capacity (subst (λ (n : ℕ). AreWelcome n f.dispatch.held.capacity bytes rest) processors welcome)
 
-  pub ended : (fault : ProgramFault) → IsFedEndOf f g given left before after fault → IsEndOf output run given left before after fault
-  ended fault (inl unread) = inl (subst (λ (o : Output). IsUnread o run.from given left before after fault) fresh.output_is (subst (λ (n : ℕ). IsUnread f.output n given left before after fault) fresh.told_is unread))
-  ended fault (inr (inl stopped)) = inr (inl (f, g, fresh, stopped))
-  ended fault (inr (inr end)) = inr (inr (short fault end))
+  pub taken_all : (given left : Option (List ℕ)) → IsWelcomeAll f given left → AreTakenAll f.dispatch.settings given left
+  taken_all given left (bytes, rest, consumed, welcome) = record { bytes = bytes; rest = rest; consumed = consumed; welcome = welcome_all bytes rest welcome }
 
--- ---- strict runs
+  -- ---- how a run ends
 
--- a follower that was new has room for the logs of the settings
-pub taken_all : (output : Output) (run : Run) (f : Follow) → IsFresh output run f → (given left : Option (List ℕ))
-    → (bytes : List ℕ) × (rest : List ℕ) × Consumes given left bytes × AreWelcome f.dispatch.held.processors f.dispatch.held.capacity bytes rest → AreTakenAll run.settings given left
-taken_all output run f fresh given left (bytes, rest, consumed, welcome) =
-    let processors : f.dispatch.held.processors ≡ run.settings.processors = ap (λ (c : Course). c.held.processors) fresh.course_is in
-    let capacity : f.dispatch.held.capacity ≡ 4096 = ap (λ (c : Course). c.held.capacity) fresh.course_is in
-    record {
-      bytes = bytes;
+  module _ (law : WholeText) (g : Follow) (given left before after : Option (List ℕ)) where
+    brought : (bytes rest : List ℕ) (begun : Option (List ℕ)) → AreFedBytes bytes f g begun after rest → AreBrought f.dispatch.settings bytes (replica_of g.dispatch.held)
+    brought bytes rest begun fed = record {
+      lines = fed.lines;
       rest = rest;
-      consumed = consumed;
-      welcome = subst (λ (n : ℕ). AreWelcome run.settings.processors n bytes rest) capacity (subst (λ (n : ℕ). AreWelcome n f.dispatch.held.capacity bytes rest) processors welcome);
+      are_lines = fed.are_lines;
+      taken = subst (λ (x : Replica). AreTakenFrom fed.lines x (replica_of g.dispatch.held)) holds_none fed.fed.held_is;
     }
+
+    sound : (bytes rest : List ℕ) (begun : Option (List ℕ)) → AreFedBytes bytes f g begun after rest → has_torn (replica_of g.dispatch.held) ≡ false
+    sound bytes rest begun fed = fed.fed.gone_on.sound (ap has_torn holds_none ∙ nothing_torn f.dispatch.settings.processors 4096)
+
+    written : (bytes rest : List ℕ) (begun : Option (List ℕ)) → Appends before begun (head_from f.dispatch.origin f.output f.told) → AreFedBytes bytes f g begun after rest
+        → Appends before after (text_from f.dispatch.origin f.output f.told f.dispatch.settings (replica_of g.dispatch.held))
+    written bytes rest begun head fed =
+        subst (λ (text : List ℕ). Appends before after text) (whole_text law f.dispatch.origin f.told f g bytes rest begun after refl refl fed)
+        (appends_more before begun after (head_from f.dispatch.origin f.output f.told) (news f g) head fed.fed.gone_on.written)
+
+    settled : (bytes rest : List ℕ) (begun : Option (List ℕ)) → AreFedBytes bytes f g begun after rest → IsPlannedOut g → IsSettled f.dispatch.settings (replica_of g.dispatch.held)
+    settled bytes rest begun fed many =
+        let as_many = planned g.dispatch fed.fed.gone_on.caught_up.whole in
+        subst (λ (s : Settings). s.slots ≤ frontier (replica_of g.dispatch.held)) fed.fed.gone_on.grown.settings_are (omega (arith, as_many, many))
+
+    settled_below : (bytes rest : List ℕ) (begun : Option (List ℕ)) → AreFedBytes bytes f g begun after rest → length g.dispatch.tables < g.dispatch.settings.slots
+        → IsSettledBelow f.dispatch.settings (length g.dispatch.tables) (replica_of g.dispatch.held)
+    settled_below bytes rest begun fed few =
+        let as_many = planned g.dispatch fed.fed.gone_on.caught_up.whole in
+        (omega (arith, as_many, few), subst (λ (s : Settings). length g.dispatch.tables < s.slots) fed.fed.gone_on.grown.settings_are few)
+
+    followed : (P : Replica → Type 0) → IsFed f g given left before after → P (replica_of g.dispatch.held) → IsFollowed f P given left before after
+    followed P fed p = record {
+      bytes = fed.bytes;
+      held = replica_of g.dispatch.held;
+      consumed = fed.consumed;
+      at_end = fed.at_end;
+      brought = brought fed.bytes fed.rest fed.begun fed.fed;
+      sound = sound fed.bytes fed.rest fed.begun fed.fed;
+      settled = p;
+      written = written fed.bytes fed.rest fed.begun fed.head fed.fed;
+    }
+
+    -- if all slots are planned
+    pub all_settled : IsFed f g given left before after → IsPlannedOut g → IsFollowed f (IsSettled f.dispatch.settings) given left before after
+    all_settled fed many = followed (IsSettled f.dispatch.settings) fed (settled fed.bytes fed.rest fed.begun fed.fed many)
+
+    -- if some are not
+    short : (fault : ProgramFault) → IsFedShort f g given left before after fault → IsShort f given left before after fault
+    short fault (is, few, fed) = (length g.dispatch.tables, is, followed (IsSettledBelow f.dispatch.settings (length g.dispatch.tables)) fed (settled_below fed.bytes fed.rest fed.begun fed.fed few))
+
+    pub ended : (fault : ProgramFault) → IsFedEndOf f g given left before after fault → IsEndOf f given left before after fault
+    ended fault (inl unread) = inl unread
+    ended fault (inr (inl stopped)) = inr (inl (g, stopped))
+    ended fault (inr (inr end)) = inr (inr (short fault end))
+
+    -- a run that was followed as far as its last slot
+    pub reached_last : (is_strict : Bool) (P : Replica → Type 0) → IsFedToLast is_strict f g given left before after → IsPlannedOut g → P (replica_of g.dispatch.held)
+        → HasReachedLast f is_strict P given left before after
+    reached_last is_strict P to_last many p =
+        let fed = to_last.fed in
+        record {
+          bytes = fed.bytes;
+          more = fed.more;
+          rest = fed.rest;
+          held = replica_of g.dispatch.held;
+          consumed = fed.read;
+          brought = brought fed.bytes fed.rest to_last.begun fed.fed;
+          sound = sound fed.bytes fed.rest to_last.begun fed.fed;
+          settled = settled fed.bytes fed.rest to_last.begun fed.fed many;
+          welcome = λ is. welcome_all fed.bytes fed.rest (fed.welcome is);
+          written = written fed.bytes fed.rest to_last.begun to_last.head fed.fed;
+          holds = p;
+        }
+
+-- a run that was not planned to its last slot was fed to the reader's end
+pub fed_short : (is_strict : Bool) (f g : Follow) (given left before after : Option (List ℕ)) → IsFedToLast is_strict f g given left before after
+    → length g.dispatch.tables < g.dispatch.settings.slots → IsFed f g given left before after
+fed_short is_strict f g given left before after to_last few =
+    let fed = to_last.fed in
+    elim fed.end [
+      | inl end ↦ record {
+        bytes = fed.bytes;
+        rest = fed.rest;
+        begun = to_last.begun;
+        head = to_last.head;
+        consumed = subst (λ (all : List ℕ). Consumes given left all) (ap (λ (m : List ℕ). fed.bytes ++ m) end.1 ∙ append-nil fed.bytes) fed.read;
+        at_end = end.0;
+        fed = fed.fed;
+      }
+      | inr out ↦ absurd (omega (arith, few, out.1))
+    ]
 
 -- ---- answers
 

@@ -1,2 +1,3 @@
 mod Ends
 mod Scripts
+mod States

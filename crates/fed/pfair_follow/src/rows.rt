@@ -1,75 +1,94 @@
 //! The commands `replay`, `decisions` and `lags`: rows of a run that is fed by a reader.
-ghost use Rattle.std.specs.Prelude.{ℕ, List, true, false, ◌≡◌, ◌≢◌, ◌⊎◌, ◌<◌, ◌≤◌, IfErr, IsErrOf, OnOk, length};
-ghost use Rattle.std.specs.Io.KnownBytes.{Appends, Consumes, Keeps};
+ghost use Rattle.std.specs.Prelude.{ℕ, true, false, ◌≡◌, ◌≢◌, ◌⊎◌, ◌<◌, ◌≤◌, IfErr, IfOk, IsErrOf, OnOk, length};
+ghost use Rattle.std.specs.Io.KnownBytes.{Appends, Keeps};
 ghost use Rattle.pfair_text.specs.Output.{TakesPrefix};
-ghost use Rattle.pfair_feed.specs.Feeding.{AreWelcome, IsCaughtUp};
+ghost use Rattle.pfair_feed.specs.Feeding.{IsCaughtUp};
 ghost use Rattle.pfair_file.specs.ProgramFaults.{is_refusal};
 ghost use Rattle.pfair_file.specs.declared.program_fault.ProgramFault.TheVariants.{Memory, Stalled, WriteFailed};
-ghost use Rattle.pfair_follow.specs.Runs.{AreTakenAll, IsEndOf, IsFed, IsFedEndOf, IsFollowed, IsSettled, head_from};
+ghost use Rattle.pfair_follow.specs.Faults.{is_refused};
+ghost use Rattle.pfair_follow.specs.Runs.{AreTakenAll, IsEndOf, IsFollowed, IsFresh, IsSettled, head_from};
+ghost use Rattle.pfair_follow.specs.Runs.{IsFed, IsFedEndOf, IsFedToLast, IsWelcomeAll};
 ghost use Rattle.pfair_follow.specs.Scripts.{IsScriptStalled, IsScriptWritten, OfItsScript};
+ghost use Rattle.pfair_follow.specs.States.{HasLeft, IsEndOfLeaving};
 
+use crate::fault::FollowFault;
+use crate::state::left_text;
 use pfair_feed::laws::{entries_give_their_schedule, lines_are_one, text_is_whole};
-use pfair_feed::{Follower, Output, follow, tell_dropped, tell_missing};
+use pfair_feed::{Follower, follow, follow_to_last_slot, tell_dropped, tell_missing};
 use pfair_file::ProgramFault;
-use pfair_ready::{HeapReady, Ready};
-use pfair_table::Script;
-use pfair_words::follow::Run;
+use pfair_ready::Ready;
 use std::alloc::Global;
 use std::io::{Read, Write};
 
-// How many entries of one log are taken: those of a task file, with the one that closes the log.
-const LOG: u32 = Script::LONGEST_LOG as u32;
-
 /// Reads rows of entries to the reader's end, and writes the rows of each slot as soon as the entries
-/// settle the slot, flushed before more is read; before them the header, if `run.from` is 0.
+/// settle the slot, flushed before more is read; before them the header, if the run is a first one and
+/// no slot is left out.
 ///
-/// What is written is what `pfair` writes of a task file with the same entries, from slot `run.from`
-/// on, in whatever order their rows come and however often each. A refused row is reported in a line
-/// to `complaints`, and is skipped unless `run.is_strict`; the line `?` asks for the keys of the
-/// entries that would settle more. The cost is that of [`follow`](pfair_feed::follow).
+/// Of a first run that is what `pfair` writes of a task file with the same entries, from the
+/// follower's slot on, in whatever order their rows come and however often each. A refused row is
+/// reported in a line to `complaints`, and is skipped unless `is_strict`; the line `?` asks for the
+/// keys of the entries that would settle more. The cost is that of [`follow`].
 ///
 /// # Errors
 /// [`ProgramFault::Stalled`] with the first slot that isn't settled, if the input ends before all
 /// are: the rows of those before it are written, and `complaints` has the keys. Else the fault at
-/// which [`follow`](pfair_feed::follow) stopped, or that of the header. The writer has then the rows
-/// of what was read before, and after [`ProgramFault::WriteFailed`] a prefix of those of the last
-/// row.
-pub fn follow_rows<I: Read, W: Write, E: Write>(
+/// which [`follow`] stopped, or that of the header. The writer has then the rows of what was read
+/// before, and after [`ProgramFault::WriteFailed`] a prefix of those of the last row.
+pub fn follow_rows<R: Ready, I: Read, W: Write, E: Write>(
     alloc: Global,
-    output: Output,
-    run: &Run,
+    follower: &mut Follower<R>,
     reader: &mut I,
     writer: &mut W,
     complaints: &mut E,
+    is_strict: bool,
 ) -> Result<(), ProgramFault>
-    ensures settled { OnOk result (IsFollowed output run.now (IsSettled run.now.settings) (I.remaining reader.old) (I.remaining reader.new) (W.contents writer.old) (W.contents writer.new)) }
-    ensures script { OnOk result (OfItsScript run.now (I.remaining reader.old) (λ script. IsScriptWritten output run.now script (W.contents writer.old) (W.contents writer.new))) }
-    ensures stalled { (slot : ℕ) → IsErrOf result (Stalled slot) → OfItsScript run.now (I.remaining reader.old)
-        (λ script. IsScriptStalled output run.now slot script (W.contents writer.old) (W.contents writer.new)) }
-    ensures strict { OnOk result (run.now.is_strict ≡ true → AreTakenAll run.now.settings (I.remaining reader.old) (I.remaining reader.new)) }
-    ensures lenient { IfErr result (λ e. run.now.is_strict ≡ false → is_refusal e ≡ false) }
-    ensures ended { IfErr result (IsEndOf output run.now (I.remaining reader.old) (I.remaining reader.new) (W.contents writer.old) (W.contents writer.new)) }
+    requires { IsFresh follower.old }
+    ensures settled { OnOk result (IsFollowed follower.old (IsSettled follower.old.dispatch.settings)
+        (I.remaining reader.old) (I.remaining reader.new) (W.contents writer.old) (W.contents writer.new)) }
+    ensures script { OnOk result (OfItsScript follower.old (I.remaining reader.old)
+        (λ script. IsScriptWritten follower.old script (W.contents writer.old) (W.contents writer.new))) }
+    ensures stalled { (slot : ℕ) → IsErrOf result (Stalled slot) → OfItsScript follower.old (I.remaining reader.old)
+        (λ script. IsScriptStalled follower.old slot script (W.contents writer.old) (W.contents writer.new)) }
+    ensures strict { OnOk result (is_strict ≡ true → AreTakenAll follower.old.dispatch.settings (I.remaining reader.old) (I.remaining reader.new)) }
+    ensures lenient { IfErr result (λ e. is_strict ≡ false → is_refusal e ≡ false) }
+    ensures ended { IfErr result (IsEndOf follower.old
+        (I.remaining reader.old) (I.remaining reader.new) (W.contents writer.old) (W.contents writer.new)) }
 {
     // what a follower has written from the first slot on is what is written at once, of a script too
     text_is_whole();
     entries_give_their_schedule();
     lines_are_one();
-    prove!(run.settings.processors() >= 1);
-    let mut follower: Follower<HeapReady> = Follower::new(
-        alloc,
-        run.settings,
-        LOG,
-        output,
-        run.from,
-    )?;
-    feed_all(
-        alloc,
-        &mut follower,
-        reader,
-        writer,
-        complaints,
-        run.is_strict,
-    )
+    feed_all(alloc, follower, reader, writer, complaints, is_strict)
+}
+
+/// Reads rows of entries as [`follow_rows`] does, but only until all slots of the run are settled, and
+/// returns the text of the state that the run leaves.
+///
+/// What is read behind the row that settles the last slot is lost. The cost is that of
+/// [`follow_to_last_slot`], and of a next run.
+///
+/// # Errors
+/// Those of [`follow_rows`]; and once all rows are written [`NextRunFault`](pfair_table::NextRunFault)
+/// if no run can follow, and [`ProgramFault::Memory`] if an allocation fails.
+pub fn follow_and_leave<R: Ready, I: Read, W: Write, E: Write>(
+    alloc: Global,
+    follower: &mut Follower<R>,
+    reader: &mut I,
+    writer: &mut W,
+    complaints: &mut E,
+    is_strict: bool,
+) -> Result<Vec<u8>, FollowFault>
+    requires { IsFresh follower.old }
+    ensures left { IfOk result (λ text. HasLeft follower.old is_strict
+        (I.remaining reader.old) (I.remaining reader.new) (W.contents writer.old) (W.contents writer.new) text.items) }
+    ensures lenient { IfErr result (λ e. is_strict ≡ false → is_refused e ≡ false) }
+    ensures ended { IfErr result (IsEndOfLeaving follower.old is_strict
+        (I.remaining reader.old) (I.remaining reader.new) (W.contents writer.old) (W.contents writer.new)) }
+{
+    // what a follower has written from the first slot on is what is written at once
+    text_is_whole();
+    feed_to_last(alloc, follower, reader, writer, complaints, is_strict)?;
+    left_text(alloc, follower.dispatcher())
 }
 
 // Feeds a follower that is new with all that a reader has.
@@ -82,26 +101,51 @@ fn feed_all<R: Ready, I: Read, W: Write, E: Write>(
     is_strict: bool,
 ) -> Result<(), ProgramFault>
     requires { IsCaughtUp follower.old }
-    ensures fed { OnOk result (IsFed follower.old follower.new (I.remaining reader.old) (I.remaining reader.new) (W.contents writer.old) (W.contents writer.new)) }
+    ensures fed { OnOk result (IsFed follower.old follower.new
+        (I.remaining reader.old) (I.remaining reader.new) (W.contents writer.old) (W.contents writer.new)) }
     ensures settled { OnOk result (follower.new.dispatch.settings.slots ≤ length follower.new.dispatch.tables) }
-    ensures strict { OnOk result (is_strict ≡ true → (bytes rest : List ℕ) × Consumes (I.remaining reader.old) (I.remaining reader.new) bytes
-        × AreWelcome follower.old.dispatch.held.processors follower.old.dispatch.held.capacity bytes rest) }
+    ensures strict { OnOk result (is_strict ≡ true → IsWelcomeAll follower.old (I.remaining reader.old) (I.remaining reader.new)) }
     ensures lenient { IfErr result (λ e. is_strict ≡ false → is_refusal e ≡ false) }
-    ensures ended { IfErr result (IsFedEndOf follower.old follower.new (I.remaining reader.old) (I.remaining reader.new) (W.contents writer.old) (W.contents writer.new)) }
+    ensures ended { IfErr result (IsFedEndOf follower.old follower.new
+        (I.remaining reader.old) (I.remaining reader.new) (W.contents writer.old) (W.contents writer.new)) }
 {
     begin(follower, writer)?;
     follow(alloc, follower, reader, writer, complaints, is_strict)?;
     end(follower, complaints)
 }
 
-// Writes the header, unless rows are left out.
+// Feeds a follower that is new until all slots are planned.
+fn feed_to_last<R: Ready, I: Read, W: Write, E: Write>(
+    alloc: Global,
+    follower: &mut Follower<R>,
+    reader: &mut I,
+    writer: &mut W,
+    complaints: &mut E,
+    is_strict: bool,
+) -> Result<(), ProgramFault>
+    requires { IsCaughtUp follower.old }
+    ensures fed { OnOk result (IsFedToLast is_strict follower.old follower.new
+        (I.remaining reader.old) (I.remaining reader.new) (W.contents writer.old) (W.contents writer.new)) }
+    ensures settled { OnOk result (follower.new.dispatch.settings.slots ≤ length follower.new.dispatch.tables) }
+    ensures lenient { IfErr result (λ e. is_strict ≡ false → is_refusal e ≡ false) }
+    ensures ended { IfErr result (IsFedEndOf follower.old follower.new
+        (I.remaining reader.old) (I.remaining reader.new) (W.contents writer.old) (W.contents writer.new)) }
+{
+    begin(follower, writer)?;
+    follow_to_last_slot(alloc, follower, reader, writer, complaints, is_strict)?;
+    end(follower, complaints)
+}
+
+// Writes the header, unless the run is a later one or rows are left out.
 fn begin<R: Ready, W: Write>(follower: &Follower<R>, writer: &mut W) -> Result<(), ProgramFault>
-    ensures written { OnOk result (Appends (W.contents writer.old) (W.contents writer.new) (head_from follower.now.output follower.now.told)) }
-    ensures cut { IsErrOf result WriteFailed → TakesPrefix (W.contents writer.old) (W.contents writer.new) (head_from follower.now.output follower.now.told) }
+    ensures written { OnOk result (Appends (W.contents writer.old) (W.contents writer.new)
+        (head_from follower.now.dispatch.origin follower.now.output follower.now.told)) }
+    ensures cut { IsErrOf result WriteFailed → TakesPrefix (W.contents writer.old) (W.contents writer.new)
+        (head_from follower.now.dispatch.origin follower.now.output follower.now.told) }
     ensures nothing { IfErr result (λ e. e ≢ WriteFailed → Keeps (W.contents writer.old) (W.contents writer.new)) }
     ensures cause { IfErr result (λ e. (e ≡ WriteFailed) ⊎ (e ≡ Memory)) }
 {
-    if follower.told() == 0 {
+    if follower.dispatcher().state().is_none() && follower.told() == 0 {
         follower.write_header(writer)
     } else {
         Ok(())
