@@ -5,8 +5,10 @@ import re
 
 FILE = ("FILE",)
 SETTINGS = {"--processors": (1, 64), "--frame": (1, 10**9), "--slots": (1, 10**6)}
-RUN = {**SETTINGS, "--from": (0, 10**6), "--strict": None}
-# of each command its words, and its flags: None, or the least and the greatest number behind one
+# what stands behind a flag that names a file
+A_FILE = "file"
+RUN = {**SETTINGS, "--from": (0, 10**6), "--strict": None, "--resume": A_FILE, "--save": A_FILE}
+# of each command its words, and its flags: None, A_FILE, or the least and the greatest number behind one
 COMMANDS = {
     "pfair": {
         "windows": (("E", "P", "COUNT"), {}),
@@ -74,7 +76,7 @@ class Line:
     def __init__(self, name, command, words):
         self.name, self.command, self.why = name, command, ""
         self.wanted, self.flags = COMMANDS[name][command]
-        self.given, self.numbers, self.asks_help = [], {}, False
+        self.given, self.values, self.asks_help = [], {}, False
         rest = list(words)
         while rest and not self.why and not self.asks_help:
             word = rest.pop(0)
@@ -105,18 +107,23 @@ class Line:
         key, equals, value = word.partition("=")
         if key not in self.flags:
             self.why = self.unknown(key)
-        elif key in self.numbers:
+        elif key in self.values:
             self.why = f"{key} stands twice"
         elif self.flags[key] is None:
-            self.numbers[key] = None
+            self.values[key] = None
             self.why = f"{key} has no value" if equals else ""
+        elif self.flags[key] == A_FILE:
+            if not equals and (not rest or re.match("-.", rest[0])):
+                self.why = f"a file is missing behind {key}"
+            else:
+                self.values[key] = value if equals else rest.pop(0)
         elif not equals and not rest:
             self.why = f"a number is missing behind {key}"
         else:
-            self.numbers[key] = value if equals else rest.pop(0)
+            self.values[key] = value if equals else rest.pop(0)
             least, most = self.flags[key]
-            if not (is_number(self.numbers[key]) and least <= int(self.numbers[key]) <= most):
-                self.why = f"{key} is a number from {least} to {most}, and not '{self.numbers[key]}'"
+            if not (is_number(self.values[key]) and least <= int(self.values[key]) <= most):
+                self.why = f"{key} is a number from {least} to {most}, and not '{self.values[key]}'"
 
     def unknown(self, key):
         if self.command == "windows" and re.fullmatch(r"-[0-9]+", key):
@@ -133,7 +140,8 @@ class Line:
 
     def missing(self):
         """Which word or flag is missing, or nothing."""
-        lacks = [f"{flag} NUMBER" for flag in SETTINGS if flag in self.flags and flag not in self.numbers]
+        needed = ("--slots",) if "--resume" in self.values else SETTINGS
+        lacks = [f"{flag} NUMBER" for flag in needed if flag in self.flags and flag not in self.values]
         if lacks:
             return f"{listed(lacks)} {'is' if len(lacks) == 1 else 'are'} missing"
         if len(self.given) < len(self.wanted):
@@ -178,3 +186,25 @@ def file_of(name, words):
         return None
     line = Line(name, words[0], words[1:])
     return None if line.asks_help or line.why else line.given[0]
+
+
+def state_of(name, words):
+    """The file of the state with which a run of these words begins, or None, of words that are taken."""
+    if name != "pfair_follow" or not words or words[0] not in COMMANDS[name]:
+        return None
+    line = Line(name, words[0], words[1:])
+    return None if line.asks_help or line.why else line.values.get("--resume")
+
+
+def other_state(name, words):
+    """Why the state of these words isn't the one that they ask for (80), or nothing, of words that are taken."""
+    path = state_of(name, words)
+    if path is None or not os.path.isfile(path):
+        return ""
+    with open(path, "rb") as file:
+        fields = file.readline(100).decode("ascii", "replace").strip().split(",")
+    values = Line(name, words[0], words[1:]).values
+    for flag, found in zip(("--processors", "--frame"), fields[3:5]):
+        if flag in values and is_number(found) and int(values[flag]) != int(found):
+            return f"{flag} is {int(values[flag])}, and {found} in the state of {path}: --resume needs no {flag}"
+    return ""
