@@ -29,6 +29,11 @@ _CAUSES |= {5: ": rows are missing", **{number: f": {text}" for number, text in 
 class Dispatcher:
     """Takes entries of the processors' logs, in any order, and plans the slots that they settle.
 
+    Each processor has a log of entries, numbered from 1. An entry has a floor, below which neither it nor a later one
+    is stamped, and at most one announcement. A slot is settled once the entries of each log have come, without a gap,
+    up to a floor above it. A number of a log is torn if two different entries came under it: nothing more is planned
+    then. A dispatcher is spent if an allocation failed in a plan, until `reopen`.
+
     Parameters
     ----------
     processors : int
