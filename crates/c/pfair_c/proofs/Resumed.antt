@@ -2,6 +2,7 @@
 use Rattle.std.proofs.Common.{ℕ, ◌≡◌, ◌≤◌, ◌<◌, ◌⊎◌, length, ◌∙◌, inl, inr, true, false, Bool, List, Some, None, ap, arith, sym, subst, refl}
 use Rattle.std.specs.Prelude.{Result, Ok, Err}
 use Rattle.std.specs.declared.alloc.AllocError.{AllocError}
+use Rattle.pfair_state.specs.Reading.{IsWritable}
 use Rattle.pfair_state.specs.Rows.{state_text}
 use Rattle.pfair_table.specs.declared.answer.NextRunFault.{NextRunFault}
 use Rattle.pfair_table.specs.declared.answer.NextRunFault.TheVariants.{Torn, Spent, Unfinished, PastLastSlot, CannotCarry, Memory}
@@ -80,13 +81,26 @@ module _ (bytes : List ℕ) (slots capacity : ℕ) (row : PfairStateFault) where
       untold = untold;
     }
 
-    -- it is no state's
-    pub not_read : (kept : Kept) (f : ReadFault) → is_kept kept ≡ false → (f ≡ fault.Memory → ⊥) → IsResumeAnswer bytes slots capacity kept kept (read_fault_number f) row (state_fault_row f)
-    not_read kept (fault.NoRow line) closed other =
-        begun_by kept kept 68 (state_fault_row (fault.NoRow line)) closed (record { resumed = λ e. absurd (omega (arith, e)); late = λ e. absurd (omega (arith, e)); refused = λ d l m. (fault.NoRow line, refl, refl) }) (λ n. refl) (λ n. absurd (n (inl refl)))
-    not_read kept (fault.Refused line why) closed other =
-        begun_by kept kept 69 (state_fault_row (fault.Refused line why)) closed (record { resumed = λ e. absurd (omega (arith, e)); late = λ e. absurd (omega (arith, e)); refused = λ d l m. (fault.Refused line why, refl, refl) }) (λ n. refl) (λ n. absurd (n (inr refl)))
-    not_read kept fault.Memory closed other = absurd (other refl)
+    -- it is no state's: of a state's, only an allocation fails
+    pub not_read : (kept : Kept) (f : ReadFault) → is_kept kept ≡ false → (f ≡ fault.Memory → ⊥) → ((c : Carried) → IsWritable c → bytes ≡ state_text c → f ≡ fault.Memory)
+        → IsResumeAnswer bytes slots capacity kept kept (read_fault_number f) row (state_fault_row f)
+    not_read kept (fault.NoRow line) closed other back =
+        begun_by kept kept 68 (state_fault_row (fault.NoRow line)) closed
+        (record {
+          resumed = λ e. absurd (omega (arith, e));
+          late = λ e. absurd (omega (arith, e));
+          refused = λ d l m. (fault.NoRow line, refl, refl, λ c can text. other (back c can text));
+        })
+        (λ n. refl) (λ n. absurd (n (inl refl)))
+    not_read kept (fault.Refused line why) closed other back =
+        begun_by kept kept 69 (state_fault_row (fault.Refused line why)) closed
+        (record {
+          resumed = λ e. absurd (omega (arith, e));
+          late = λ e. absurd (omega (arith, e));
+          refused = λ d l m. (fault.Refused line why, refl, refl, λ c can text. other (back c can text));
+        })
+        (λ n. refl) (λ n. absurd (n (inr refl)))
+    not_read kept fault.Memory closed other back = absurd (other refl)
 
     -- an allocation failed
     pub out_of_memory : (kept : Kept) → is_kept kept ≡ false → IsResumeAnswer bytes slots capacity kept kept MEMORY row row
@@ -111,11 +125,12 @@ module _ (bytes : List ℕ) (slots capacity : ℕ) (row : PfairStateFault) where
         (λ n. (only n).1 ∙ sym none) (λ n. refl)
 
     -- the run would end too late, or an allocation failed
-    pub not_resumed : (kept : Kept) (c : Carried) (f : NextRunFault) → is_kept kept ≡ false → bytes ≡ state_text c → IsResumeFault c slots f → IsResumeAnswer bytes slots capacity kept kept (next_run_fault_number f) row row
-    not_resumed kept c (Torn processor number) closed text fault = absurd fault
-    not_resumed kept c Spent closed text fault = absurd fault
-    not_resumed kept c Unfinished closed text fault = absurd fault
-    not_resumed kept c PastLastSlot closed text fault =
-        begun_by kept kept 33 row closed (record { resumed = λ e. absurd (omega (arith, e)); late = λ e. (c, text, fault); refused = λ d l m. absurd (l refl) }) (λ n. refl) (λ n. refl)
-    not_resumed kept c (CannotCarry name) closed text fault = absurd fault
-    not_resumed kept c Memory closed text fault = out_of_memory kept closed
+    pub not_resumed : (kept : Kept) (c : Carried) (f : NextRunFault) → is_kept kept ≡ false → IsWritable c → bytes ≡ state_text c → IsResumeFault c slots f
+        → IsResumeAnswer bytes slots capacity kept kept (next_run_fault_number f) row row
+    not_resumed kept c (Torn processor number) closed can text fault = absurd fault
+    not_resumed kept c Spent closed can text fault = absurd fault
+    not_resumed kept c Unfinished closed can text fault = absurd fault
+    not_resumed kept c PastLastSlot closed can text fault =
+        begun_by kept kept 33 row closed (record { resumed = λ e. absurd (omega (arith, e)); late = λ e. (c, can, text, fault); refused = λ d l m. absurd (l refl) }) (λ n. refl) (λ n. refl)
+    not_resumed kept c (CannotCarry name) closed can text fault = absurd fault
+    not_resumed kept c Memory closed can text fault = out_of_memory kept closed

@@ -1,5 +1,6 @@
 -- The state in which a run began, as C has it, and a run that begins with one.
 use Rattle.std.specs.Prelude.{ℕ, ◌≡◌, ◌+◌, ◌≤◌, ◌<◌, ◌⊎◌, true, false, List, length, Some, None}
+use Rattle.pfair_state.specs.Reading.{IsWritable}
 use Rattle.pfair_state.specs.Rows.{state_text}
 use Rattle.pfair_state.specs.Faults.{read_fault_number}
 use Rattle.pfair_state.specs.declared.fault.ReadFault.{ReadFault}
@@ -30,9 +31,10 @@ state_at s (Some c) = c
 abbrev pub began : Dispatch → Carried
 began d = state_at d.settings d.origin
 
--- the bytes are given; or an allocation failed
+-- the bytes are given, of a state that is read back; or an allocation failed
 pub record AreBytesTold (d : Dispatch) (answer : ℕ) (old new : ℕ × List ℕ) : Type 0 where
   pub told : (answer ≡ MEMORY → ⊥) → AreTold rows_count (λ e. Some (state_text (began e))) d answer old new
+  pub readable : (answer ≡ MEMORY → ⊥) → IsWritable (began d)
   pub memory : answer ≡ MEMORY → new ≡ old
 
 -- ---- a run that begins with a text
@@ -58,17 +60,23 @@ IsRunnable slots capacity = (1 ≤ slots) × (slots ≤ MAX_SLOTS) × (1 ≤ cap
 -- the bytes are the text of a state, and d is a new dispatcher of a run that begins with it
 pub record IsResumedFrom (bytes : List ℕ) (slots capacity : ℕ) (d : Dispatch) : Type 0 where
   pub state : Carried
+  pub writable : IsWritable state
   pub text : bytes ≡ state_text state
   pub settings : d.settings ≡ settings_from state slots
   pub course : course_of d ≡ begin_at (Some state) (settings_from state slots) capacity
   pub whole : (d.forgotten ≡ 0) × (d.spent ≡ false)
 
+-- no state that is read back has this text
+abbrev pub IsNoStatesText : (bytes : List ℕ) → Type 0
+IsNoStatesText bytes = (c : Carried) → IsWritable c → bytes ≡ state_text c → ⊥
+
 -- what becomes of a text that isn't too long, where a run can be asked for: a run begins with it, the run would end too late, an
 -- allocation failed, or the text isn't a state's
 pub record IsBegunBy (bytes : List ℕ) (slots capacity : ℕ) (after : Kept) (answer : ℕ) (new : PfairStateFault) : Type 0 where
   pub resumed : answer ≡ DONE → Of after (IsResumedFrom bytes slots capacity)
-  pub late : answer ≡ 33 → (c : Carried) × (bytes ≡ state_text c) × (LAST_SLOT < c.slot + slots)
-  pub refused : (answer ≡ DONE → ⊥) → (answer ≡ 33 → ⊥) → (answer ≡ MEMORY → ⊥) → (f : ReadFault) × (answer ≡ read_fault_number f) × (new ≡ state_fault_row f)
+  pub late : answer ≡ 33 → (c : Carried) × IsWritable c × (bytes ≡ state_text c) × (LAST_SLOT < c.slot + slots)
+  pub refused : (answer ≡ DONE → ⊥) → (answer ≡ 33 → ⊥) → (answer ≡ MEMORY → ⊥)
+      → (f : ReadFault) × (answer ≡ read_fault_number f) × (new ≡ state_fault_row f) × IsNoStatesText bytes
 
 -- what `pfair_resume` answers
 pub record IsResumeAnswer (bytes : List ℕ) (slots capacity : ℕ) (before after : Kept) (answer : ℕ) (old new : PfairStateFault) : Type 0 where

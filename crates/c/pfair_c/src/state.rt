@@ -1,5 +1,6 @@
 //! The state in which a run began, as text.
-ghost use Rattle.std.specs.Prelude.{◌≡◌, IfOk};
+ghost use Rattle.std.specs.Prelude.{◌≡◌, IfOk, OnOk};
+ghost use Rattle.pfair_state.specs.Reading.{IsWritable};
 ghost use Rattle.pfair_state.specs.Rows.{state_text};
 ghost use Rattle.pfair_c.specs.Answered.{Reads};
 ghost use Rattle.pfair_c.specs.State.{began, AreBytesTold};
@@ -54,7 +55,8 @@ fn copy_state(
 
 // The text of the state in which the run began.
 fn began_text(alloc: Global, dispatcher: &Dispatcher<HeapReady>) -> Result<Vec<u8>, AllocError>
-    ensures { IfOk result (λ text. text.items ≡ state_text (began dispatcher.now)) }
+    ensures text { IfOk result (λ text. text.items ≡ state_text (began dispatcher.now)) }
+    ensures readable { OnOk result (IsWritable (began dispatcher.now)) }
 {
     let mut writer = new_text(alloc);
     match dispatcher.state() {
