@@ -66,12 +66,14 @@ static void open_with(struct pfair_dispatcher *d, const struct load *load, uint6
     for (uint64_t place = 0; place < load->tasks; place++) {
         char text[24];
         snprintf(text, sizeof text, "t%" PRIu64, place);
-        struct pfair_entry entry = {.kind = PFAIR_ARRIVE, .name = pfair_name_of(text), .cost = load->costs[place], .period = period_of(place)};
+        struct pfair_entry entry = {.kind = PFAIR_KIND_ARRIVE, .name = pfair_name_of(text)};
+        entry.cost = load->costs[place];
+        entry.period = period_of(place);
         say(d, place % load->processors, ++numbers[place % load->processors], &entry);
     }
     for (uint64_t at = every; at < load->slots; at += every) {
-        struct pfair_entry guest = {.kind = PFAIR_ARRIVE, .floor = at, .at = at, .name = pfair_name_of("guest"), .cost = 1, .period = 20};
-        if (at / every % 2 == 0) guest.kind = PFAIR_DEPART;
+        struct pfair_entry guest = {.floor = at, .at = at, .name = pfair_name_of("guest"), .cost = 1, .period = 20};
+        guest.kind = at / every % 2 == 0 ? PFAIR_KIND_DEPART : PFAIR_KIND_ARRIVE;
         say(d, 0, ++numbers[0], &guest);
     }
     for (uint64_t k = 0; k < load->processors; k++) {
@@ -88,7 +90,7 @@ static uint64_t now(void) {
 
 static void plan(struct pfair_dispatcher *d) {
     struct pfair_step step = {0, 0, 0, 0};
-    if (pfair_plan_next(d, &step) || step.kind != PFAIR_PLANNED) give_up("a slot isn't planned");
+    if (pfair_plan_next(d, &step) || step.kind != PFAIR_STEP_PLANNED) give_up("a slot isn't planned");
 }
 
 static void time_run(const struct load *load, uint64_t *least) {
@@ -123,7 +125,8 @@ static void count_joins(uint64_t processors, uint64_t tasks) {
         uint64_t at = place < tasks ? 0 : place - tasks + 1;
         char text[24];
         snprintf(text, sizeof text, "t%" PRIu64, place);
-        struct pfair_entry entry = {.kind = PFAIR_ARRIVE, .floor = at, .at = at, .name = pfair_name_of(text), .cost = 1, .period = FRAME};
+        struct pfair_entry entry = {.floor = at, .at = at, .name = pfair_name_of(text), .cost = 1, .period = FRAME};
+        entry.kind = PFAIR_KIND_ARRIVE;
         say(&d, place % processors, ++numbers[place % processors], &entry);
     }
     for (uint64_t k = 0; k < processors; k++) {

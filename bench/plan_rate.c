@@ -14,7 +14,8 @@ enum { PROCESSORS = 8, TASKS = 100 };
 static const uint64_t periods[10] = {12, 14, 15, 18, 20, 21, 24, 28, 30, 35};
 
 static struct pfair_entry arrival(uint64_t k) {
-    struct pfair_entry entry = {.kind = PFAIR_ARRIVE, .period = periods[k % 10], .cost = periods[k % 10] >= 20 ? 2 : 1};
+    uint64_t period = periods[k % 10];
+    struct pfair_entry entry = {.kind = PFAIR_KIND_ARRIVE, .period = period, .cost = period >= 20 ? 2 : 1};
     entry.name.length = 3;
     entry.name.bytes[0] = 't';
     entry.name.bytes[1] = (uint8_t)('0' + k / 10);
@@ -38,7 +39,7 @@ int main(int count, char **words) {
     }
     for (;;) {
         if (pfair_plan_next(&d, &step)) return 1;
-        if (step.kind != PFAIR_PLANNED) break;
+        if (step.kind != PFAIR_STEP_PLANNED) break;
         if (pfair_table(&d, step.slot, &rows, table, PROCESSORS)) return 1;
         for (uint64_t k = 0; k < rows; k++) sum += table[k].index;
         quanta += rows;

@@ -113,6 +113,9 @@
  *    (pfair_faults has two counts, pfair_windows none). If there are more than `room`, it answers 103 and writes the
  *    count, but no row. So a `room` of 0 asks for the count.
  *
+ * NAMES. The constants of enum pfair_answer are PFAIR_DONE, PFAIR_TORN and so on. Those of each other enum have a word
+ * of its name, too: PFAIR_STEP_WAITING is one of enum pfair_step_kind. Fields hold them as uint64_t.
+ *
  * TORN AND SPENT. If a dispatcher has met two different entries for one number of a log, that number is torn, for good,
  * and nothing more is planned (30). If an allocation failed in a plan, the dispatcher is spent, and plans nothing until
  * pfair_reopen (31). In both states it still takes entries, and can be read as before; only pfair_members answers 31 if
@@ -140,8 +143,8 @@
 #include <stdint.h>
 
 /* The version of this header, as text and as a number. */
-#define PFAIR_VERSION "0.5.0"
-#define PFAIR_VERSION_NUMBER 500
+#define PFAIR_VERSION "0.6.0"
+#define PFAIR_VERSION_NUMBER 600
 
 #ifdef __cplusplus
 extern "C" {
@@ -227,10 +230,10 @@ uint32_t pfair_windows(uint64_t cost, uint64_t period, uint64_t first, uint64_t 
 
 /* How a subtask is out of its window. */
 enum pfair_miss_kind {
-    PFAIR_NO_MISS = 0, /* none is */
-    PFAIR_EARLY = 1,   /* it ran before its release */
-    PFAIR_TARDY = 2,   /* it ran at its deadline or later */
-    PFAIR_UNSERVED = 3 /* its deadline is at most the horizon, and it did not run */
+    PFAIR_MISS_NONE = 0,    /* none is */
+    PFAIR_MISS_EARLY = 1,   /* it ran before its release */
+    PFAIR_MISS_TARDY = 2,   /* it ran at its deadline or later */
+    PFAIR_MISS_UNSERVED = 3 /* its deadline is at most the horizon, and it did not run */
 };
 
 /* A subtask that is out of its window, or none. */
@@ -256,8 +259,8 @@ uint32_t pfair_first_miss(uint64_t cost, uint64_t period, uint64_t horizon, stru
     const uint64_t *picks, size_t length);
 
 /*
- * Writes the first subtask that is late, PFAIR_TARDY or PFAIR_UNSERVED: a task may run ahead of its windows here, as
- * with early release. There is none exactly if the lag stays below 1. All else is as with pfair_first_miss.
+ * Writes the first subtask that is late, PFAIR_MISS_TARDY or PFAIR_MISS_UNSERVED: a task may run ahead of its windows
+ * here, as with early release. There is none exactly if the lag stays below 1. All else is as with pfair_first_miss.
  */
 uint32_t pfair_first_late(uint64_t cost, uint64_t period, uint64_t horizon, struct pfair_miss *miss, uint64_t *place,
     const uint64_t *picks, size_t length);
@@ -271,7 +274,7 @@ struct pfair_name {
 };
 
 /* What an entry announces: nothing; that a task arrives, or departs; or that subtasks are released late. */
-enum pfair_kind { PFAIR_NOTHING = 0, PFAIR_ARRIVE = 1, PFAIR_DEPART = 2, PFAIR_LATE = 3 };
+enum pfair_kind { PFAIR_KIND_NOTHING = 0, PFAIR_KIND_ARRIVE = 1, PFAIR_KIND_DEPART = 2, PFAIR_KIND_LATE = 3 };
 
 /* An entry of a log. If an entry is taken, fields that its kind doesn't need are ignored. */
 struct pfair_entry {
@@ -306,7 +309,7 @@ struct pfair_dispatcher {
 /*
  * Opens a dispatcher that has no entries and has planned nothing: for 1 to 64 processors, a frame of 1 to 1,000,000,000
  * slots, a run of 1 to 1,000,000 slots, and logs of at most `capacity` entries (1 to 4,096). Weights are counted in
- * quanta of a frame: if a period doesn't divide the frame, its arrival is refused when it is decided (21).
+ * quanta of a frame: if a period doesn't divide the frame, its arrival is refused when it is decided (outcome 21).
  *   101  the handle already has a dispatcher
  *   100  a number is out of its range
  *   90   an allocation failed
@@ -373,9 +376,9 @@ uint32_t pfair_settings(struct pfair_dispatcher *d, struct pfair_settings *setti
 
 /* What an entry met under its number. */
 enum pfair_taken {
-    PFAIR_NEW = 0,    /* nothing; the number now has the entry */
-    PFAIR_KNOWN = 1,  /* an equal entry */
-    PFAIR_TORN_NOW = 2 /* a different entry, or it was torn already; it is torn now */
+    PFAIR_TAKEN_NEW = 0,   /* nothing; the number now has the entry */
+    PFAIR_TAKEN_KNOWN = 1, /* an equal entry */
+    PFAIR_TAKEN_TORN = 2   /* a different entry, or it was torn already; it is torn now */
 };
 
 /*
@@ -394,7 +397,8 @@ enum pfair_taken {
 uint32_t pfair_take(struct pfair_dispatcher *d, uint8_t processor, uint32_t number, const struct pfair_entry *entry,
     uint64_t *taken);
 
-/* How many entries were taken: `fresh` of them as PFAIR_NEW, `known` as PFAIR_KNOWN, and `torn` as PFAIR_TORN_NOW. */
+/* How many entries were taken: `fresh` of them as PFAIR_TAKEN_NEW, `known` as PFAIR_TAKEN_KNOWN, and `torn` as
+   PFAIR_TAKEN_TORN. */
 struct pfair_taken_log {
     uint64_t taken, fresh, known, torn;
 };
@@ -498,9 +502,9 @@ static inline uint32_t pfair_below_another(struct pfair_dispatcher *d, struct pf
 
 /* How a plan ended. */
 enum pfair_step_kind {
-    PFAIR_PLANNED = 0,    /* `slot` is planned */
-    PFAIR_WAITING = 1,    /* the next slot isn't settled: it isn't below the frontier, which is `slot` */
-    PFAIR_ALL_PLANNED = 2 /* all slots of the run are planned */
+    PFAIR_STEP_PLANNED = 0,    /* `slot` is planned */
+    PFAIR_STEP_WAITING = 1,    /* the next slot isn't settled: it isn't below the frontier, which is `slot` */
+    PFAIR_STEP_ALL_PLANNED = 2 /* all slots of the run are planned */
 };
 
 /* What a plan did. After 0 all four fields are written, after 30 the last two alone, and after other answers none. */
@@ -527,7 +531,7 @@ uint32_t pfair_plan_next(struct pfair_dispatcher *d, struct pfair_step *step);
 
 /*
  * Plans until `until` slots are planned, the next one isn't settled, or all slots of the run are planned. The step is
- * PFAIR_PLANNED with slot `until` - 1, planned now or before, or says why the plans ended earlier.
+ * PFAIR_STEP_PLANNED with slot `until` - 1, planned now or before, or says why the plans ended earlier.
  *   100  `until` is 0
  *   30, 31, 90  as pfair_plan_next, if fewer than `until` slots are planned; those planned before that stay
  * Time and memory are those of the plans.
@@ -613,13 +617,25 @@ struct pfair_pick {
     uint64_t index; /* of the subtask */
 };
 
-/* A decision: what became of an announcement. */
+/* What became of an announcement. From 20 on it is refused, and changed nothing. */
+enum pfair_outcome {
+    PFAIR_OUTCOME_ADMITTED = 0,              /* of an arrival: the task is a member */
+    PFAIR_OUTCOME_DEPARTING = 1,             /* of a departure: the member is departing */
+    PFAIR_OUTCOME_DELAYED = 2,               /* of a late release: the subtasks are late */
+    PFAIR_OUTCOME_NAME_TAKEN = 20,           /* of an arrival: a member, departing or not, has the name */
+    PFAIR_OUTCOME_PERIOD_OUTSIDE_FRAME = 21, /* of an arrival: its period doesn't divide the frame */
+    PFAIR_OUTCOME_NO_ROOM = 22,              /* of an arrival: the total weight would exceed M */
+    PFAIR_OUTCOME_NO_SUCH_TASK = 23,         /* no member has the name */
+    PFAIR_OUTCOME_ALREADY_DEPARTING = 24,    /* the member is departing already */
+    PFAIR_OUTCOME_ALREADY_RELEASED = 25      /* of a late release: the subtask was released before, or has run */
+};
+
+
+/* A decision. */
 struct pfair_decided {
     struct pfair_name name;
     uint64_t processor, number; /* which entry announced it */
-    uint64_t outcome;           /* 0 admitted, 1 departing, 2 delayed, else refused:
-                                   20 name taken, 21 period outside frame, 22 no room,
-                                   23 no such task, 24 already departing, 25 already released */
+    uint64_t outcome;           /* one of enum pfair_outcome */
     uint64_t freed_at;          /* of a departure: the slot from which weight and name are free, counted over all runs;
                                    else 0 */
 };
@@ -727,7 +743,7 @@ uint32_t pfair_members(struct pfair_dispatcher *d, uint64_t *count, struct pfair
  */
 uint32_t pfair_state(struct pfair_dispatcher *d, uint64_t *length, uint8_t *bytes, size_t room);
 
-/* Why a row of a state is refused. 20 to 22 are those of an arrival, which the member would be. */
+/* Why a row of a state is refused, if not by 20 to 22 of enum pfair_outcome: that such a member can't be admitted. */
 enum pfair_state_cause {
     PFAIR_CAUSE_OTHER_FORM = 1,   /* the rows are of another form than this library's */
     PFAIR_CAUSE_OUT_OF_RANGE = 2, /* processors, frame or slot are out of their ranges */
@@ -739,7 +755,7 @@ enum pfair_state_cause {
 /* Where the text of a state is at fault. */
 struct pfair_state_fault {
     uint64_t line;  /* counted from 1 */
-    uint64_t cause; /* after 69: one of enum pfair_state_cause, or 20 to 22; else 0 */
+    uint64_t cause; /* after 69: one of enum pfair_state_cause, or 20 to 22 of enum pfair_outcome; else 0 */
 };
 
 /*

@@ -34,20 +34,20 @@ _Static_assert(AHEAD + FLOOR_EVERY + 5 + 1 <= LEAD, "messages may take 5 slots, 
 /* What is announced, in the order of the stamps. Stamps and indexes are those of one long run. A late release of a later
    run is stamped LEAD slots after that has begun, or later. */
 static const struct announcement announcements[] = {
-    {0, 0, PFAIR_ARRIVE, "control", 1, 2, 0, 0, 0},   {1, 0, PFAIR_ARRIVE, "vision", 2, 3, 0, 0, 0},
-    {0, 0, PFAIR_ARRIVE, "logger", 1, 5, 0, 0, 0},    {1, 0, PFAIR_ARRIVE, "radio", 2, 8, 1, 0, 0},
-    {0, 1, PFAIR_ARRIVE, "radio", 1, 4, 1, 0, 0},     {1, 20, PFAIR_LATE, "control", 0, 0, 0, 15, 3},
-    {0, 40, PFAIR_DEPART, "vision", 0, 0, 0, 0, 0},   {0, 50, PFAIR_ARRIVE, "vision", 3, 4, 0, 0, 0},
-    {1, 60, PFAIR_ARRIVE, "burst", 3, 10, 0, 0, 0},   {0, 62, PFAIR_ARRIVE, "extra", 1, 2, 0, 0, 0},
-    {1, 120, PFAIR_DEPART, "burst", 0, 0, 0, 0, 0},   {0, 130, PFAIR_ARRIVE, "extra", 3, 10, 1, 0, 0},
-    {0, 150, PFAIR_LATE, "vision", 0, 0, 0, 80, 2},
+    {0, 0, PFAIR_KIND_ARRIVE, "control", 1, 2, 0, 0, 0},   {1, 0, PFAIR_KIND_ARRIVE, "vision", 2, 3, 0, 0, 0},
+    {0, 0, PFAIR_KIND_ARRIVE, "logger", 1, 5, 0, 0, 0},    {1, 0, PFAIR_KIND_ARRIVE, "radio", 2, 8, 1, 0, 0},
+    {0, 1, PFAIR_KIND_ARRIVE, "radio", 1, 4, 1, 0, 0},     {1, 20, PFAIR_KIND_LATE, "control", 0, 0, 0, 15, 3},
+    {0, 40, PFAIR_KIND_DEPART, "vision", 0, 0, 0, 0, 0},   {0, 50, PFAIR_KIND_ARRIVE, "vision", 3, 4, 0, 0, 0},
+    {1, 60, PFAIR_KIND_ARRIVE, "burst", 3, 10, 0, 0, 0},   {0, 62, PFAIR_KIND_ARRIVE, "extra", 1, 2, 0, 0, 0},
+    {1, 120, PFAIR_KIND_DEPART, "burst", 0, 0, 0, 0, 0},   {0, 130, PFAIR_KIND_ARRIVE, "extra", 3, 10, 1, 0, 0},
+    {0, 150, PFAIR_KIND_LATE, "vision", 0, 0, 0, 80, 2},
     /* across the end of a run: a subtask of control is late, vision departs and is freed at 201, and logger at 400 */
-    {1, 190, PFAIR_LATE, "control", 0, 0, 0, 100, 2}, {1, 198, PFAIR_DEPART, "vision", 0, 0, 0, 0, 0},
-    {0, 200, PFAIR_ARRIVE, "vision", 1, 2, 0, 0, 0},  {0, 201, PFAIR_ARRIVE, "vision", 2, 3, 0, 0, 0},
-    {1, 250, PFAIR_LATE, "control", 0, 0, 0, 125, 1}, {1, 290, PFAIR_DEPART, "extra", 0, 0, 0, 0, 0},
-    {0, 310, PFAIR_ARRIVE, "burst", 1, 3, 1, 0, 0},   {0, 398, PFAIR_DEPART, "logger", 0, 0, 0, 0, 0},
-    {1, 400, PFAIR_ARRIVE, "logger", 1, 6, 0, 0, 0},  {0, 450, PFAIR_LATE, "vision", 0, 0, 0, 167, 3},
-    {1, 470, PFAIR_DEPART, "burst", 0, 0, 0, 0, 0},   {0, 500, PFAIR_ARRIVE, "extra", 1, 4, 0, 0, 0},
+    {1, 190, PFAIR_KIND_LATE, "control", 0, 0, 0, 100, 2}, {1, 198, PFAIR_KIND_DEPART, "vision", 0, 0, 0, 0, 0},
+    {0, 200, PFAIR_KIND_ARRIVE, "vision", 1, 2, 0, 0, 0},  {0, 201, PFAIR_KIND_ARRIVE, "vision", 2, 3, 0, 0, 0},
+    {1, 250, PFAIR_KIND_LATE, "control", 0, 0, 0, 125, 1}, {1, 290, PFAIR_KIND_DEPART, "extra", 0, 0, 0, 0, 0},
+    {0, 310, PFAIR_KIND_ARRIVE, "burst", 1, 3, 1, 0, 0},   {0, 398, PFAIR_KIND_DEPART, "logger", 0, 0, 0, 0, 0},
+    {1, 400, PFAIR_KIND_ARRIVE, "logger", 1, 6, 0, 0, 0},  {0, 450, PFAIR_KIND_LATE, "vision", 0, 0, 0, 167, 3},
+    {1, 470, PFAIR_KIND_DEPART, "burst", 0, 0, 0, 0, 0},   {0, 500, PFAIR_KIND_ARRIVE, "extra", 1, 4, 0, 0, 0},
 };
 enum { ANNOUNCEMENTS = sizeof announcements / sizeof announcements[0] };
 
@@ -104,7 +104,7 @@ static void look_at_down(struct exchange *x, uint64_t slot) {
     uint64_t count;
     must(pfair_decisions(&x->dispatcher, slot % RUN, &count, rows, ANNOUNCEMENTS + 1));
     for (uint64_t row = 0; row < count; row++)
-        if (is_down(&rows[row].name) && rows[row].outcome != 0)
+        if (is_down(&rows[row].name) && rows[row].outcome != PFAIR_OUTCOME_ADMITTED)
             stop("down isn't admitted: the tasks need all processors", slot);
 }
 

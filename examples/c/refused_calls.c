@@ -119,7 +119,7 @@ static void refused_entry(uint32_t number, struct pfair_entry entry, int line) {
 
 static void names(void) {
     static const char *const bad[] = {"A", "1a", "_a", "a-b", "a b", "aB", "a\xff", "0123456789abcdef"};
-    for (uint64_t kind = PFAIR_ARRIVE; kind <= PFAIR_LATE; kind++) {
+    for (uint64_t kind = PFAIR_KIND_ARRIVE; kind <= PFAIR_KIND_LATE; kind++) {
         struct pfair_entry entry = entry_of(kind, 6, 6, "a");
         for (size_t k = 0; k < sizeof bad / sizeof *bad; k++) REFUSED_ENTRY(PFAIR_NAME_BAD_BYTE, entry_of(kind, 6, 6, bad[k]));
         REFUSED_ENTRY(PFAIR_NAME_EMPTY, entry_of(kind, 6, 6, ""));
@@ -138,7 +138,7 @@ static void names(void) {
 }
 
 static struct pfair_entry weighing(uint64_t cost, uint64_t period, uint64_t early) {
-    struct pfair_entry entry = entry_of(PFAIR_ARRIVE, 6, 6, "a");
+    struct pfair_entry entry = entry_of(PFAIR_KIND_ARRIVE, 6, 6, "a");
     entry.cost = cost;
     entry.period = period;
     entry.early = early;
@@ -146,7 +146,7 @@ static struct pfair_entry weighing(uint64_t cost, uint64_t period, uint64_t earl
 }
 
 static struct pfair_entry delaying(uint64_t index, uint64_t by) {
-    struct pfair_entry entry = entry_of(PFAIR_LATE, 6, 6, "b");
+    struct pfair_entry entry = entry_of(PFAIR_KIND_LATE, 6, 6, "b");
     entry.index = index;
     entry.by = by;
     return entry;
@@ -163,10 +163,10 @@ static void entries(void) {
     REFUSED_ENTRY(PFAIR_COST_OVER_PERIOD, weighing(UINT64_MAX, 1000000001, 0));
     REFUSED_ENTRY(PFAIR_PERIOD_TOO_LONG, weighing(1, 1000000001, 0));
     REFUSED_ENTRY(PFAIR_PERIOD_TOO_LONG, weighing(1, UINT64_MAX, 1));
-    for (uint64_t kind = PFAIR_NOTHING; kind <= PFAIR_LATE; kind++) {
+    for (uint64_t kind = PFAIR_KIND_NOTHING; kind <= PFAIR_KIND_LATE; kind++) {
         REFUSED_ENTRY(PFAIR_SLOT_TOO_FAR, entry_of(kind, 1000001, 1000001, "a"));
         REFUSED_ENTRY(PFAIR_SLOT_TOO_FAR, entry_of(kind, UINT64_MAX, 0, "a"));
-        if (kind == PFAIR_NOTHING) continue;
+        if (kind == PFAIR_KIND_NOTHING) continue;
         REFUSED_ENTRY(PFAIR_SLOT_TOO_FAR, entry_of(kind, 6, 1000001, "a"));
         REFUSED_ENTRY(PFAIR_SLOT_TOO_FAR, entry_of(kind, 6, UINT64_MAX, "a"));
         REFUSED_ENTRY(PFAIR_STAMP_BEFORE_FLOOR, entry_of(kind, 6, 5, "a"));
@@ -182,7 +182,7 @@ static void entries(void) {
 }
 
 static void keys(void) {
-    struct pfair_entry entry = entry_of(PFAIR_NOTHING, 6, 0, "");
+    struct pfair_entry entry = entry_of(PFAIR_KIND_NOTHING, 6, 0, "");
     uint64_t taken = 77;
     REFUSED(PFAIR_NO_SUCH_PROCESSOR, pfair_take(&d, PROCESSORS, 1, &entry, &taken));
     REFUSED(PFAIR_NO_SUCH_PROCESSOR, pfair_take(&d, UINT8_MAX, 0, &entry, &taken));
@@ -251,11 +251,11 @@ static void reading(void) {
 
 /* What is torn stays torn, and what was planned stands. */
 static void tearing(void) {
-    struct pfair_entry second = entry_of(PFAIR_NOTHING, 5, 0, "");
+    struct pfair_entry second = entry_of(PFAIR_KIND_NOTHING, 5, 0, "");
     struct pfair_step step = {7, 7, 7, 7};
     uint64_t taken;
     MUST(pfair_take(&d, 1, TAKEN, &second, &taken));
-    if (taken != PFAIR_TORN_NOW) fail(__LINE__, "it isn't torn", 0);
+    if (taken != PFAIR_TAKEN_TORN) fail(__LINE__, "it isn't torn", 0);
     look(&before);
     REFUSED(PFAIR_TORN, pfair_plan_next(&d, &step));
     if (step.processor != 1 || step.number != TAKEN) fail(__LINE__, "another entry is said to be torn", 0);
@@ -266,8 +266,12 @@ static void tearing(void) {
 /* The ten entries of examples/two_processors.toml, and three slots planned. */
 static void start(void) {
     struct pfair_entry logs[PROCESSORS][TAKEN] = {
-        {entry_of(PFAIR_ARRIVE, 0, 0, "a"), entry_of(PFAIR_ARRIVE, 0, 0, "b"), entry_of(PFAIR_DEPART, 2, 2, "a"), entry_of(PFAIR_NOTHING, 4, 0, ""), entry_of(PFAIR_NOTHING, 6, 0, "")},
-        {entry_of(PFAIR_ARRIVE, 0, 0, "c"), entry_of(PFAIR_ARRIVE, 1, 3, "d"), entry_of(PFAIR_LATE, 3, 4, "b"), entry_of(PFAIR_NOTHING, 5, 0, ""), entry_of(PFAIR_NOTHING, 6, 0, "")},
+        {entry_of(PFAIR_KIND_ARRIVE, 0, 0, "a"), entry_of(PFAIR_KIND_ARRIVE, 0, 0, "b"),
+         entry_of(PFAIR_KIND_DEPART, 2, 2, "a"), entry_of(PFAIR_KIND_NOTHING, 4, 0, ""),
+         entry_of(PFAIR_KIND_NOTHING, 6, 0, "")},
+        {entry_of(PFAIR_KIND_ARRIVE, 0, 0, "c"), entry_of(PFAIR_KIND_ARRIVE, 1, 3, "d"),
+         entry_of(PFAIR_KIND_LATE, 3, 4, "b"), entry_of(PFAIR_KIND_NOTHING, 5, 0, ""),
+         entry_of(PFAIR_KIND_NOTHING, 6, 0, "")},
     };
     struct pfair_step step;
     uint64_t taken;
@@ -282,7 +286,7 @@ static void start(void) {
 }
 
 int main(void) {
-    struct pfair_entry late = entry_of(PFAIR_DEPART, 6, 6, "a");
+    struct pfair_entry late = entry_of(PFAIR_KIND_DEPART, 6, 6, "a");
     uint64_t taken = 77;
     start();
     windows();
@@ -295,7 +299,7 @@ int main(void) {
     /* none of the refused entries was taken, and fields that a kind doesn't need are ignored */
     late.early = late.cost = late.period = late.index = late.by = UINT64_MAX;
     MUST(pfair_take(&d, 0, CAPACITY, &late, &taken));
-    if (taken != PFAIR_NEW) fail(__LINE__, "a refused entry was taken", 0);
+    if (taken != PFAIR_TAKEN_NEW) fail(__LINE__, "a refused entry was taken", 0);
     tearing();
     MUST(pfair_close(&d));
     printf("refused_calls: %" PRIu64 " calls were refused as stated\n", calls);

@@ -29,24 +29,24 @@ static void must(uint32_t answer) {
 }
 
 static struct pfair_entry nothing(uint64_t floor) {
-    struct pfair_entry entry = {.floor = floor, .kind = PFAIR_NOTHING};
+    struct pfair_entry entry = {.floor = floor, .kind = PFAIR_KIND_NOTHING};
     return entry;
 }
 
 static struct pfair_entry arrive(uint64_t floor, uint64_t at, const char *name, uint64_t cost, uint64_t period) {
-    struct pfair_entry entry = {.floor = floor, .kind = PFAIR_ARRIVE, .at = at, .cost = cost, .period = period};
+    struct pfair_entry entry = {.floor = floor, .kind = PFAIR_KIND_ARRIVE, .at = at, .cost = cost, .period = period};
     entry.name = pfair_name_of(name);
     return entry;
 }
 
 static struct pfair_entry depart(uint64_t floor, uint64_t at, const char *name) {
-    struct pfair_entry entry = {.floor = floor, .kind = PFAIR_DEPART, .at = at};
+    struct pfair_entry entry = {.floor = floor, .kind = PFAIR_KIND_DEPART, .at = at};
     entry.name = pfair_name_of(name);
     return entry;
 }
 
 static struct pfair_entry late(uint64_t floor, uint64_t at, const char *name, uint64_t index, uint64_t by) {
-    struct pfair_entry entry = {.floor = floor, .kind = PFAIR_LATE, .at = at, .index = index, .by = by};
+    struct pfair_entry entry = {.floor = floor, .kind = PFAIR_KIND_LATE, .at = at, .index = index, .by = by};
     entry.name = pfair_name_of(name);
     return entry;
 }
@@ -60,16 +60,16 @@ static void take_logs(void) {
     for (uint8_t k = 0; k < PROCESSORS; k++)
         for (uint32_t number = CAPACITY; number >= 1; number--)
             for (uint64_t again = 0; again < 2; again++) {
-                uint64_t taken = PFAIR_TORN_NOW;
+                uint64_t taken = PFAIR_TAKEN_TORN;
                 must(pfair_take(&dispatchers[k], k, number, &logs[k][number - 1], &taken));
-                must(taken == (again ? PFAIR_KNOWN : PFAIR_NEW) ? PFAIR_DONE : PFAIR_TORN);
+                must(taken == (again ? PFAIR_TAKEN_KNOWN : PFAIR_TAKEN_NEW) ? PFAIR_DONE : PFAIR_TORN);
             }
 }
 
 /* Plans all that is settled. A plan that is refused memory is tried once more. */
 static void plan_all(struct pfair_dispatcher *d) {
-    struct pfair_step step = {PFAIR_PLANNED, 0, 0, 0};
-    while (step.kind == PFAIR_PLANNED) {
+    struct pfair_step step = {PFAIR_STEP_PLANNED, 0, 0, 0};
+    while (step.kind == PFAIR_STEP_PLANNED) {
         uint32_t answer = pfair_plan_next(d, &step);
         if (answer == PFAIR_MEMORY) {
             must(pfair_reopen(d));
@@ -104,7 +104,7 @@ static void write_decisions(struct pfair_dispatcher *d, uint64_t slot) {
         printf("%" PRIu64 ",%" PRIu64 ",%" PRIu64 ",", slot, rows[k].processor, rows[k].number);
         write_name(&rows[k].name);
         printf(",%s,", outcome < 3 ? outcomes[outcome] : "refused");
-        if (outcome == 1) printf("%" PRIu64 "\n", rows[k].freed_at);
+        if (outcome == PFAIR_OUTCOME_DEPARTING) printf("%" PRIu64 "\n", rows[k].freed_at);
         else if (outcome < 3) printf("-\n");
         else printf("%" PRIu64 "\n", outcome);
     }

@@ -117,7 +117,7 @@ static uint64_t whole_index(struct exchange *x, const struct pfair_pick *row) {
 static uint64_t take(struct exchange *x, unsigned from, uint32_t number, const struct pfair_entry *entry) {
     uint64_t taken;
     must(pfair_take(&x->dispatcher, (uint8_t)from, number, entry, &taken));
-    if (taken == PFAIR_TORN_NOW) stop("two entries came under one number", number);
+    if (taken == PFAIR_TAKEN_TORN) stop("two entries came under one number", number);
     return taken;
 }
 
@@ -139,11 +139,11 @@ static void raise_floor(struct exchange *x, const struct announcement *table, un
         const struct announcement *a = &table[k];
         if (a->processor % x->processors != x->number || a->at < x->floor || a->at >= floor) continue;
         struct pfair_entry entry = entry_of(a, x->floor, begin);
-        if (a->kind == PFAIR_LATE && run != x->run) stop("a late release is said before its run", a->at);
-        if (a->kind == PFAIR_LATE) entry.index -= *taken_off(x, &entry.name);
+        if (a->kind == PFAIR_KIND_LATE && run != x->run) stop("a late release is said before its run", a->at);
+        if (a->kind == PFAIR_KIND_LATE) entry.index -= *taken_off(x, &entry.name);
         say(x, run, &entry, slot);
     }
-    struct pfair_entry nothing = {.floor = floor - begin, .kind = PFAIR_NOTHING};
+    struct pfair_entry nothing = {.floor = floor - begin, .kind = PFAIR_KIND_NOTHING};
     say(x, run, &nothing, slot);
     x->floor = floor;
 }
@@ -257,7 +257,7 @@ static void receive(struct exchange *x, const struct message *message) {
     bool is_next = message->run == x->run + 1 && kept_entry(x, message->from, message->number) == NULL;
     if (is_next && x->kept_count < MOST_KEPT) x->kept[x->kept_count++] = *message;
     if (message->run != x->run) return;
-    x->known += take(x, message->from, message->number, &message->entry) == PFAIR_KNOWN;
+    x->known += take(x, message->from, message->number, &message->entry) == PFAIR_TAKEN_KNOWN;
     x->heard++;
 }
 
@@ -304,8 +304,9 @@ static void serve(struct exchange *x, uint64_t slot) {
 static bool is_planned(struct exchange *x, uint64_t slot) {
     struct pfair_step step;
     must(pfair_plan_next(&x->dispatcher, &step));
-    if (step.kind == PFAIR_WAITING) return false;
-    if (step.kind != PFAIR_PLANNED || x->run * RUN + step.slot != slot) stop("another slot was planned", step.slot);
+    if (step.kind == PFAIR_STEP_WAITING) return false;
+    bool is_this = step.kind == PFAIR_STEP_PLANNED && x->run * RUN + step.slot == slot;
+    if (!is_this) stop("another slot was planned", step.slot);
     return true;
 }
 

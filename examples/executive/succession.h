@@ -52,7 +52,8 @@ static void say_for(struct exchange *x, unsigned dead, uint32_t number, const st
    floor. A number without an entry gets an empty one of the floor before. There is room for `down` at once if the
    tasks leave one processor free. */
 static uint64_t close_log(struct exchange *x, unsigned dead) {
-    struct pfair_entry entry, empty = {.kind = PFAIR_NOTHING}, down = {.kind = PFAIR_ARRIVE, .cost = 1, .period = 1};
+    struct pfair_entry entry, empty = {.kind = PFAIR_KIND_NOTHING};
+    struct pfair_entry down = {.kind = PFAIR_KIND_ARRIVE, .cost = 1, .period = 1};
     uint32_t said = MOST_ENTRIES;
     hear(x);
     while (said > 0 && !is_held(x, dead, said, &entry)) said--;
@@ -72,7 +73,7 @@ static uint64_t close_log(struct exchange *x, unsigned dead) {
 
 /* In a next run the log is empty again, and `down` goes on. Each of the others closes the log, with the same entry. */
 static void keep_closed(struct exchange *x, unsigned dead) {
-    struct pfair_entry closing = {.floor = slots_of(x, x->run), .kind = PFAIR_NOTHING};
+    struct pfair_entry closing = {.floor = slots_of(x, x->run), .kind = PFAIR_KIND_NOTHING};
     take(x, dead, 1, &closing);
 }
 

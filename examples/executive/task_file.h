@@ -15,9 +15,9 @@ static void write_task_file(const struct announcement *table, unsigned rows, uns
         printf("\n[[entry]]\nprocessor = %u\n", a->processor % processors);
         printf("floor = %" PRIu64 "\nkind = \"%s\"\n", a->at, kinds[a->kind]);
         printf("at = %" PRIu64 "\nname = \"%s\"\n", a->at, a->name);
-        if (a->kind == PFAIR_ARRIVE) printf("cost = %" PRIu64 "\nperiod = %" PRIu64 "\n", a->cost, a->period);
-        if (a->kind == PFAIR_ARRIVE) printf("early = %s\n", a->early ? "true" : "false");
-        if (a->kind == PFAIR_LATE) printf("index = %" PRIu64 "\nby = %" PRIu64 "\n", a->index, a->by);
+        if (a->kind == PFAIR_KIND_ARRIVE) printf("cost = %" PRIu64 "\nperiod = %" PRIu64 "\n", a->cost, a->period);
+        if (a->kind == PFAIR_KIND_ARRIVE) printf("early = %s\n", a->early ? "true" : "false");
+        if (a->kind == PFAIR_KIND_LATE) printf("index = %" PRIu64 "\nby = %" PRIu64 "\n", a->index, a->by);
     }
 }
 

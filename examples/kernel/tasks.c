@@ -61,7 +61,7 @@ void make_tasks(const struct announcement *table, unsigned rows) {
     unsigned count = 0;
     for (unsigned row = 0; row < rows; row++) {
         struct pfair_name name = pfair_name_of(table[row].name);
-        if (table[row].kind != PFAIR_ARRIVE || task_named(&name) != NULL) continue;
+        if (table[row].kind != PFAIR_KIND_ARRIVE || task_named(&name) != NULL) continue;
         if (count == MOST_TASKS) stop("too many tasks", row);
         struct task *task = &tasks[count++];
         task->name = table[row].name;

@@ -11,9 +11,9 @@ import pfair
 from conftest import EXAMPLES
 from pfair import _dispatcher, _entries, _library, _plans, _take
 
-TEXT = (EXAMPLES.parent / "include" / "pfair.h").read_text()
-HEADER = re.sub(r"/\*.*?\*/", "", TEXT, flags=re.S)
+HEADER = re.sub(r"/\*.*?\*/", "", (EXAMPLES.parent / "include" / "pfair.h").read_text(), flags=re.S)
 STRUCTS = {name: body for name, body in re.findall(r"struct pfair_(\w+) \{(.*?)\n\};", HEADER, re.S)}
+ENUMS = {name: body for name, body in re.findall(r"enum pfair_(\w+) \{(.*?)\}", HEADER, re.S)}
 SIMPLE = {"uint64_t": "u8", "int64_t": "i8"}
 # names of the package for those of the header
 ROWS = {name: name.upper() for name in ("quantum", "decision", "lag", "member", "window", "entry", "key")}
@@ -54,23 +54,30 @@ def test_layout_of_structs(struct):
     assert [getattr(kind, field).offset for field in named] == [8 * place for place in range(len(named))]
 
 
+def constants_of(enum):
+    """The constants of an enum of the header by their numbers, in the words that follow PFAIR_."""
+    return {int(number): words for words, number in re.findall(r"PFAIR_(\w+) = (\d+)", ENUMS[enum])}
+
+
+def test_names_of_the_header():
+    """A constant that isn't an answer has a word of its enum's name before its own, the same in all of the enum."""
+    assert len(ENUMS) == 9
+    for enum in ENUMS.keys() - {"answer"}:
+        firsts = {words.split("_")[0] for words in constants_of(enum).values()}
+        assert len(firsts) == 1 and firsts <= {*enum.upper().split("_")}, enum
+
+
 def test_numbers_of_the_header():
     """The outcomes of decisions, the keys of a task file, and what is found and done."""
-    told = re.search(r"uint64_t outcome; +/\* (.*?);", TEXT, re.S)[1]
-    outcomes = re.findall(r"(\d+) ([a-z ]+?)(?:,|$| \*/)", " ".join(told.split()))
-    assert pfair.OUTCOMES == {int(number): words for number, words in outcomes}
-
-    def enum(name):
-        body = re.search(rf"enum pfair_{name} {{(.*?)}}", HEADER, re.S)[1]
-        return {int(number): word for word, number in re.findall(r"PFAIR_(\w+) = (\d+)", body)}
-
-    assert enum("key_of_file") == {place: f"KEY_{key.upper()}" for place, key in enumerate(_dispatcher._KEYS) if key}
-    assert enum("taken") == {0: "NEW", 1: "KNOWN", 2: "TORN_NOW"} and _take.TAKEN == ("new", "known", "torn")
-    assert enum("step_kind") == {0: "PLANNED", 1: "WAITING", 2: "ALL_PLANNED"}
+    outcomes = constants_of("outcome")
+    assert outcomes == {n: f"OUTCOME_{words.upper().replace(' ', '_')}" for n, words in pfair.OUTCOMES.items()}
+    keys = {place: f"KEY_{key.upper()}" for place, key in enumerate(_dispatcher._KEYS) if key}
+    assert constants_of("key_of_file") == keys
+    assert constants_of("taken") == {n: f"TAKEN_{word.upper()}" for n, word in enumerate(_take.TAKEN)}
+    assert constants_of("step_kind") == {0: "STEP_PLANNED", 1: "STEP_WAITING", 2: "STEP_ALL_PLANNED"}
     assert _plans.STEPS == ("planned", "waiting", "done")
-    assert enum("kind") == {0: "NOTHING", 1: "ARRIVE", 2: "DEPART", 3: "LATE"}
-    assert _entries.KINDS == (None, "arrive", "depart", "late")
-    assert enum("miss_kind") == {0: "NO_MISS", 1: "EARLY", 2: "TARDY", 3: "UNSERVED"}
+    assert constants_of("kind") == {n: f"KIND_{(kind or 'nothing').upper()}" for n, kind in enumerate(_entries.KINDS)}
+    assert constants_of("miss_kind") == {0: "MISS_NONE", 1: "MISS_EARLY", 2: "MISS_TARDY", 3: "MISS_UNSERVED"}
 
 
 class Fake:

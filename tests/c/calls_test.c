@@ -91,17 +91,17 @@ static void misses(void) {
     REFUSED(41, 1, 1, 2, 1, falling, 4);
     REFUSED(41, 0, 1, 2, 0, picks, 1);
     REFUSED(41, 2, 1, 2, 1000000, far, 3);
-    FOUND(pfair_first_miss, PFAIR_NO_MISS, 0, 0, 1, 2, 6, picks, 3);
-    FOUND(pfair_first_miss, PFAIR_NO_MISS, 0, 0, 1, 2, 0, NULL, 0);
-    FOUND(pfair_first_miss, PFAIR_EARLY, 2, 2, 1, 3, 6, picks, 3);
-    FOUND(pfair_first_miss, PFAIR_TARDY, 2, 2, 1, 1, 6, picks, 3);
-    FOUND(pfair_first_miss, PFAIR_UNSERVED, 4, 0, 1, 2, 8, picks, 3);
-    FOUND(pfair_first_miss, PFAIR_UNSERVED, 1, 0, 1, 1, 1000000, NULL, 0);
-    FOUND(pfair_first_miss, PFAIR_EARLY, 2, 2, 1, 1000000000, 1000000, far, 2);
-    FOUND(pfair_first_late, PFAIR_NO_MISS, 0, 0, 1, 3, 6, picks, 3);
-    FOUND(pfair_first_late, PFAIR_TARDY, 2, 2, 1, 1, 6, picks, 3);
-    FOUND(pfair_first_late, PFAIR_UNSERVED, 4, 0, 1, 2, 8, picks, 3);
-    FOUND(pfair_first_late, PFAIR_NO_MISS, 0, 0, 1, 1000000000, 1000000, far, 2);
+    FOUND(pfair_first_miss, PFAIR_MISS_NONE, 0, 0, 1, 2, 6, picks, 3);
+    FOUND(pfair_first_miss, PFAIR_MISS_NONE, 0, 0, 1, 2, 0, NULL, 0);
+    FOUND(pfair_first_miss, PFAIR_MISS_EARLY, 2, 2, 1, 3, 6, picks, 3);
+    FOUND(pfair_first_miss, PFAIR_MISS_TARDY, 2, 2, 1, 1, 6, picks, 3);
+    FOUND(pfair_first_miss, PFAIR_MISS_UNSERVED, 4, 0, 1, 2, 8, picks, 3);
+    FOUND(pfair_first_miss, PFAIR_MISS_UNSERVED, 1, 0, 1, 1, 1000000, NULL, 0);
+    FOUND(pfair_first_miss, PFAIR_MISS_EARLY, 2, 2, 1, 1000000000, 1000000, far, 2);
+    FOUND(pfair_first_late, PFAIR_MISS_NONE, 0, 0, 1, 3, 6, picks, 3);
+    FOUND(pfair_first_late, PFAIR_MISS_TARDY, 2, 2, 1, 1, 6, picks, 3);
+    FOUND(pfair_first_late, PFAIR_MISS_UNSERVED, 4, 0, 1, 2, 8, picks, 3);
+    FOUND(pfair_first_late, PFAIR_MISS_NONE, 0, 0, 1, 1000000000, 1000000, far, 2);
 }
 
 /* Every set of slots below 10, for every weight up to period 6, beside the windows. */
@@ -284,9 +284,9 @@ static void fault_pairs(void) {
             }
         struct pfair_entry e = good(kind);
         ANSWERS(0, take(&d, 1, (uint32_t)kind + 1, e, &taken));
-        CHECK(taken == PFAIR_NEW, "nothing was changed by the refused ones");
+        CHECK(taken == PFAIR_TAKEN_NEW, "nothing was changed by the refused ones");
         ANSWERS(0, take(&d, 1, (uint32_t)kind + 1, e, &taken));
-        CHECK(taken == PFAIR_KNOWN, "known");
+        CHECK(taken == PFAIR_TAKEN_KNOWN, "known");
         /* what a kind doesn't need isn't looked at */
         if (kind != 1) e.cost = e.period = e.early = 99;
         if (kind != 3) e.index = e.by = UINT64_MAX;
@@ -295,8 +295,8 @@ static void fault_pairs(void) {
             memset(&e.name, 0xff, sizeof e.name);
         }
         ANSWERS(0, take(&d, 1, (uint32_t)kind + 1, e, &taken));
-        CHECK(taken == PFAIR_KNOWN, "what a kind doesn't need is no part of the entry: kind %d taken %d", (int)kind,
-              (int)taken);
+        CHECK(taken == PFAIR_TAKEN_KNOWN, "what a kind doesn't need is no part of the entry: kind %d taken %d",
+              (int)kind, (int)taken);
         /* bytes behind a name aren't looked at */
         if (kind) {
             e = good(kind);
@@ -305,23 +305,23 @@ static void fault_pairs(void) {
             ANSWERS(0, take(&d, 0, (uint32_t)kind, e, &was));
             memset(e.name.bytes + 3, 0xee, 13);
             ANSWERS(0, take(&d, 0, (uint32_t)kind, e, &taken));
-            CHECK(taken == PFAIR_KNOWN, "bytes behind a name");
+            CHECK(taken == PFAIR_TAKEN_KNOWN, "bytes behind a name");
         }
     }
     /* bounds that are taken */
     struct pfair_entry e = late("a", 1000000, 1048576, 1000000);
     e.floor = 1000000;
     ANSWERS(0, take(&d, 0, 8, e, &taken));
-    CHECK(taken == PFAIR_NEW, "new");
+    CHECK(taken == PFAIR_TAKEN_NEW, "new");
     e = arrive("zzzzzzzzzzzzzzzz", 1000000000, 1000000000, 0);
     ANSWERS(0, take(&d, 0, 7, e, &taken));
-    CHECK(taken == PFAIR_NEW, "new");
+    CHECK(taken == PFAIR_TAKEN_NEW, "new");
     e.early = 1;
     ANSWERS(0, take(&d, 0, 7, e, &taken));
-    CHECK(taken == PFAIR_TORN_NOW, "torn");
+    CHECK(taken == PFAIR_TAKEN_TORN, "torn");
     e.early = 0;
     ANSWERS(0, take(&d, 0, 7, e, &taken));
-    CHECK(taken == PFAIR_TORN_NOW, "torn stays");
+    CHECK(taken == PFAIR_TAKEN_TORN, "torn stays");
     ANSWERS(0, pfair_close(&d));
 }
 
@@ -337,7 +337,7 @@ static void rooms(void) {
     ANSWERS(0, pfair_open(&d, 2, 6, 4, 5));
     memset(&s, 7, sizeof s);
     ANSWERS(0, pfair_plan_next(&d, &s));
-    CHECK(s.kind == PFAIR_WAITING && s.slot == 0, "plan of nothing");
+    CHECK(s.kind == PFAIR_STEP_WAITING && s.slot == 0, "plan of nothing");
     ANSWERS(104, pfair_table(&d, 0, &n, pick, 3));
     ANSWERS(104, pfair_places(&d, 0, &n, place, 0));
     ANSWERS(104, pfair_decisions(&d, UINT64_MAX, &n, dec, 0));
@@ -365,7 +365,7 @@ static void rooms(void) {
         CHECK(s.kind == 0 && s.slot == (uint64_t)k, "planned");
     }
     ANSWERS(0, pfair_plan_next(&d, &s));
-    CHECK(s.kind == PFAIR_WAITING && s.slot == 3, "waiting");
+    CHECK(s.kind == PFAIR_STEP_WAITING && s.slot == 3, "waiting");
     ANSWERS(0, pfair_next_slot(&d, &n));
     CHECK(n == 3, "next");
     memset(pick, 0x33, sizeof pick);
@@ -388,7 +388,7 @@ static void rooms(void) {
     CHECK(n == 0, "no decisions in room 0");
     /* torn, also behind the frontier and behind what is planned */
     ANSWERS(0, take(&d, 1, 3, nothing(9), &taken));
-    CHECK(taken == PFAIR_TORN_NOW, "torn");
+    CHECK(taken == PFAIR_TAKEN_TORN, "torn");
     memset(&s, 0x44, sizeof s);
     ANSWERS(30, pfair_plan_next(&d, &s));
     CHECK(s.processor == 1 && s.number == 3, "the torn one");
@@ -410,7 +410,7 @@ static void rooms(void) {
     ANSWERS(0, pfair_plan_next(&d, &s));
     CHECK(s.kind == 0 && s.slot == 0, "planned");
     ANSWERS(0, pfair_plan_next(&d, &s));
-    CHECK(s.kind == PFAIR_ALL_PLANNED, "all");
+    CHECK(s.kind == PFAIR_STEP_ALL_PLANNED, "all");
     CHECK(s.slot == 0 && s.processor == 0 && s.number == 0, "the step after the last slot");
     ANSWERS(0, take(&d, 0, 1, nothing(0), &taken));
     ANSWERS(30, pfair_plan_next(&d, &s));
@@ -442,7 +442,7 @@ static void shapes(void) {
     CHECK(s.kind == 0, "planned");
     struct pfair_decided dec;
     ANSWERS(0, pfair_decisions(&a, 0, &n, &dec, 1));
-    CHECK(n == 1 && dec.outcome == 21, "period outside frame");
+    CHECK(n == 1 && dec.outcome == PFAIR_OUTCOME_PERIOD_OUTSIDE_FRAME, "period outside frame");
     /* torn by a join; the other stays whole */
     ANSWERS(0, take(&a, 1, 2, nothing(9), &taken));
     ANSWERS(0, take(&b, 1, 2, nothing(10), &taken));
@@ -491,7 +491,7 @@ static void held_entries(void) {
         same_entry(got, wanted[k], __LINE__);
         /* what is given out is taken for the same */
         ANSWERS(0, take(&d, 1, k + 2, got, &taken));
-        CHECK(taken == PFAIR_KNOWN, "known");
+        CHECK(taken == PFAIR_TAKEN_KNOWN, "known");
         ANSWERS(0, pfair_held(&d, 0, k + 2, &kind, &got));
         CHECK(kind == PFAIR_HELD_NOTHING, "of the other processor");
     }
@@ -629,36 +629,36 @@ static void planned_to(void) {
     ANSWERS(0, take(&d, 0, 1, arrive("a", 1, 2, 0), &taken));
     ANSWERS(0, take(&d, 0, 2, nothing(6), &taken));
     ANSWERS(0, pfair_plan_to(&d, 1, &s));
-    CHECK(s.kind == PFAIR_PLANNED && s.slot == 0 && s.processor == 0 && s.number == 0, "the first slot");
+    CHECK(s.kind == PFAIR_STEP_PLANNED && s.slot == 0 && s.processor == 0 && s.number == 0, "the first slot");
     ANSWERS(0, pfair_plan_to(&d, 4, &s));
-    CHECK(s.kind == PFAIR_PLANNED && s.slot == 3, "four slots");
+    CHECK(s.kind == PFAIR_STEP_PLANNED && s.slot == 3, "four slots");
     ANSWERS(0, pfair_next_slot(&d, &next));
     CHECK(next == 4, "no slot more than was asked for");
     ANSWERS(0, pfair_plan_to(&d, 2, &s));
-    CHECK(s.kind == PFAIR_PLANNED && s.slot == 1, "planned before");
+    CHECK(s.kind == PFAIR_STEP_PLANNED && s.slot == 1, "planned before");
     ANSWERS(0, pfair_next_slot(&d, &next));
     CHECK(next == 4, "no slot more");
     ANSWERS(0, pfair_plan_to(&d, UINT64_MAX, &s));
-    CHECK(s.kind == PFAIR_WAITING && s.slot == 6, "up to the frontier");
+    CHECK(s.kind == PFAIR_STEP_WAITING && s.slot == 6, "up to the frontier");
     ANSWERS(0, pfair_next_slot(&d, &next));
     CHECK(next == 6, "up to the frontier");
     ANSWERS(0, take(&d, 0, 3, nothing(20), &taken));
     refuse(1, 1000000);
     ANSWERS(90, pfair_plan_to(&d, 9, &s));
     ANSWERS(31, pfair_plan_to(&d, 9, &s));
-    CHECK(s.kind == PFAIR_WAITING && s.slot == 6, "written");
+    CHECK(s.kind == PFAIR_STEP_WAITING && s.slot == 6, "written");
     ample();
     ANSWERS(0, pfair_plan_to(&d, 6, &s));
-    CHECK(s.kind == PFAIR_PLANNED && s.slot == 5, "no plan is wanted of a spent one");
+    CHECK(s.kind == PFAIR_STEP_PLANNED && s.slot == 5, "no plan is wanted of a spent one");
     ANSWERS(0, pfair_reopen(&d));
     ANSWERS(0, pfair_plan_to(&d, 10, &s));
-    CHECK(s.kind == PFAIR_ALL_PLANNED && s.slot == 0, "all");
+    CHECK(s.kind == PFAIR_STEP_ALL_PLANNED && s.slot == 0, "all");
     ANSWERS(0, pfair_plan_to(&d, 9, &s));
-    CHECK(s.kind == PFAIR_PLANNED && s.slot == 8, "the last slot");
+    CHECK(s.kind == PFAIR_STEP_PLANNED && s.slot == 8, "the last slot");
     ANSWERS(0, take(&d, 0, 2, nothing(7), &taken));
     ANSWERS(0, pfair_plan_to(&d, 9, &s));
     ANSWERS(30, pfair_plan_to(&d, 10, &s));
-    CHECK(s.kind == PFAIR_PLANNED && s.slot == 8 && s.processor == 0 && s.number == 2, "torn");
+    CHECK(s.kind == PFAIR_STEP_PLANNED && s.slot == 8 && s.processor == 0 && s.number == 2, "torn");
     ANSWERS(0, pfair_close(&d));
 }
 
@@ -678,7 +678,7 @@ static void neither_torn_nor_spent(void) {
     for (int is_done = 0; is_done < 2; is_done++) {
         struct pfair_dispatcher d = PFAIR_NONE;
         struct pfair_step s;
-        uint64_t taken, kind = is_done ? PFAIR_ALL_PLANNED : PFAIR_WAITING;
+        uint64_t taken, kind = is_done ? PFAIR_STEP_ALL_PLANNED : PFAIR_STEP_WAITING;
         ANSWERS(0, pfair_open(&d, 1, 6, 6, 5));
         ANSWERS(0, take(&d, 0, 1, arrive("a", 1, 2, 0), &taken));
         ANSWERS(0, take(&d, 0, 2, nothing(floors[is_done]), &taken));
@@ -690,11 +690,11 @@ static void neither_torn_nor_spent(void) {
         ample();
         refused_to(&d, 31, 0, __LINE__);
         ANSWERS(0, pfair_plan_to(&d, floors[is_done], &s));
-        CHECK(s.kind == PFAIR_PLANNED && s.slot == floors[is_done] - 1, "planned before");
+        CHECK(s.kind == PFAIR_STEP_PLANNED && s.slot == floors[is_done] - 1, "planned before");
         /* torn goes before spent */
         ANSWERS(0, take(&d, 0, 4, nothing(8), &taken));
         ANSWERS(0, take(&d, 0, 4, nothing(9), &taken));
-        CHECK(taken == PFAIR_TORN_NOW, "torn");
+        CHECK(taken == PFAIR_TAKEN_TORN, "torn");
         refused_to(&d, 30, 4, __LINE__);
         ANSWERS(30, pfair_reopen(&d));
         refused_to(&d, 30, 4, __LINE__);
@@ -724,7 +724,7 @@ static void several_slots(void) {
     ANSWERS(0, take(&d, 0, 1, arrive("a", 1, 2, 0), &taken));
     ANSWERS(0, take(&d, 0, 2, nothing(4), &taken));
     ANSWERS(0, pfair_plan_to(&d, 6, &s));
-    CHECK(s.kind == PFAIR_WAITING && s.slot == 4, "four slots");
+    CHECK(s.kind == PFAIR_STEP_WAITING && s.slot == 4, "four slots");
     ANSWERS(104, pfair_quanta(&d, 0, 5, &count, rows, 3));
     ANSWERS(104, pfair_quanta(&d, 9, UINT64_MAX, &count, rows, 3));
     CHECK(count == 77, "written");
@@ -753,8 +753,8 @@ static void several_slots(void) {
     ANSWERS(0, pfair_decisions_of(&d, 1, 4, &count, NULL, 0));
     CHECK(count == 0, "none behind slot 0");
     ANSWERS(0, pfair_decisions_of(&d, 0, 4, &count, said, 2));
-    CHECK(count == 1 && said[0].slot == 0 && said[0].decided.number == 1 && said[0].decided.outcome == 0,
-          "the arrival");
+    CHECK(count == 1 && said[0].slot == 0 && said[0].decided.number == 1, "the arrival");
+    CHECK(said[0].decided.outcome == PFAIR_OUTCOME_ADMITTED, "its outcome");
     CHECK(said[1].slot == 0x3333333333333333ull, "a row behind was written");
     ANSWERS(0, pfair_close(&d));
 }

@@ -80,17 +80,17 @@ static inline struct pfair_entry nothing(uint64_t floor) {
     return e;
 }
 static inline struct pfair_entry arrive(const char *name, uint64_t cost, uint64_t period, uint64_t at) {
-    struct pfair_entry e = {.kind = PFAIR_ARRIVE, .at = at, .cost = cost, .period = period};
+    struct pfair_entry e = {.kind = PFAIR_KIND_ARRIVE, .at = at, .cost = cost, .period = period};
     e.name = pfair_name_of(name);
     return e;
 }
 static inline struct pfair_entry depart(const char *name, uint64_t at) {
-    struct pfair_entry e = {.kind = PFAIR_DEPART, .at = at};
+    struct pfair_entry e = {.kind = PFAIR_KIND_DEPART, .at = at};
     e.name = pfair_name_of(name);
     return e;
 }
 static inline struct pfair_entry late(const char *name, uint64_t index, uint64_t by, uint64_t at) {
-    struct pfair_entry e = {.kind = PFAIR_LATE, .at = at, .index = index, .by = by};
+    struct pfair_entry e = {.kind = PFAIR_KIND_LATE, .at = at, .index = index, .by = by};
     e.name = pfair_name_of(name);
     return e;
 }

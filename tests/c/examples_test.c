@@ -80,7 +80,7 @@ static void example(const char *name) {
     free(file.at);
     ANSWERS(0, pfair_settings(&d, &s));
     ANSWERS(0, pfair_plan_to(&d, s.slots, &step));
-    CHECK(step.kind == PFAIR_PLANNED && step.slot + 1 == s.slots, "planned");
+    CHECK(step.kind == PFAIR_STEP_PLANNED && step.slot + 1 == s.slots, "planned");
     rows(&d, s.slots, name, "replay", "slot,processor,task,index", quanta_text);
     rows(&d, s.slots, name, "lags", "time,task,numerator,period", lags_text);
     ANSWERS(0, pfair_close(&d));

@@ -49,7 +49,7 @@ static void read_and_planned(void) {
     ANSWERS(0, pfair_below(&o, &d, &is));
     CHECK(is == 1, "no less than the file's logs");
     ANSWERS(0, pfair_plan_to(&d, 4, &step));
-    CHECK(step.kind == PFAIR_PLANNED && step.slot == 3, "all slots are planned");
+    CHECK(step.kind == PFAIR_STEP_PLANNED && step.slot == 3, "all slots are planned");
     ANSWERS(0, pfair_quanta(&d, 0, 4, &count, rows, 9));
     CHECK(count == 1 && rows[0].slot == 1 && rows[0].index == 1, "the quanta");
     /* an open handle stays as it is, whatever the bytes */

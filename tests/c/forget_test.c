@@ -149,7 +149,7 @@ static void of_any_dispatcher(void) {
     ANSWERS(0, pfair_plan_to(&d, 3, &s));
     ANSWERS(0, pfair_table(&d, 0, &count, picks, 1));
     ANSWERS(0, take(&d, 0, 2, nothing(5), &taken));
-    CHECK(taken == PFAIR_TORN_NOW, "torn");
+    CHECK(taken == PFAIR_TAKEN_TORN, "torn");
     forget(&d, 2);
     told_nothing(&d, 1);
     ANSWERS(0, pfair_table(&d, 2, &count, picks, 1));

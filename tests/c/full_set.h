@@ -56,6 +56,6 @@ static uint64_t digest(struct pfair_dispatcher *d, uint64_t slot) {
 static void plan_one(struct pfair_dispatcher *d, uint64_t slot) {
     struct pfair_step s;
     ANSWERS(0, pfair_plan_next(d, &s));
-    CHECK(s.kind == PFAIR_PLANNED && s.slot == slot, "slot %" PRIu64, slot);
+    CHECK(s.kind == PFAIR_STEP_PLANNED && s.slot == slot, "slot %" PRIu64, slot);
 }
 #endif

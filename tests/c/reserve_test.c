@@ -146,7 +146,7 @@ static void of_any_dispatcher(void) {
     ANSWERS(0, take(&d, 0, 1, arrive("a", 1, 2, 0), &taken));
     ANSWERS(0, take(&d, 0, 2, nothing(6), &taken));
     ANSWERS(0, pfair_plan_to(&d, UINT64_MAX, &s));
-    CHECK(s.kind == PFAIR_ALL_PLANNED, "all");
+    CHECK(s.kind == PFAIR_STEP_ALL_PLANNED, "all");
     refuse_all();
     ANSWERS(0, pfair_reserve(&d, UINT64_MAX, UINT64_MAX));
     ANSWERS(90, pfair_reopen(&d));
@@ -154,7 +154,7 @@ static void of_any_dispatcher(void) {
     ANSWERS(31, pfair_plan_next(&d, &s));
     ample();
     ANSWERS(0, take(&d, 0, 2, nothing(5), &taken));
-    CHECK(taken == PFAIR_TORN_NOW, "torn");
+    CHECK(taken == PFAIR_TAKEN_TORN, "torn");
     ANSWERS(0, pfair_reserve(&d, 1, 1));
     ANSWERS(30, pfair_plan_next(&d, &s));
     ANSWERS(0, pfair_close(&d));

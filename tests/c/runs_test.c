@@ -49,7 +49,7 @@ static uint64_t decide(struct one *all, int *count, const struct pfair_entry *e,
         if (!strcmp(all[k].name, name)) t = &all[k];
         units += all[k].cost * (frame / all[k].period);
     }
-    if (e->kind == PFAIR_ARRIVE) {
+    if (e->kind == PFAIR_KIND_ARRIVE) {
         if (t) return 20;
         if (frame % e->period) return 21;
         if (units + e->cost * (frame / e->period) > (uint64_t)M * frame) return 22;
@@ -60,7 +60,7 @@ static uint64_t decide(struct one *all, int *count, const struct pfair_entry *e,
     }
     if (!t) return 23;
     if (t->departing) return 24;
-    if (e->kind == PFAIR_DEPART) {
+    if (e->kind == PFAIR_KIND_DEPART) {
         uint64_t at = slot;
         if (t->next > 1) {
             struct pfair_window w = window_of(t, t->next - 1);
@@ -199,8 +199,8 @@ static void random_run(int M, uint64_t slots, int tasks) {
     struct pfair_step step;
     do {
         ANSWERS(0, pfair_plan_next(&d[1], &step));
-    } while (step.kind == PFAIR_PLANNED);
-    CHECK(step.kind == PFAIR_WAITING, "half of the entries settle all");
+    } while (step.kind == PFAIR_STEP_PLANNED);
+    CHECK(step.kind == PFAIR_STEP_WAITING, "half of the entries settle all");
     uint64_t frontier = 99;
     ANSWERS(0, pfair_frontier(&d[1], &frontier));
     CHECK(frontier == step.slot, "the step's slot is the frontier");
@@ -208,8 +208,8 @@ static void random_run(int M, uint64_t slots, int tasks) {
     for (int k = 0; k < 2; k++) {
         do {
             ANSWERS(0, pfair_plan_next(&d[k], &step));
-        } while (step.kind == PFAIR_PLANNED);
-        CHECK(step.kind == PFAIR_ALL_PLANNED, "not all planned");
+        } while (step.kind == PFAIR_STEP_PLANNED);
+        CHECK(step.kind == PFAIR_STEP_ALL_PLANNED, "not all planned");
     }
     uint8_t was[64][17] = {{0}};
     uint64_t was_count = 0;
@@ -361,7 +361,7 @@ static uint64_t life(long k, long run, long *allocations) {
                 memory_seen++;
                 CHECK(taken == 77, "taken written after 90");
             }
-            CHECK(answer == 0 && taken == PFAIR_NEW, "take: %d, taken %d", (int)answer, (int)taken);
+            CHECK(answer == 0 && taken == PFAIR_TAKEN_NEW, "take: %d, taken %d", (int)answer, (int)taken);
         }
     for (int part = 0; part < 2; part++) {
         while ((answer = pfair_absorb(&d, &o)) == 90) {
@@ -376,7 +376,7 @@ static uint64_t life(long k, long run, long *allocations) {
         pfair_next_slot(&d, &next);
         answer = pfair_plan_next(&d, &s);
         if (answer == 0) {
-            if (s.kind != PFAIR_PLANNED) break;
+            if (s.kind != PFAIR_STEP_PLANNED) break;
             continue;
         }
         memory_seen++;
@@ -389,7 +389,7 @@ static uint64_t life(long k, long run, long *allocations) {
         CHECK(digest(&d) == was, "31 changes nothing");
         while ((answer = take(&d, 0, 1, plan_of(0, 1), &taken)) == 90) {
         }
-        CHECK(answer == 0 && taken == PFAIR_KNOWN, "take while spent");
+        CHECK(answer == 0 && taken == PFAIR_TAKEN_KNOWN, "take while spent");
         while ((answer = pfair_absorb(&d, &o)) == 90) {
         }
         CHECK(answer == 0, "absorb while spent");
@@ -401,7 +401,7 @@ static uint64_t life(long k, long run, long *allocations) {
         CHECK(answer == 0, "reopen: %d", (int)answer);
         CHECK(digest(&d) == was, "what was planned stands");
     }
-    CHECK(s.kind == PFAIR_ALL_PLANNED, "kind %d", (int)s.kind);
+    CHECK(s.kind == PFAIR_STEP_ALL_PLANNED, "kind %d", (int)s.kind);
     sum = digest(&d);
     *allocations = calls;
     ample();
@@ -433,13 +433,13 @@ static void memory(void) {
     refuse(1, 1000000);
     do {
         taken = pfair_plan_next(&d, &s);
-    } while (taken == 0 && s.kind == PFAIR_PLANNED);
+    } while (taken == 0 && s.kind == PFAIR_STEP_PLANNED);
     CHECK(taken == 90, "planned all without memory");
     ANSWERS(31, pfair_plan_next(&d, &s));
     ANSWERS(90, pfair_reopen(&d));
     ANSWERS(31, pfair_plan_next(&d, &s));
     ANSWERS(0, take(&d, 0, 20, nothing(39), &taken));
-    CHECK(taken == PFAIR_TORN_NOW, "a torn entry needs no memory");
+    CHECK(taken == PFAIR_TAKEN_TORN, "a torn entry needs no memory");
     ANSWERS(30, pfair_plan_next(&d, &s));
     ANSWERS(30, pfair_reopen(&d));
     CHECK(s.processor == 0 && s.number == 20, "which");
@@ -484,7 +484,7 @@ static void limits(uint64_t slots) {
         quanta += n;
     }
     ANSWERS(0, pfair_plan_next(&d, &s));
-    CHECK(s.kind == PFAIR_ALL_PLANNED, "all");
+    CHECK(s.kind == PFAIR_STEP_ALL_PLANNED, "all");
     CHECK(quanta == slots / 5 * 2, "%d quanta", (int)quanta);
     uint64_t next;
     ANSWERS(0, pfair_next_slot(&d, &next));
@@ -559,7 +559,7 @@ struct handed {
 static void *one_plan(void *at) {
     struct handed *handed = at;
     struct pfair_step s = {0, 0, 0, 0};
-    if (pfair_plan_next(&handed->d, &s) == 0 && s.kind == PFAIR_PLANNED && s.slot == handed->slot) handed->slot++;
+    if (pfair_plan_next(&handed->d, &s) == 0 && s.kind == PFAIR_STEP_PLANNED && s.slot == handed->slot) handed->slot++;
     return at;
 }
 

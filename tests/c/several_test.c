@@ -110,9 +110,9 @@ static void whole_logs(void) {
     ANSWERS(2, pfair_take_log(&o, 0, 1, &counted, bad, 4));
     same_counts(counted, 2, 2, 0, 0);
     ANSWERS(0, take(&o, 0, 2, log[1], &taken));
-    CHECK(taken == PFAIR_KNOWN, "the one before stands");
+    CHECK(taken == PFAIR_TAKEN_KNOWN, "the one before stands");
     ANSWERS(0, take(&o, 0, 3, log[2], &taken));
-    CHECK(taken == PFAIR_NEW, "the refused one wasn't taken");
+    CHECK(taken == PFAIR_TAKEN_NEW, "the refused one wasn't taken");
     ANSWERS(100, pfair_take_log(&o, 0, 4, &counted, bad + 3, 1));
     same_counts(counted, 0, 0, 0, 0);
     /* the log and its first number are looked at before an entry */
@@ -171,7 +171,7 @@ static void lags(void) {
     ANSWERS(0, pfair_take_log(&d, 0, 1, &counted, log, 4));
     ANSWERS(104, pfair_lags(&d, 0, 1, &count, rows, 9));
     ANSWERS(0, pfair_plan_to(&d, 8, &s));
-    CHECK(s.kind == PFAIR_WAITING && s.slot == 6, "six slots");
+    CHECK(s.kind == PFAIR_STEP_WAITING && s.slot == 6, "six slots");
     ANSWERS(104, pfair_lags(&d, 0, 7, &count, rows, 9));
     ANSWERS(104, pfair_lags(&d, UINT64_MAX, UINT64_MAX, &count, rows, 9));
     CHECK(count == 77, "written");
@@ -300,7 +300,7 @@ static void members(void) {
     ANSWERS(0, take(&d, 0, 8, nothing(9), &taken));
     memcpy(rows, mark, sizeof rows);
     ANSWERS(0, pfair_members(&d, &count, rows, 2));
-    CHECK(taken == PFAIR_TORN_NOW && count == members_after(5, rows), "what was planned stands");
+    CHECK(taken == PFAIR_TAKEN_TORN && count == members_after(5, rows), "what was planned stands");
     ANSWERS(0, pfair_close(&d));
 }
 

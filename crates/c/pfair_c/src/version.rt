@@ -5,7 +5,7 @@ ghost use Rattle.std.specs.Prelude.{◌≡◌};
 /// the third. A program that is linked to a shared library compares it with its header's.
 #[unsafe(no_mangle)]
 pub extern "C" fn pfair_version() -> u32
-    ensures { result ≡ 500 }
+    ensures { result ≡ 600 }
 {
-    500
+    600
 }
