@@ -617,35 +617,11 @@ struct pfair_pick {
     uint64_t index; /* of the subtask */
 };
 
-/* What became of an announcement. From 20 on it is refused, and changed nothing. */
-enum pfair_outcome {
-    PFAIR_OUTCOME_ADMITTED = 0,              /* of an arrival: the task is a member */
-    PFAIR_OUTCOME_DEPARTING = 1,             /* of a departure: the member is departing */
-    PFAIR_OUTCOME_DELAYED = 2,               /* of a late release: the subtasks are late */
-    PFAIR_OUTCOME_NAME_TAKEN = 20,           /* of an arrival: a member, departing or not, has the name */
-    PFAIR_OUTCOME_PERIOD_OUTSIDE_FRAME = 21, /* of an arrival: its period doesn't divide the frame */
-    PFAIR_OUTCOME_NO_ROOM = 22,              /* of an arrival: the total weight would exceed M */
-    PFAIR_OUTCOME_NO_SUCH_TASK = 23,         /* no member has the name */
-    PFAIR_OUTCOME_ALREADY_DEPARTING = 24,    /* the member is departing already */
-    PFAIR_OUTCOME_ALREADY_RELEASED = 25      /* of a late release: the subtask was released before, or has run */
-};
-
-
-/* A decision. */
-struct pfair_decided {
-    struct pfair_name name;
-    uint64_t processor, number; /* which entry announced it */
-    uint64_t outcome;           /* one of enum pfair_outcome */
-    uint64_t freed_at;          /* of a departure: the slot from which weight and name are free, counted over all runs;
-                                   else 0 */
-};
-
 /*
- * Three calls read a planned slot. A table has at most M rows, and a task that runs in two consecutive slots stays on
- * its processor.
- *   pfair_table      writes the table, in the PD2 order
- *   pfair_places     writes for each row of the table the processor that runs it
- *   pfair_decisions  writes the decisions at the slot's boundary, in the order of processor and number
+ * Two calls read one planned slot, with less stack and time than pfair_quanta. A table has at most M rows, and a task
+ * that runs in two consecutive slots stays on its processor.
+ *   pfair_table   writes the table, in the PD2 order
+ *   pfair_places  writes for each row of the table the processor that runs it
  * Each answers
  *   104  the slot isn't planned, or is forgotten
  *   103  there are more than `room` rows; `count` is written
@@ -653,8 +629,6 @@ struct pfair_decided {
  */
 uint32_t pfair_table(struct pfair_dispatcher *d, uint64_t slot, uint64_t *count, struct pfair_pick *rows, size_t room);
 uint32_t pfair_places(struct pfair_dispatcher *d, uint64_t slot, uint64_t *count, uint8_t *rows, size_t room);
-uint32_t pfair_decisions(struct pfair_dispatcher *d, uint64_t slot, uint64_t *count, struct pfair_decided *rows,
-    size_t room);
 
 /* A quantum of one of several slots. */
 struct pfair_quantum {
@@ -673,17 +647,34 @@ struct pfair_quantum {
 uint32_t pfair_quanta(struct pfair_dispatcher *d, uint64_t from, uint64_t to, uint64_t *count,
     struct pfair_quantum *rows, size_t room);
 
-/* A decision at the boundary of one of several slots. */
+/* What became of an announcement. From 20 on it is refused, and changed nothing. */
+enum pfair_outcome {
+    PFAIR_OUTCOME_ADMITTED = 0,              /* of an arrival: the task is a member */
+    PFAIR_OUTCOME_DEPARTING = 1,             /* of a departure: the member is departing */
+    PFAIR_OUTCOME_DELAYED = 2,               /* of a late release: the subtasks are late */
+    PFAIR_OUTCOME_NAME_TAKEN = 20,           /* of an arrival: a member, departing or not, has the name */
+    PFAIR_OUTCOME_PERIOD_OUTSIDE_FRAME = 21, /* of an arrival: its period doesn't divide the frame */
+    PFAIR_OUTCOME_NO_ROOM = 22,              /* of an arrival: the total weight would exceed M */
+    PFAIR_OUTCOME_NO_SUCH_TASK = 23,         /* no member has the name */
+    PFAIR_OUTCOME_ALREADY_DEPARTING = 24,    /* the member is departing already */
+    PFAIR_OUTCOME_ALREADY_RELEASED = 25      /* of a late release: the subtask was released before, or has run */
+};
+
+/* A decision at the boundary of a slot. */
 struct pfair_decision {
     uint64_t slot;
-    struct pfair_decided decided;
+    struct pfair_name name;
+    uint64_t processor, number; /* which entry announced it */
+    uint64_t outcome;           /* one of enum pfair_outcome */
+    uint64_t freed_at;          /* of a departure: the slot from which weight and name are free, counted over all runs;
+                                   else 0 */
 };
 
 /*
  * Writes the decisions at the boundaries of the slots `from` to `to` - 1, slot by slot, each slot's in the order of
- * processor and number. Answers and cost are those of pfair_quanta.
+ * processor and number. Those of slot t alone are those from t to t + 1. Answers and cost are those of pfair_quanta.
  */
-uint32_t pfair_decisions_of(struct pfair_dispatcher *d, uint64_t from, uint64_t to, uint64_t *count,
+uint32_t pfair_decisions(struct pfair_dispatcher *d, uint64_t from, uint64_t to, uint64_t *count,
     struct pfair_decision *rows, size_t room);
 
 /* The lag of a task at a time, numerator/period in quanta: its fluid share of the slots since it joined, less the

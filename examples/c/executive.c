@@ -100,9 +100,9 @@ static struct task *task_named(const struct pfair_name *name) {
 /* Ends all if `down` is refused in the planned slot. Only that decision says so: how far the dead one's floors reach
    depends on how late its thread was. */
 static void look_at_down(struct exchange *x, uint64_t slot) {
-    struct pfair_decided rows[ANNOUNCEMENTS + 1];
-    uint64_t count;
-    must(pfair_decisions(&x->dispatcher, slot % RUN, &count, rows, ANNOUNCEMENTS + 1));
+    struct pfair_decision rows[ANNOUNCEMENTS + 1];
+    uint64_t count, in_run = slot % RUN;
+    must(pfair_decisions(&x->dispatcher, in_run, in_run + 1, &count, rows, ANNOUNCEMENTS + 1));
     for (uint64_t row = 0; row < count; row++)
         if (is_down(&rows[row].name) && rows[row].outcome != PFAIR_OUTCOME_ADMITTED)
             stop("down isn't admitted: the tasks need all processors", slot);

@@ -13,10 +13,10 @@ enum { PROCESSORS = 2, SLOTS = 6, CAPACITY = 6, TAKEN = 5, ROOM = 8 };
 
 /* All that can be read of a dispatcher. */
 struct seen {
-    uint64_t frontier, next, table_rows[SLOTS], place_rows[SLOTS], decided_rows[SLOTS];
+    uint64_t frontier, next, table_rows[SLOTS], place_rows[SLOTS], decisions;
     struct pfair_pick table[SLOTS][PROCESSORS];
     uint8_t places[SLOTS][PROCESSORS];
-    struct pfair_decided decided[SLOTS][ROOM];
+    struct pfair_decision decided[ROOM];
 };
 
 static struct pfair_dispatcher d = PFAIR_NONE, closed = PFAIR_NONE, other = PFAIR_NONE;
@@ -40,8 +40,8 @@ static void look(struct seen *seen) {
     for (uint64_t slot = 0; slot < seen->next; slot++) {
         MUST(pfair_table(&d, slot, &seen->table_rows[slot], seen->table[slot], PROCESSORS));
         MUST(pfair_places(&d, slot, &seen->place_rows[slot], seen->places[slot], PROCESSORS));
-        MUST(pfair_decisions(&d, slot, &seen->decided_rows[slot], seen->decided[slot], ROOM));
     }
+    MUST(pfair_decisions(&d, 0, seen->next, &seen->decisions, seen->decided, ROOM));
 }
 
 /* The call was refused with this number, and the dispatcher is as it was. */
@@ -208,9 +208,9 @@ static void absorbing(void) {
 static void reading(void) {
     struct pfair_step step = {7, 7, 7, 7}, kept_step = step;
     struct pfair_pick pick[ROOM], kept_pick[ROOM];
-    struct pfair_decided decided[ROOM], kept_decided[ROOM];
+    struct pfair_decision decided[ROOM], kept_decided[ROOM];
     uint8_t places[ROOM], kept_places[ROOM];
-    uint64_t number = 77, slots[] = {before.next, SLOTS, 1000000, UINT64_MAX};
+    uint64_t number = 77, slots[] = {before.next, SLOTS, 1000000, UINT64_MAX - 1};
     memset(pick, 7, sizeof pick);
     memset(decided, 7, sizeof decided);
     memset(places, 7, sizeof places);
@@ -225,11 +225,12 @@ static void reading(void) {
     REFUSED(PFAIR_NOT_OPEN, pfair_next_slot(&closed, &number));
     REFUSED(PFAIR_NOT_OPEN, pfair_table(&closed, 0, &number, pick, ROOM));
     REFUSED(PFAIR_NOT_OPEN, pfair_places(&closed, 0, &number, places, ROOM));
-    REFUSED(PFAIR_NOT_OPEN, pfair_decisions(&closed, 0, &number, decided, ROOM));
+    REFUSED(PFAIR_NOT_OPEN, pfair_decisions(&closed, 0, 1, &number, decided, ROOM));
     for (size_t k = 0; k < sizeof slots / sizeof *slots; k++) {
         REFUSED(PFAIR_NOT_PLANNED, pfair_table(&d, slots[k], &number, pick, ROOM));
         REFUSED(PFAIR_NOT_PLANNED, pfair_places(&d, slots[k], &number, places, ROOM));
-        REFUSED(PFAIR_NOT_PLANNED, pfair_decisions(&d, slots[k], &number, decided, 0));
+        REFUSED(PFAIR_NOT_PLANNED, pfair_decisions(&d, 0, slots[k] + 1, &number, decided, ROOM));
+        REFUSED(PFAIR_NOT_PLANNED, pfair_decisions(&d, slots[k], slots[k] + 1, &number, decided, 0));
     }
     if (number != 77) fail(__LINE__, "a count was written", 0);
     for (size_t room = 0; room < 2; room++) {
@@ -237,8 +238,8 @@ static void reading(void) {
         if (number != before.table_rows[0]) fail(__LINE__, "the count is wrong", 0);
         REFUSED(PFAIR_NO_ROOM, pfair_places(&d, 0, &number, places, room));
         if (number != before.place_rows[0]) fail(__LINE__, "the count is wrong", 0);
-        REFUSED(PFAIR_NO_ROOM, pfair_decisions(&d, 0, &number, decided, room));
-        if (number != before.decided_rows[0]) fail(__LINE__, "the count is wrong", 0);
+        REFUSED(PFAIR_NO_ROOM, pfair_decisions(&d, 0, before.next, &number, decided, room));
+        if (number != before.decisions) fail(__LINE__, "the count is wrong", 0);
     }
     SAME(step, kept_step);
     SAME(pick, kept_pick);

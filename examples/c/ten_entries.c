@@ -96,12 +96,12 @@ static void write_table(struct pfair_dispatcher *d, uint64_t slot) {
 
 static void write_decisions(struct pfair_dispatcher *d, uint64_t slot) {
     static const char *const outcomes[] = {"admitted", "departing", "delayed"};
-    struct pfair_decided rows[ROOM];
+    struct pfair_decision rows[ROOM];
     uint64_t count;
-    must(pfair_decisions(d, slot, &count, rows, ROOM));
+    must(pfair_decisions(d, slot, slot + 1, &count, rows, ROOM));
     for (uint64_t k = 0; k < count; k++) {
         uint64_t outcome = rows[k].outcome;
-        printf("%" PRIu64 ",%" PRIu64 ",%" PRIu64 ",", slot, rows[k].processor, rows[k].number);
+        printf("%" PRIu64 ",%" PRIu64 ",%" PRIu64 ",", rows[k].slot, rows[k].processor, rows[k].number);
         write_name(&rows[k].name);
         printf(",%s,", outcome < 3 ? outcomes[outcome] : "refused");
         if (outcome == PFAIR_OUTCOME_DEPARTING) printf("%" PRIu64 "\n", rows[k].freed_at);

@@ -26,10 +26,7 @@ def fields_of(struct):
     for declared in STRUCTS[struct].split(";")[:-1]:
         *kind, first = declared.split(",")[0].split()
         for name in (first, *declared.split(",")[1:]):
-            if kind[0] == "struct" and kind[1] != "pfair_name":
-                yield from fields_of(kind[1].removeprefix("pfair_"))
-            else:
-                yield kind[-1], name.strip()
+            yield kind[-1], name.strip()
 
 
 @pytest.mark.parametrize("struct", ROWS)

@@ -172,7 +172,7 @@ static void not_open(void) {
     struct pfair_entry e = {.kind = 9};
     uint64_t n = 77, slot = 77;
     struct pfair_pick pick;
-    struct pfair_decided dec;
+    struct pfair_decision dec;
     uint8_t place = 9;
     memset(&pick, 9, sizeof pick);
     memset(&dec, 9, sizeof dec);
@@ -186,7 +186,7 @@ static void not_open(void) {
     ANSWERS(102, pfair_next_slot(&d, &slot));
     ANSWERS(102, pfair_table(&d, 0, &n, &pick, 0));
     ANSWERS(102, pfair_places(&d, UINT64_MAX, &n, &place, 1));
-    ANSWERS(102, pfair_decisions(&d, 0, &n, &dec, 1));
+    ANSWERS(102, pfair_decisions(&d, 0, 1, &n, &dec, 1));
     CHECK(n == 77 && slot == 77 && place == 9 && pick.index == 0x0909090909090909ull &&
               dec.number == 0x0909090909090909ull,
           "written");
@@ -333,14 +333,15 @@ static void rooms(void) {
     uint64_t taken, n = 77;
     struct pfair_pick pick[3];
     uint8_t place[3];
-    struct pfair_decided dec[3];
+    struct pfair_decision dec[3];
     ANSWERS(0, pfair_open(&d, 2, 6, 4, 5));
     memset(&s, 7, sizeof s);
     ANSWERS(0, pfair_plan_next(&d, &s));
     CHECK(s.kind == PFAIR_STEP_WAITING && s.slot == 0, "plan of nothing");
     ANSWERS(104, pfair_table(&d, 0, &n, pick, 3));
     ANSWERS(104, pfair_places(&d, 0, &n, place, 0));
-    ANSWERS(104, pfair_decisions(&d, UINT64_MAX, &n, dec, 0));
+    ANSWERS(104, pfair_decisions(&d, 0, 1, &n, dec, 0));
+    ANSWERS(104, pfair_decisions(&d, UINT64_MAX - 1, UINT64_MAX, &n, dec, 0));
     CHECK(n == 77, "count written");
     ANSWERS(0, pfair_reopen(&d));
     ANSWERS(0, take(&d, 0, 1, arrive("a", 1, 1, 0), &taken));
@@ -379,12 +380,12 @@ static void rooms(void) {
         ANSWERS(103, pfair_places(&d, 0, &n, place, room));
         CHECK(n == 2, "count");
         n = 77;
-        ANSWERS(103, pfair_decisions(&d, 0, &n, dec, room));
+        ANSWERS(103, pfair_decisions(&d, 0, 1, &n, dec, room));
         CHECK(n == 2, "count");
     }
     CHECK(pick[0].index == 0x3333333333333333ull && place[0] == 0x33 && dec[0].outcome == 0x3333333333333333ull,
           "rows written though there is no room");
-    ANSWERS(0, pfair_decisions(&d, 1, &n, dec, 0));
+    ANSWERS(0, pfair_decisions(&d, 1, 2, &n, dec, 0));
     CHECK(n == 0, "no decisions in room 0");
     /* torn, also behind the frontier and behind what is planned */
     ANSWERS(0, take(&d, 1, 3, nothing(9), &taken));
@@ -440,8 +441,8 @@ static void shapes(void) {
     CHECK(n == 9, "frontier past the slots");
     ANSWERS(0, pfair_plan_next(&a, &s));
     CHECK(s.kind == 0, "planned");
-    struct pfair_decided dec;
-    ANSWERS(0, pfair_decisions(&a, 0, &n, &dec, 1));
+    struct pfair_decision dec;
+    ANSWERS(0, pfair_decisions(&a, 0, 1, &n, &dec, 1));
     CHECK(n == 1 && dec.outcome == PFAIR_OUTCOME_PERIOD_OUTSIDE_FRAME, "period outside frame");
     /* torn by a join; the other stays whole */
     ANSWERS(0, take(&a, 1, 2, nothing(9), &taken));
@@ -719,7 +720,7 @@ static void several_slots(void) {
     memset(mark, 0x33, sizeof mark);
     memcpy(rows, mark, sizeof rows);
     ANSWERS(102, pfair_quanta(&d, 0, 0, &count, rows, 3));
-    ANSWERS(102, pfair_decisions_of(&d, 0, 0, &count, NULL, 0));
+    ANSWERS(102, pfair_decisions(&d, 0, 0, &count, NULL, 0));
     ANSWERS(0, pfair_open(&d, 1, 6, 6, 4));
     ANSWERS(0, take(&d, 0, 1, arrive("a", 1, 2, 0), &taken));
     ANSWERS(0, take(&d, 0, 2, nothing(4), &taken));
@@ -746,15 +747,15 @@ static void several_slots(void) {
     struct pfair_decision said[2];
     memset(said, 0x33, sizeof said);
     count = 77;
-    ANSWERS(104, pfair_decisions_of(&d, 0, 5, &count, said, 2));
+    ANSWERS(104, pfair_decisions(&d, 0, 5, &count, said, 2));
     CHECK(count == 77, "written");
-    ANSWERS(103, pfair_decisions_of(&d, 0, 4, &count, said, 0));
+    ANSWERS(103, pfair_decisions(&d, 0, 4, &count, said, 0));
     CHECK(count == 1 && said[0].slot == 0x3333333333333333ull, "count alone");
-    ANSWERS(0, pfair_decisions_of(&d, 1, 4, &count, NULL, 0));
+    ANSWERS(0, pfair_decisions(&d, 1, 4, &count, NULL, 0));
     CHECK(count == 0, "none behind slot 0");
-    ANSWERS(0, pfair_decisions_of(&d, 0, 4, &count, said, 2));
-    CHECK(count == 1 && said[0].slot == 0 && said[0].decided.number == 1, "the arrival");
-    CHECK(said[0].decided.outcome == PFAIR_OUTCOME_ADMITTED, "its outcome");
+    ANSWERS(0, pfair_decisions(&d, 0, 4, &count, said, 2));
+    CHECK(count == 1 && said[0].slot == 0 && said[0].number == 1, "the arrival");
+    CHECK(said[0].outcome == PFAIR_OUTCOME_ADMITTED, "its outcome");
     CHECK(said[1].slot == 0x3333333333333333ull, "a row behind was written");
     ANSWERS(0, pfair_close(&d));
 }

@@ -22,12 +22,12 @@ static uint64_t *all_told(uint64_t slots, uint64_t late_at) {
 /* A slot has no rows. */
 static void told_nothing(struct pfair_dispatcher *d, uint64_t slot) {
     struct pfair_pick picks[PROCESSORS];
-    struct pfair_decided decided[TASKS];
+    struct pfair_decision decided[TASKS];
     uint8_t places[PROCESSORS];
     uint64_t count = 77;
     ANSWERS(104, pfair_table(d, slot, &count, picks, PROCESSORS));
     ANSWERS(104, pfair_places(d, slot, &count, places, PROCESSORS));
-    ANSWERS(104, pfair_decisions(d, slot, &count, decided, TASKS));
+    ANSWERS(104, pfair_decisions(d, slot, slot + 1, &count, decided, TASKS));
     CHECK(count == 77, "%" PRIu64 " rows counted", count);
 }
 
@@ -46,18 +46,18 @@ static void told_from(struct pfair_dispatcher *d, uint64_t first, uint64_t plann
     if (first < to) {
         ANSWERS(0, pfair_quanta(d, first, to, &count, quanta, PROCESSORS * 4));
         CHECK(count > 0 && quanta[0].slot == first, "%" PRIu64 " quanta", count);
-        ANSWERS(0, pfair_decisions_of(d, first, to, &count, decisions, TASKS + 1));
+        ANSWERS(0, pfair_decisions(d, first, to, &count, decisions, TASKS + 1));
     }
     if (first > 0) {
         count = 77;
         ANSWERS(104, pfair_quanta(d, first - 1, first + 1, &count, quanta, PROCESSORS * 4));
-        ANSWERS(104, pfair_decisions_of(d, first - 1, first, &count, decisions, TASKS + 1));
+        ANSWERS(104, pfair_decisions(d, first - 1, first, &count, decisions, TASKS + 1));
         ANSWERS(104, pfair_lags(d, planned - 1, planned, &count, lags, TASKS));
         CHECK(count == 77, "%" PRIu64 " rows counted", count);
         ANSWERS(0, pfair_quanta(d, 0, 0, &count, quanta, 0));
         CHECK(count == 0, "%" PRIu64 " quanta of no slots", count);
         count = 77;
-        ANSWERS(0, pfair_decisions_of(d, first - 1, first - 1, &count, decisions, 0));
+        ANSWERS(0, pfair_decisions(d, first - 1, first - 1, &count, decisions, 0));
         CHECK(count == 0, "%" PRIu64 " decisions of no slots", count);
         count = 77;
         ANSWERS(0, pfair_lags(d, 1, 0, &count, lags, 0));

@@ -136,19 +136,19 @@ static void all_quanta(struct pfair_dispatcher *d, uint64_t slots) {
 /* The same of the decisions. */
 static void all_decisions(struct pfair_dispatcher *d, uint64_t slots) {
     uint64_t count = 0, rest = 0, at = 0, n, cut = draw(slots + 1);
-    uint32_t answer = pfair_decisions_of(d, 0, slots, &count, NULL, 0);
+    uint32_t answer = pfair_decisions(d, 0, slots, &count, NULL, 0);
     CHECK(answer == (count ? 103 : 0), "answered %" PRIu32, answer);
     struct pfair_decision *rows = malloc((count + 1) * sizeof *rows);
-    struct pfair_decided *here = malloc((count + 1) * sizeof *here);
+    struct pfair_decision *here = malloc((count + 1) * sizeof *here);
     memset(rows, 0x77, (count + 1) * sizeof *rows);
-    ANSWERS(0, pfair_decisions_of(d, 0, cut, &rest, rows, count));
-    ANSWERS(0, pfair_decisions_of(d, cut, slots, &n, rows + rest, count - rest));
+    ANSWERS(0, pfair_decisions(d, 0, cut, &rest, rows, count));
+    ANSWERS(0, pfair_decisions(d, cut, slots, &n, rows + rest, count - rest));
     CHECK(rest + n == count, "%d decisions in two parts, %d in one", (int)(rest + n), (int)count);
     for (uint64_t slot = 0; slot < slots; slot++) {
-        ANSWERS(0, pfair_decisions(d, slot, &n, here, count));
+        ANSWERS(0, pfair_decisions(d, slot, slot + 1, &n, here, count));
         for (uint64_t k = 0; k < n && at < count; k++, at++)
-            CHECK(rows[at].slot == slot && !memcmp(&rows[at].decided, &here[k], sizeof *here), "decision %d of slot %d",
-                  (int)k, (int)slot);
+            CHECK(rows[at].slot == slot && !memcmp(&rows[at], &here[k], sizeof *here), "decision %d of slot %d", (int)k,
+                  (int)slot);
     }
     CHECK(at == count && rows[count].slot == 0x7777777777777777ull, "no row less or more");
     free(rows);
@@ -215,7 +215,7 @@ static void random_run(int M, uint64_t slots, int tasks) {
     uint64_t was_count = 0;
     uint8_t was_place[64] = {0};
     for (uint64_t slot = 0; slot < slots; slot++) {
-        struct pfair_decided rows[64 * ENTRIES];
+        struct pfair_decision rows[64 * ENTRIES];
         struct pfair_pick picks[65];
         uint8_t places[65], wanted_place[64], used[64] = {0};
         uint64_t n = 0, wanted = 0, freed;
@@ -228,7 +228,7 @@ static void random_run(int M, uint64_t slots, int tasks) {
                     said[wanted++].e = logs[p][k];
                 }
         struct pfair_dispatcher *asked = &d[slot % 2];
-        ANSWERS(0, pfair_decisions(asked, slot, &n, rows, 64 * ENTRIES));
+        ANSWERS(0, pfair_decisions(asked, slot, slot + 1, &n, rows, 64 * ENTRIES));
         CHECK(n == wanted, "decisions");
         for (uint64_t k = 0; k < n && k < wanted; k++) {
             char name[17] = {0};
@@ -236,7 +236,7 @@ static void random_run(int M, uint64_t slots, int tasks) {
             uint64_t outcome = decide(all, &count, &said[k].e, slot, M, frame, &freed);
             outcomes[outcome]++;
             name_equal(rows[k].name, name, __LINE__);
-            CHECK(rows[k].processor == (uint64_t)said[k].p && rows[k].number == said[k].n &&
+            CHECK(rows[k].slot == slot && rows[k].processor == (uint64_t)said[k].p && rows[k].number == said[k].n &&
                       rows[k].outcome == outcome && rows[k].freed_at == freed,
                   "decision %d of slot %d: %d wanted %d", (int)k, (int)slot, (int)rows[k].outcome, (int)outcome);
             gone(all, &count, slot);
@@ -300,7 +300,7 @@ static uint64_t digest(struct pfair_dispatcher *d) {
     uint64_t n, slots, sum = 1469598103934665603ull;
     struct pfair_pick pick[64];
     uint8_t place[64];
-    struct pfair_decided dec[64];
+    struct pfair_decision dec[64];
     if (pfair_next_slot(d, &slots)) return 0;
     for (uint64_t slot = 0; slot < slots; slot++) {
         if (pfair_table(d, slot, &n, pick, 64)) return 1;
@@ -308,7 +308,7 @@ static uint64_t digest(struct pfair_dispatcher *d) {
             for (size_t b = 0; b < sizeof *pick; b++) sum = (sum ^ ((uint8_t *)&pick[k])[b]) * 1099511628211ull;
         if (pfair_places(d, slot, &n, place, 64)) return 2;
         for (uint64_t k = 0; k < n; k++) sum = (sum ^ place[k]) * 1099511628211ull;
-        if (pfair_decisions(d, slot, &n, dec, 64)) return 3;
+        if (pfair_decisions(d, slot, slot + 1, &n, dec, 64)) return 3;
         for (uint64_t k = 0; k < n; k++)
             for (size_t b = 0; b < sizeof *dec; b++) sum = (sum ^ ((uint8_t *)&dec[k])[b]) * 1099511628211ull;
     }

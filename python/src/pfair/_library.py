@@ -114,7 +114,7 @@ _CALLS: dict[str, list[Any]] = {
     "pfair_frontier": [_handle, _number],
     "pfair_next_slot": [_handle, _number],
     "pfair_quanta": [_handle, _u64, _u64, _number, _array, _size],
-    "pfair_decisions_of": [_handle, _u64, _u64, _number, _array, _size],
+    "pfair_decisions": [_handle, _u64, _u64, _number, _array, _size],
     "pfair_lags": [_handle, _u64, _u64, _number, _array, _size],
     "pfair_members": [_handle, _number, _array, _size],
     "pfair_state": [_handle, _number, _array, _size],

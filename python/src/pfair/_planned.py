@@ -89,7 +89,7 @@ def decisions(self: Dispatcher, start: int = 0, stop: Optional[int] = None) -> R
     -----
     O(s + r) for s slots and r rows.
     """
-    return _range(self, "pfair_decisions_of", DECISION, start, stop)
+    return _range(self, "pfair_decisions", DECISION, start, stop)
 
 
 def lags(self: Dispatcher, start: int = 0, stop: Optional[int] = None) -> Rows:

@@ -13,7 +13,6 @@ use Rattle.pfair_table.specs.Table.{Origin, Table}
 use Rattle.pfair_table.specs.Places.{places_in}
 use Rattle.pfair_c.specs.declared.name.PfairName.{PfairName}
 use Rattle.pfair_c.specs.declared.table.PfairPick.{PfairPick}
-use Rattle.pfair_c.specs.declared.decisions.PfairDecided.{PfairDecided}
 use Rattle.pfair_c.specs.declared.held.PfairKey.{PfairKey}
 use Rattle.pfair_c.specs.declared.quanta.PfairQuantum.{PfairQuantum}
 use Rattle.pfair_c.specs.declared.decisions.PfairDecision.{PfairDecision}
@@ -40,10 +39,6 @@ freed_slot Admitted = 0
 freed_slot (Departing freed_at) = freed_at
 freed_slot Delayed = 0
 freed_slot (Refused refusal) = 0
-
--- a decision
-abbrev pub decided_row : Decided → PfairDecided
-decided_row d = record { name = name_row (name_of d.announcement); processor = d.proc; number = d.number; outcome = outcome_of d.decision; freed_at = freed_slot d.decision }
 
 -- a processor and a number
 abbrev pub key_row : EntryKey → PfairKey
@@ -92,7 +87,14 @@ quanta_of o tables from to = rows_of (quanta_at o tables) from (to - from)
 
 -- a decision with its slot
 abbrev pub decision_row : (slot : ℕ) → Decided → PfairDecision
-decision_row slot d = record { slot = slot; decided = decided_row d }
+decision_row slot d = record {
+  slot = slot;
+  name = name_row (name_of d.announcement);
+  processor = d.proc;
+  number = d.number;
+  outcome = outcome_of d.decision;
+  freed_at = freed_slot d.decision;
+}
 
 -- the decisions at the boundary of slot t
 abbrev pub decisions_at : List (List Decided) → ℕ → List PfairDecision

@@ -4,10 +4,9 @@ use Rattle.std.specs.declared.option.Option.TheVariants.{None, Some}
 use Rattle.std.specs.Option.{option_map}
 use Rattle.pfair_table.specs.Places.{places_in}
 use Rattle.pfair_c.specs.declared.table.PfairPick.{PfairPick}
-use Rattle.pfair_c.specs.declared.decisions.PfairDecided.{PfairDecided}
 use Rattle.pfair_c.specs.declared.quanta.PfairQuantum.{PfairQuantum}
 use Rattle.pfair_c.specs.declared.decisions.PfairDecision.{PfairDecision}
-use Rattle.pfair_c.specs.Rows.{written_over, pick_row, decided_row, quanta_of, decisions_of}
+use Rattle.pfair_c.specs.Rows.{written_over, pick_row, quanta_of, decisions_of}
 use Rattle.pfair_c.specs.declared.lags.PfairLag.{PfairLag}
 use Rattle.pfair_c.specs.Lags.{lags_of}
 use Rattle.pfair_admission.specs.Member.{Member}
@@ -54,15 +53,12 @@ abbrev pub AreTold : {B : Type 0} → (counted : Option (List B) → ℕ → ℕ
 AreTold counted told d answer old new =
     (answer ≡ rows_answer (told d) (length old.1)) × (new.0 ≡ counted (told d) old.0) × (new.1 ≡ rows_laid (told d) old.1)
 
--- the table of a planned slot, its places, and the decisions at its boundary
+-- the table of a planned slot, and its places
 abbrev pub table_of : (slot : ℕ) → Dispatch → Option (List PfairPick)
 table_of slot d = option_map (map pick_row) (told_at d.forgotten d.tables slot)
 
 abbrev pub places_at : (slot : ℕ) → Dispatch → Option (List ℕ)
 places_at slot d = told_at d.forgotten (places_in d.origin d.tables) slot
-
-abbrev pub decided_at : (slot : ℕ) → Dispatch → Option (List PfairDecided)
-decided_at slot d = option_map (map decided_row) (told_at d.forgotten d.decided slot)
 
 -- the quanta of the slots `from` to `to` - 1, if all of these are planned, and none is forgotten
 abbrev pub quanta_between : (from to : ℕ) → Dispatch → Option (List PfairQuantum)

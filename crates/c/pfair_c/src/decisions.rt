@@ -1,8 +1,8 @@
-//! Decisions, in rows.
+//! The decisions of several slots, in rows.
 ghost use Rattle.std.specs.Prelude.{◌≡◌, ◌≤◌, ◌+◌, ◌++◌, length, map, min, take, drop};
 ghost use Rattle.pfair_c.specs.Answered.{Reads};
-ghost use Rattle.pfair_c.specs.Rows.{decided_row, slot_of, decision_row, decisions_at, decisions_of, written_over};
-ghost use Rattle.pfair_c.specs.Told.{AreTold, rows_count, rows_counted, decided_at, decisions_between};
+ghost use Rattle.pfair_c.specs.Rows.{slot_of, decision_row, decisions_at, decisions_of, written_over};
+ghost use Rattle.pfair_c.specs.Told.{AreTold, rows_counted, decisions_between};
 
 use crate::answer::{DONE, NOT_PLANNED};
 use crate::name::{PfairName, name_row};
@@ -14,10 +14,12 @@ use pfair_ready::Ready;
 use pfair_table::{Decided, Dispatcher};
 use std::alloc::Global;
 
-/// A decision at a slot's boundary.
+/// A decision at the boundary of one of several slots.
 #[repr(C)]
 #[derive(Clone, Copy)]
-pub struct PfairDecided {
+pub struct PfairDecision {
+    /// The slot.
+    pub slot: u64,
     /// The task.
     pub name: PfairName,
     /// The processor in whose log the entry stands, counted from 0.
@@ -30,41 +32,10 @@ pub struct PfairDecided {
     pub freed_at: u64,
 }
 
-/// A decision at the boundary of one of several slots.
-#[repr(C)]
-#[derive(Clone, Copy)]
-pub struct PfairDecision {
-    /// The slot.
-    pub slot: u64,
-    /// What was decided.
-    pub decided: PfairDecided,
-}
-
-/// Writes the decisions at the boundary of a planned slot, by processor and number. O(rows).
-#[unsafe(no_mangle)]
-pub extern "C" fn pfair_decisions(
-    alloc: Global,
-    handle: &mut Handle,
-    slot: u64,
-    count: &mut u64,
-    rows: &mut [PfairDecided],
-) -> u32
-    ensures { Reads handle.old.owner.kept handle.new.owner.kept result (count.old, rows.old) (count.new, rows.new) (AreTold rows_count (decided_at slot)) }
-{
-    tell_rows(alloc, handle, count, rows, |dispatcher, count, rows| {
-        let Some(decided) = dispatcher.decisions(slot) else {
-            return NOT_PLANNED;
-        };
-        lay_rows(decided.len() as u64, count, rows, |rows| {
-            write_decisions(decided, rows)
-        })
-    })
-}
-
 /// Writes the decisions at the boundaries of the planned slots `from` to `to` - 1, slot by slot, each
 /// slot's by processor and number; none if `from` isn't below `to`. O(slots + rows).
 #[unsafe(no_mangle)]
-pub extern "C" fn pfair_decisions_of(
+pub extern "C" fn pfair_decisions(
     alloc: Global,
     handle: &mut Handle,
     from: u64,
@@ -83,27 +54,17 @@ pub extern "C" fn pfair_decisions_of(
             *count = 0;
             return DONE;
         }
-        let wanted = write_several(dispatcher, from, to, &mut []);
+        let wanted = write_decisions(dispatcher, from, to, &mut []);
         lay_rows(wanted, count, rows, |rows| {
-            write_several(dispatcher, from, to, rows);
+            write_decisions(dispatcher, from, to, rows);
         })
     })
-}
-
-/// Writes decisions over the first rows. O(rows).
-fn write_decisions(decisions: &[Decided], rows: &mut [PfairDecided])
-    requires { length decisions.now ≤ length rows.old }
-    ensures { rows.new ≡ written_over (map decided_row decisions.now) rows.old }
-{
-    for (place, one) in decisions.iter().enumerate() {
-        rows[place] = decided_row(one);
-    }
 }
 
 // Returns how many decisions the slots `from` to `to` - 1, none of which is forgotten, have, if they are planned, but no
 // more than fit into 64 bits; and writes them over the first rows, if there is room for all, slot by slot, each slot's
 // in the order of processor and number. O(slots + rows).
-fn write_several<R: Ready>(
+fn write_decisions<R: Ready>(
     dispatcher: &Dispatcher<R>,
     from: u64,
     to: u64,
@@ -147,16 +108,13 @@ fn write_rows(slot: u64, decided: &[Decided], rows: &mut [PfairDecision])
     ensures { rows.new ≡ written_over (map (decision_row slot) decided.now) rows.old }
 {
     for (row, one) in decided.iter().enumerate() {
-        rows[row] = PfairDecision {
-            slot,
-            decided: decided_row(one),
-        };
+        rows[row] = decision_row(slot, one);
     }
 }
 
 /// The decision as C has it.
-fn decided_row(one: &Decided) -> PfairDecided
-    ensures { result ≡ decided_row one.now }
+fn decision_row(slot: u64, one: &Decided) -> PfairDecision
+    ensures { result ≡ decision_row slot one.now }
 {
     let (outcome, freed_at) = match one.decision {
         Decision::Admitted => (0, 0),
@@ -164,7 +122,8 @@ fn decided_row(one: &Decided) -> PfairDecided
         Decision::Delayed => (2, 0),
         Decision::Refused(refusal) => (refusal.number() as u64, 0),
     };
-    PfairDecided {
+    PfairDecision {
+        slot,
         name: name_row(&one.announcement.name()),
         processor: one.proc as u64,
         number: one.number as u64,

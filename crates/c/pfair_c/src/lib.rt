@@ -25,7 +25,7 @@ mod take;
 mod version;
 mod window;
 
-pub use decisions::{PfairDecided, PfairDecision, pfair_decisions, pfair_decisions_of};
+pub use decisions::{PfairDecision, pfair_decisions};
 pub use dispatcher::{pfair_absorb, pfair_close, pfair_next_run, pfair_open};
 pub use entry::PfairEntry;
 pub use file::{PfairFileFault, pfair_read_file};
