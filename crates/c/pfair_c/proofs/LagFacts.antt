@@ -1,12 +1,10 @@
 -- A book of lags that is notified slot by slot, and its rows.
-use Rattle.std.proofs.Common.{◌≡◌, ◌+◌, ◌-◌, ℕ, zero, suc, ◌<◌, ◌≤◌, ◌++◌, ◌∷◌, [], List, length, map, take, drop, Some, None, refl, sym, arith, ◌∙◌, ap, append_assoc}
+use Rattle.std.proofs.Common.{◌≡◌, ◌+◌, ◌-◌, ℕ, zero, suc, ◌<◌, ◌≤◌, ◌++◌, ◌∷◌, [], List, length, map, take, drop, Some, refl, sym, arith, ◌∙◌, ap, append_assoc}
 use Rattle.std.proofs.lemmas.List.{length-map, length-append}
 use Rattle.std.specs.Prelude.{slice_get}
-use Rattle.std.specs.Option.{option_map}
-use Rattle.pfair_lag.specs.Book.{Book, empty_book}
+use Rattle.pfair_lag.specs.Book.{Book}
 use Rattle.pfair_table.specs.declared.pick.Decided.{Decided}
-use Rattle.pfair_admission.specs.Member.{Member}
-use Rattle.pfair_table.specs.Table.{Table, Origin}
+use Rattle.pfair_table.specs.Table.{Table}
 use Rattle.pfair_table.specs.Refinement.{Dispatch}
 use Rattle.pfair_output.proofs.BookFacts.{first_time}
 use Rattle.pfair_output.specs.Told.{slot_told, all_slots_told, first_book}
