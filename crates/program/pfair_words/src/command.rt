@@ -7,7 +7,7 @@ use clap::{Arg, ArgAction, Command};
 use std::alloc::{AllocError, Global};
 
 // The version of both programs, which `--version` prints after the name.
-const VERSION: &str = "0.5.0";
+const VERSION: &str = "0.6.0";
 
 /// What help says of a program or of a command.
 #[derive(Clone, Copy)]
