@@ -150,7 +150,7 @@
 extern "C" {
 #endif
 
-/* What calls answer. Numbers below 100, except 32 to 34, are also those of the programs' faults. */
+/* What calls answer. Numbers below 100, except 32, are also those of the programs' faults. */
 enum pfair_answer {
     PFAIR_DONE = 0,
     PFAIR_NAME_EMPTY = 1,         /* a name of no bytes */
