@@ -124,6 +124,8 @@ def arrival(**fields):
 @example(("late", {"name": "a", "index": 0, "by": 1, "at": 0, "floor": 1}))
 @example(("depart", {"name": "a", "at": 10**6 + 1, "floor": 10**6 + 2}))
 @example(arrival(cost=10**9 + 2, period=10**9 + 1))
+@example(arrival(cost=10**9, period=10**9, at=10**6, floor=10**6))
+@example(("late", {"name": "a" * 16, "index": 10**6, "by": 2**20, "at": 10**6, "floor": 10**6}))
 @example(arrival(cost=0, name=""))
 @example(arrival(cost=0, at=1, floor=2))
 @example(arrival(name="\u00c9" * 9))

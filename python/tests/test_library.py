@@ -56,25 +56,19 @@ def constants_of(enum):
     return {int(number): words for words, number in re.findall(r"PFAIR_(\w+) = (\d+)", ENUMS[enum])}
 
 
-def test_names_of_the_header():
-    """A constant that isn't an answer has a word of its enum's name before its own, the same in all of the enum."""
-    assert len(ENUMS) == 9
-    for enum in ENUMS.keys() - {"answer"}:
-        firsts = {words.split("_")[0] for words in constants_of(enum).values()}
-        assert len(firsts) == 1 and firsts <= {*enum.upper().split("_")}, enum
-
-
 def test_numbers_of_the_header():
     """The outcomes of decisions, the keys of a task file, and what is found and done."""
     outcomes = constants_of("outcome")
     assert outcomes == {n: f"OUTCOME_{words.upper().replace(' ', '_')}" for n, words in pfair.OUTCOMES.items()}
-    keys = {place: f"KEY_{key.upper()}" for place, key in enumerate(_dispatcher._KEYS) if key}
-    assert constants_of("key_of_file") == keys
+    assert constants_of("key_of_file") == {n: f"KEY_{key.upper()}" for n, key in enumerate(_dispatcher._KEYS) if key}
     assert constants_of("taken") == {n: f"TAKEN_{word.upper()}" for n, word in enumerate(_take.TAKEN)}
     assert constants_of("step_kind") == {0: "STEP_PLANNED", 1: "STEP_WAITING", 2: "STEP_ALL_PLANNED"}
-    assert _plans.STEPS == ("planned", "waiting", "done")
+    assert _plans.STEPS == ("planned", "waiting", "done") and len(ENUMS) == 9
     assert constants_of("kind") == {n: f"KIND_{(kind or 'nothing').upper()}" for n, kind in enumerate(_entries.KINDS)}
     assert constants_of("miss_kind") == {0: "MISS_NONE", 1: "MISS_EARLY", 2: "MISS_TARDY", 3: "MISS_UNSERVED"}
+    for enum in ENUMS.keys() - {"answer"}:  # a constant begins with a word of its enum's name, the same in all of it
+        firsts = {words.split("_")[0] for words in constants_of(enum).values()}
+        assert len(firsts) == 1 and firsts <= {*enum.upper().split("_")}, enum
 
 
 class Fake:
