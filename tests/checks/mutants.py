@@ -114,9 +114,14 @@ def changes(tree):
             yield node, "value", not node.value if isinstance(node.value, bool) else node.value + more
 
 
+def begin_of(source):
+    """The line by which the system runs a script, or nothing."""
+    return source[: source.index("\n") + 1] if source.startswith("#!") else ""
+
+
 def plain(source):
     """A file without what a parser passes over, as its mutants are."""
-    return ast.unparse(ast.parse(source))
+    return begin_of(source) + ast.unparse(ast.parse(source))
 
 
 def mutants_of(file, source):
@@ -127,7 +132,7 @@ def mutants_of(file, source):
     for node, name, new in changes(tree):
         old = getattr(node, name)
         setattr(node, name, new)
-        text = ast.unparse(tree)
+        text = begin_of(source) + ast.unparse(tree)
         setattr(node, name, old)
         pairs = enumerate(zip(text.splitlines(), lines), 1)
         number, changed = next(((number, one) for number, (one, other) in pairs if one != other), (0, None))
