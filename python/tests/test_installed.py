@@ -88,6 +88,8 @@ def test_install_twice(clone, prefix):
     shutil.rmtree(clone)
     for name in ("pfair", "pfair_follow"):
         assert run(clone, place / "bin" / name, "a", "b  c", "") == (0, f"{name}<a><b  c><>", "")
+    picture = place / "share/pfair/scripts/pfair_picture"
+    assert run(clone, picture, "--version") == (0, f"pfair_picture {VERSION}\n", "")
 
 
 @pytest.mark.parametrize("prefix", ["/usr", "/usr/", "/opt/pfair"])
@@ -147,17 +149,15 @@ def test_pictures(clone, stand_in):
     (clone.parent / "file").write_text(FILE)
     other = stand_in(ROWS)
     path, picture = f"{other.parent}:{os.environ['PATH']}", clone / "scripts/pfair_picture"
-    shutil.copy(other, clone / "scripts/pfair")
-    beside = (clone / "scripts/pfair").read_text().replace("echo", "echo beside", 1)
-    program(clone / "scripts/pfair", beside)
+    program(clone / "scripts/pfair", other.read_text().replace("echo", "echo beside", 1))
     drawn, calls = run(clone, picture, "schedule", "file", PATH=path), clone.parent / "calls"
     assert drawn.status == 0 and drawn.out.startswith("<svg ") and not drawn.err
     assert calls.read_text().splitlines() == ["build pfair", "beside decisions file", "beside replay --affinity file"]
-    for words in (("--help",), ("lags", "-h"), ("--version",), ("schedule", "--program", other, "file")):
+    for words in (("schedule", "--help"), ("lags", "-h"), ("--version",), ("schedule", "--program", other, "file")):
         calls.write_text("")
         assert run(clone, picture, *words, PATH=path).status == 0 and "build" not in calls.read_text()
     program(clone / "scripts/build", "exit 3")
-    assert run(clone, picture, "schedule", "file", PATH=path) == (3, "", "")
+    assert run(clone, picture, "lags", "file", PATH=path) == (3, "", "") and not list(clone.rglob("__pycache__"))
     for name in ("build", "pfair"):
         (clone / "scripts" / name).unlink()
     calls.write_text("")
