@@ -1,18 +1,15 @@
 //! What no contract says: that memory suffices, what is complained of, and the rows of runs that were
 //! worked out by hand.
 
-ghost use Rattle.pfair_follow.specs.Runs.{IsFresh};
-
 use crate::fault::{FollowFault, write_fault};
-use crate::rows::{follow_and_leave, follow_rows};
-use crate::state::{later, load};
+use crate::rows::follow_rows;
+use crate::state::load;
 use pfair_entry_row::RowFault;
 use pfair_feed::{Follower, Output};
 use pfair_file::ProgramFault;
 use pfair_ready::HeapReady;
 use pfair_state::{ReadFault, Why};
 use pfair_table::{NextRunFault, Settings};
-use pfair_words::follow::Resumed;
 use std::alloc::Global;
 use std::io;
 use std::io::{Read, Write};
@@ -36,12 +33,8 @@ const PLACED: &str = "slot,processor,task,index,place\n0,0,a,1,0\n1,0,a,2,0\n";
 
 const DECISIONS: &str = "slot,processor,number,task,outcome,value\n0,0,1,a,admitted,-\n";
 
-// What that run leaves, and the rows and the lags of the next one.
+// The state that this run leaves.
 const LEFT: &str = "state,1,4,1,4\nmember,a,2,4,true,0,3,-\nend,3\n";
-
-const LATER: &str = "0,0,a,3\n1,0,a,4\n";
-
-const LATER_LAGS: &str = "1,a,-2,4\n2,a,-4,4\n3,a,-2,4\n4,a,0,4\n";
 
 const LAGS: &str = "time,task,numerator,period\n1,a,-2,4\n2,a,-4,4\n3,a,-2,4\n4,a,0,4\n";
 
@@ -131,14 +124,6 @@ impl Read for Failing {
     }
 }
 
-// A follower of the first run of one processor, four slots long.
-fn first(rt: &impl Abort, alloc: Global, output: Output, from: u64) -> Follower<HeapReady>
-    ensures { IsFresh result }
-{
-    let settings = Settings::new(1, 4, 4).expect(rt, "settings");
-    Follower::new(alloc, settings, 4096, output, from).expect(rt, "memory")
-}
-
 // What a run writes and tells, and the number of its fault, or 0.
 #[derive(Drop)]
 struct End {
@@ -161,25 +146,29 @@ fn fault_of<T>(end: &Result<T, FollowFault>) -> u8 {
     }
 }
 
+// Feeds the first run of one processor, four slots long, and returns the number of the fault.
+fn followed<I: Read, W: Write>(
+    rt: &impl Abort,
+    alloc: Global,
+    asked: (Output, u64, bool),
+    reader: &mut I,
+    rows: &mut W,
+    told: &mut Vec<u8>,
+) -> u8 {
+    let (output, from, is_strict) = asked;
+    let settings = Settings::new(1, 4, 4).expect(rt, "settings");
+    let mut follower: Follower<HeapReady> = Follower::new(
+        alloc, settings, 4096, output, from,
+    ).expect(rt, "memory");
+    number_of(&follow_rows(alloc, &mut follower, reader, rows, told, is_strict))
+}
+
 // Runs the rows of one output, and returns what is written and told, and the number of the fault.
 fn fed<I: Read>(rt: &impl Abort, alloc: Global, asked: (Output, u64, bool), reader: &mut I) -> End {
-    let (output, from, is_strict) = asked;
-    let mut follower = first(rt, alloc, output, from);
     let mut rows: Vec<u8> = Vec::new(alloc);
     let mut told: Vec<u8> = Vec::new(alloc);
-    let end = follow_rows(
-        alloc,
-        &mut follower,
-        reader,
-        &mut rows,
-        &mut told,
-        is_strict,
-    );
-    End {
-        rows,
-        told,
-        number: number_of(&end),
-    }
+    let number = followed(rt, alloc, asked, reader, &mut rows, &mut told);
+    End { rows, told, number }
 }
 
 #[test]
@@ -206,95 +195,16 @@ fn a_reader_that_fails_at_its_end(rt: HostRuntime) {
 #[test]
 fn a_writer_that_fails_at_each_byte(rt: HostRuntime) {
     for left in 0..TABLES.len() {
-        let mut follower = first(&rt, rt.alloc(), Output::Tables, 0);
         let mut out = Room {
             taken: Vec::new(rt.alloc()),
             left,
         };
         let mut told: Vec<u8> = Vec::new(rt.alloc());
+        let asked = (Output::Tables, 0, false);
         let mut reader = BACKWARDS.as_bytes();
-        let end = follow_rows(
-            rt.alloc(),
-            &mut follower,
-            &mut reader,
-            &mut out,
-            &mut told,
-            false,
-        );
-        assert!(rt; number_of(&end) == 71 && told.is_empty());
+        let number = followed(&rt, rt.alloc(), asked, &mut reader, &mut out, &mut told);
+        assert!(rt; number == 71 && told.is_empty());
         assert_eq!(rt; out.taken.as_slice(), &TABLES.as_bytes()[..left]);
-    }
-}
-
-#[test]
-fn a_run_leaves_a_state_and_the_next_one_begins_with_it(rt: HostRuntime) {
-    let alloc = rt.alloc();
-    let mut follower = first(&rt, alloc, Output::Tables, 0);
-    let mut rows: Vec<u8> = Vec::new(alloc);
-    let mut told: Vec<u8> = Vec::new(alloc);
-    // what comes behind the last slot's row isn't looked at
-    let mut reader: &[u8] = b"0,2,4,-,-,-,-,-,-,-,-\n0,1,0,0,arrive,a,2,4,true,-,-\nno row\n";
-    let left = follow_and_leave(
-        alloc,
-        &mut follower,
-        &mut reader,
-        &mut rows,
-        &mut told,
-        true,
-    );
-    assert_eq!(rt; left.expect(&rt, "a state").as_slice(), LEFT.as_bytes());
-    assert_eq!(rt; rows.as_slice(), TABLES.as_bytes());
-    assert!(rt; told.is_empty());
-    for (output, from, wanted) in [
-        (Output::Tables, 0, LATER),
-        (Output::Tables, 1, "1,0,a,4\n"),
-        (Output::Decisions, 0, ""),
-        (Output::Lags, 0, LATER_LAGS),
-    ] {
-        let state = load(alloc, &mut LEFT.as_bytes()).expect(&rt, "that state");
-        let resumed = asked(alloc, 4, None, None);
-        let mut next: Follower<HeapReady> = later(alloc, state, &resumed, output, from).expect(
-            &rt, "a run",
-        );
-        let mut rows: Vec<u8> = Vec::new(alloc);
-        let mut reader: &[u8] = b"0,1,4,-,-,-,-,-,-,-,-\n";
-        let end = follow_rows(alloc, &mut next, &mut reader, &mut rows, &mut told, true);
-        assert!(rt; end.is_ok() && told.is_empty());
-        assert_eq!(rt; rows.as_slice(), wanted.as_bytes());
-    }
-}
-
-// What is asked of a run that begins with a state.
-fn asked(alloc: Global, slots: u64, processors: Option<u64>, frame: Option<u64>) -> Resumed {
-    Resumed {
-        file: String::new(alloc),
-        slots,
-        processors,
-        frame,
-    }
-}
-
-#[test]
-fn a_state_has_the_processors_and_the_frame_that_are_asked_for(rt: HostRuntime) {
-    for (slots, processors, frame, number) in [
-        (4, None, None, 0),
-        (1_000_000, Some(1), Some(4), 0),
-        (0, None, None, 80),
-        (1_000_001, None, None, 80),
-        (4, Some(2), None, 80),
-        (4, Some(257), None, 80),
-        (4, None, Some(1), 80),
-    ] {
-        let state = load(rt.alloc(), &mut LEFT.as_bytes()).expect(&rt, "that state");
-        let resumed = asked(rt.alloc(), slots, processors, frame);
-        let begun: Result<Follower<HeapReady>, FollowFault> = later(
-            rt.alloc(),
-            state,
-            &resumed,
-            Output::Tables,
-            0,
-        );
-        assert_eq!(rt; fault_of(&begun), number);
     }
 }
 
@@ -309,23 +219,6 @@ fn a_state_is_read_whole_or_refused(rt: HostRuntime) {
     };
     let state = load(rt.alloc(), &mut reader);
     assert_eq!(rt; fault_of(&state), 70);
-}
-
-#[test]
-fn a_short_run_leaves_no_state(rt: HostRuntime) {
-    let mut follower = first(&rt, rt.alloc(), Output::Tables, 0);
-    let mut rows: Vec<u8> = Vec::new(rt.alloc());
-    let mut told: Vec<u8> = Vec::new(rt.alloc());
-    let left = follow_and_leave(
-        rt.alloc(),
-        &mut follower,
-        &mut SHORT.as_bytes(),
-        &mut rows,
-        &mut told,
-        false,
-    );
-    assert_eq!(rt; fault_of(&left), 52);
-    assert_eq!(rt; told.as_slice(), "missing 0,3\n".as_bytes());
 }
 
 #[test]
