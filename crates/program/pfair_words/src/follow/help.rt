@@ -36,7 +36,7 @@ Exit status, by the numbers of the faults:
   0  done: all slots are settled, and their rows are printed
   1  refused: the command line (80)
   2  refused: a task file (60 to 66), a state (66, 68, 69), or with --strict a row (1 to 14, 67)
-  3  two contents of one entry met (30), the input ended too early (52), or no run can follow (33, 34)
+  3  two contents of one entry met (30), the input ended early (52), or no run can follow (33, 34)
   4  out of memory (90)
   5  reading or writing failed (70, 71)
 
