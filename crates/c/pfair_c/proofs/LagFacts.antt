@@ -7,9 +7,9 @@ use Rattle.pfair_table.specs.declared.pick.Decided.{Decided}
 use Rattle.pfair_table.specs.Table.{Table}
 use Rattle.pfair_table.specs.Refinement.{Dispatch}
 use Rattle.pfair_output.proofs.BookFacts.{first_time}
-use Rattle.pfair_output.specs.Told.{slot_told, all_slots_told, first_book}
+use Rattle.pfair_output.specs.Booked.{slot_booked, all_slots_booked, first_book}
 use Rattle.std.proofs.lemmas.Option.{none-some, same_Some}
-use Rattle.pfair_output.proofs.ToldFacts.{time-all_told}
+use Rattle.pfair_output.proofs.BookedFacts.{time-all_booked}
 use Rattle.pfair_c.specs.Rows.{rows_of}
 use Rattle.pfair_c.specs.Lags.{book_after, book_rows, lags_at}
 use Rattle.pfair_c.proofs.SlotRows.{one-slot-more}
@@ -17,54 +17,54 @@ use Rattle.pfair_text.proofs.RowFacts.{first_left}
 
 -- ---- what the book is notified of
 
-no_decisions : (b : Book) (n : ℕ) (ts : List Table) → all_slots_told b (take n []) ts ≡ b
+no_decisions : (b : Book) (n : ℕ) (ts : List Table) → all_slots_booked b (take n []) ts ≡ b
 no_decisions b zero ts = refl
 no_decisions b (suc n) ts = refl
 
-no_tables : (b : Book) (n : ℕ) (ds : List (List Decided)) → all_slots_told b ds (take n []) ≡ b
+no_tables : (b : Book) (n : ℕ) (ds : List (List Decided)) → all_slots_booked b ds (take n []) ≡ b
 no_tables b n [] = refl
 no_tables b zero (d ∷ ds) = refl
 no_tables b (suc n) (d ∷ ds) = refl
 
 -- the slots before m, and then n more
-told_on : (ds : List (List Decided)) (ts : List Table) (b : Book) (m n k : ℕ) → k ≡ m + n
-    → all_slots_told (all_slots_told b (take m ds) (take m ts)) (take n (drop m ds)) (take n (drop m ts)) ≡ all_slots_told b (take k ds) (take k ts)
-told_on ds ts b zero n k is = grind arith
-told_on ds ts b (suc m) n zero is = absurd (omega arith)
-told_on [] ts b (suc m) n (suc k) is = no_decisions b n (take n (drop (suc m) ts))
-told_on (d ∷ ds) [] b (suc m) n (suc k) is = no_tables b n (take n (drop m ds))
-told_on (d ∷ ds) (t ∷ ts) b (suc m) n (suc k) is = told_on ds ts (slot_told d t b) m n k (omega arith)
+given_on : (ds : List (List Decided)) (ts : List Table) (b : Book) (m n k : ℕ) → k ≡ m + n
+    → all_slots_booked (all_slots_booked b (take m ds) (take m ts)) (take n (drop m ds)) (take n (drop m ts)) ≡ all_slots_booked b (take k ds) (take k ts)
+given_on ds ts b zero n k is = grind arith
+given_on ds ts b (suc m) n zero is = absurd (omega arith)
+given_on [] ts b (suc m) n (suc k) is = no_decisions b n (take n (drop (suc m) ts))
+given_on (d ∷ ds) [] b (suc m) n (suc k) is = no_tables b n (take n (drop m ds))
+given_on (d ∷ ds) (t ∷ ts) b (suc m) n (suc k) is = given_on ds ts (slot_booked d t b) m n k (omega arith)
 
 time_after : (ds : List (List Decided)) (ts : List Table) (b : Book) (n : ℕ) → n ≤ length ds → n ≤ length ts
-    → (all_slots_told b (take n ds) (take n ts)).time ≡ b.time + n
+    → (all_slots_booked b (take n ds) (take n ts)).time ≡ b.time + n
 time_after ds ts b zero enough enough' = omega arith
 time_after [] ts b (suc n) enough enough' = absurd (omega arith)
 time_after (d ∷ ds) [] b (suc n) enough enough' = absurd (omega arith)
-time_after (d ∷ ds) (t ∷ ts) b (suc n) enough enough' = grind (arith, time-all_told, time_after ds ts (slot_told d t b) n)
+time_after (d ∷ ds) (t ∷ ts) b (suc n) enough enough' = grind (arith, time-all_booked, time_after ds ts (slot_booked d t b) n)
 
 pub book_time : (d : Dispatch) (n : ℕ) (book : Book) → n ≤ length d.decided → n ≤ length d.tables → book ≡ book_after d n → book.time ≡ n
 book_time d n book enough enough' is = grind (arith, time_after, first_time)
 
-pub told_first : (d : Dispatch) (slots : ℕ) (book next : Book) → book ≡ first_book d.origin
-    → next ≡ all_slots_told book (take (slots - book.time) (drop book.time d.decided)) (take (slots - book.time) (drop book.time d.tables)) → next ≡ book_after d slots
-told_first d slots book next first is = grind (arith, first_time)
+pub booked_first : (d : Dispatch) (slots : ℕ) (book next : Book) → book ≡ first_book d.origin
+    → next ≡ all_slots_booked book (take (slots - book.time) (drop book.time d.decided)) (take (slots - book.time) (drop book.time d.tables)) → next ≡ book_after d slots
+booked_first d slots book next first is = grind (arith, first_time)
 
-pub next_told : (d : Dispatch) (slot : ℕ) (book next : Book) → slot < length d.decided → slot < length d.tables → book ≡ book_after d slot
-    → next ≡ all_slots_told book (take (slot + 1 - book.time) (drop book.time d.decided)) (take (slot + 1 - book.time) (drop book.time d.tables))
+pub next_booked : (d : Dispatch) (slot : ℕ) (book next : Book) → slot < length d.decided → slot < length d.tables → book ≡ book_after d slot
+    → next ≡ all_slots_booked book (take (slot + 1 - book.time) (drop book.time d.decided)) (take (slot + 1 - book.time) (drop book.time d.tables))
     → next ≡ book_after d (slot + 1)
-next_told d slot book next inside inside' before is = grind (arith, book_time, told_on)
+next_booked d slot book next inside inside' before is = grind (arith, book_time, given_on)
 
 -- ---- rows
 
 -- the lags of one slot more
 pub one-more-slot : (d : Dispatch) (from slot : ℕ) (book : Book) → from ≤ slot → book ≡ book_after d (slot + 1)
     → rows_of (lags_at d) from (slot + 1 - from) ≡ rows_of (lags_at d) from (slot - from) ++ book_rows book
-one-more-slot d from slot book after told =
-    one-slot-more (lags_at d) from slot after ∙ ap (λ (b : Book). rows_of (lags_at d) from (slot - from) ++ book_rows b) (sym told)
+one-more-slot d from slot book after given =
+    one-slot-more (lags_at d) from slot after ∙ ap (λ (b : Book). rows_of (lags_at d) from (slot - from) ++ book_rows b) (sym given)
 
 pub as-many-more : (d : Dispatch) (from slot : ℕ) (book : Book) → from ≤ slot → book ≡ book_after d (slot + 1)
     → length (rows_of (lags_at d) from (slot + 1 - from)) ≡ length (rows_of (lags_at d) from (slot - from)) + length book.entered
-as-many-more d from slot book after told = grind (arith, one-more-slot d from slot book after told, length-append, length-map)
+as-many-more d from slot book after given = grind (arith, one-more-slot d from slot book after given, length-append, length-map)
 
 further : {A B : Type 0} (f : A → B) (xs : List A) (i : ℕ) (x : A) → slice_get xs i ≡ Some x → map f (take (suc i) xs) ≡ map f (take i xs) ++ f x ∷ []
 further f [] i x at = absurd (none-some x at)

@@ -46,7 +46,7 @@ module _ (bytes : List ℕ) (slots capacity : ℕ) (row : PfairStateFault) where
     too_long = λ e. absurd (not_both (is_kept kept) e there);
     begun = λ e. absurd (not_both (is_kept kept) e there);
     unchanged = λ n. refl;
-    untold = λ n. refl;
+    unread = λ n. refl;
   }
 
   pub not_in_range : (kept : Kept) → is_kept kept ≡ false → (IsRunnable slots capacity → ⊥) → IsResumeAnswer bytes slots capacity kept kept OUT_OF_RANGE row row
@@ -56,7 +56,7 @@ module _ (bytes : List ℕ) (slots capacity : ℕ) (row : PfairStateFault) where
     too_long = λ e r. absurd (none r);
     begun = λ e r. absurd (none r);
     unchanged = λ n. refl;
-    untold = λ n. refl;
+    unread = λ n. refl;
   }
 
   pub too_long : (kept : Kept) → is_kept kept ≡ false → IsRunnable slots capacity → LONGEST_FILE < length bytes → IsResumeAnswer bytes slots capacity kept kept FILE_TOO_LONG row row
@@ -66,19 +66,19 @@ module _ (bytes : List ℕ) (slots capacity : ℕ) (row : PfairStateFault) where
     too_long = λ e r l. refl;
     begun = λ e r short. absurd (omega (arith, long, short));
     unchanged = λ n. refl;
-    untold = λ n. refl;
+    unread = λ n. refl;
   }
 
   module _ (runnable : IsRunnable slots capacity) (short : length bytes ≤ LONGEST_FILE) where
     -- the text is read
     begun_by : (before after : Kept) (answer : ℕ) (new : PfairStateFault) → is_kept before ≡ false → IsBegunBy bytes slots capacity after answer new → ((answer ≡ DONE → ⊥) → after ≡ before) → (((answer ≡ 68) ⊎ (answer ≡ 69) → ⊥) → new ≡ row) → IsResumeAnswer bytes slots capacity before after answer row new
-    begun_by before after answer new closed by same untold = record {
+    begun_by before after answer new closed by same unread = record {
       already = λ there. absurd (not_both (is_kept before) closed there);
       out_of_range = λ e none. absurd (none runnable);
       too_long = λ e r long. absurd (omega (arith, long, short));
       begun = λ e r s. by;
       unchanged = same;
-      untold = untold;
+      unread = unread;
     }
 
     -- it is no state's: of a state's, only an allocation fails

@@ -6,7 +6,7 @@ use Rattle.pfair_lattice.specs.Held.{Held}
 use Rattle.std.proofs.lemmas.Option.{none-some, get_or_from_slice_get}
 use Rattle.pfair_entry.specs.Entry.{Logged}
 use Rattle.pfair_replica.specs.Replica.{Replica, with_entry}
-use Rattle.pfair_replica.specs.HeldRows.{HeldRows}
+use Rattle.pfair_replica.specs.ReplicaRows.{ReplicaRows}
 use Rattle.pfair_replica.specs.Offered.{has_key, taken}
 use Rattle.pfair_replica.specs.Faults.{IsTakenAs}
 use Rattle.pfair_replica.specs.declared.answer.Taken.{Taken}
@@ -23,9 +23,9 @@ keeps_if : (b : Bool) (x : Replica) (k n : ℕ) (e : Logged) (j m : ℕ) → has
 keeps_if true x k n e j m = refl
 keeps_if false x k n e j m = refl
 
-same-keys : (k n : ℕ) (es : List PfairEntry) (s : Taking) (j m : ℕ) → has_key (all_taken k n es s).held j m ≡ has_key s.held j m
+same-keys : (k n : ℕ) (es : List PfairEntry) (s : Taking) (j m : ℕ) → has_key (all_taken k n es s).replica j m ≡ has_key s.replica j m
 same-keys k n [] s j m = refl
-same-keys k n (e ∷ more) s j m = same-keys k (suc n) more (one_taken k n e s) j m ∙ keeps_if (has_key s.held k n) s.held k n (logged_of e) j m
+same-keys k n (e ∷ more) s j m = same-keys k (suc n) more (one_taken k n e s) j m ∙ keeps_if (has_key s.replica k n) s.replica k n (logged_of e) j m
 
 -- ---- the last of them
 
@@ -54,16 +54,16 @@ next-of-log x k n es i j d inside at before meant key =
 
 pub next-taking : (k first i j : ℕ) (es : List PfairEntry) (d : PfairEntry) (x now next : Replica) (c counted : PfairTakenLog) (how : Taken)
     → i < length es → j ≡ first + i
-    → record { held = now; counted = c } ≡ all_taken k first (take i es) (untaken x)
+    → record { replica = now; counted = c } ≡ all_taken k first (take i es) (untaken x)
     → next ≡ taken now k j (logged_of (get_or es i d)) → how ≡ met (now.at k j) (logged_of (get_or es i d)) → counted ≡ one_more how c
-    → record { held = next; counted = counted } ≡ all_taken k first (take (i + 1) es) (untaken x)
+    → record { replica = next; counted = counted } ≡ all_taken k first (take (i + 1) es) (untaken x)
 next-taking k first i j es d x now next c counted how inside at before held_is how_is counted_is = grind (arith, one-taken-more)
 
 pub same-key : (k first i j : ℕ) (es : List PfairEntry) (x now : Replica) (c : PfairTakenLog)
-    → record { held = now; counted = c } ≡ all_taken k first (take i es) (untaken x)
+    → record { replica = now; counted = c } ≡ all_taken k first (take i es) (untaken x)
     → has_key now k j ≡ true → has_key x k j ≡ true
 same-key k first i j es x now c before key =
-    sym (same-keys k first (take i es) (untaken x) k j) ∙ ap (λ (s : Taking). has_key s.held k j) (sym before) ∙ key
+    sym (same-keys k first (take i es) (untaken x) k j) ∙ ap (λ (s : Taking). has_key s.replica k j) (sym before) ∙ key
 
 -- one more is counted
 pub counted-more : (how : Taken) (c d : PfairTakenLog) (i : ℕ) → d ≡ one_more how c → c.taken ≡ i → c.fresh + c.known + c.torn ≡ c.taken
@@ -76,7 +76,7 @@ pub err-of : {T E : Type 0} (r : Result T E) (f : E) (P : E → Type 0) → IsEr
 err-of (Ok v) f P same holds = absurd same
 err-of (Err e) f P same holds = subst P (sym same) holds
 
-pub refused-at : (x : HeldRows) (k n : ℕ) (es : List PfairEntry) (i j place answer : ℕ) (d : PfairEntry) → i < length es → j ≡ n → place ≡ i
+pub refused-at : (x : ReplicaRows) (k n : ℕ) (es : List PfairEntry) (i j place answer : ℕ) (d : PfairEntry) → i < length es → j ≡ n → place ≡ i
     → IsRefusal x k j (get_or es i d) answer → IsRefusedAt x k n es place answer
 refused-at x k n es i j place answer d inside at same refused =
     let within : place < length es = omega arith in (

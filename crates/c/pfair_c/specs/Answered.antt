@@ -24,9 +24,9 @@ pub record Changes {A : Type 0} (before after : Kept) (answer : ℕ) (old new : 
   pub opened : is_kept before ≡ true → (answer ≡ NOT_OPEN → ⊥) × Between before after (λ d e. Makes d e answer old new)
 
 -- the call answers 0 and writes this of the dispatcher
-abbrev pub IsTold : {A : Type 0} → (Dispatch → A) → Dispatch → (answer : ℕ) → (old new : A) → Type 0
-IsTold f d answer old new = (answer ≡ DONE) × (new ≡ f d)
+abbrev pub IsGiven : {A : Type 0} → (Dispatch → A) → Dispatch → (answer : ℕ) → (old new : A) → Type 0
+IsGiven f d answer old new = (answer ≡ DONE) × (new ≡ f d)
 
 -- the call answers this of the dispatcher, and if that is 0 it writes this over what stood there; else its outputs are untouched
-abbrev pub IsToldIf : {A : Type 0} → (Dispatch → ℕ) → (Dispatch → A → A) → Dispatch → (answer : ℕ) → (old new : A) → Type 0
-IsToldIf answered f d answer old new = (answer ≡ answered d) × (answer ≡ DONE → new ≡ f d old) × ((answer ≡ DONE → ⊥) → new ≡ old)
+abbrev pub IsGivenIf : {A : Type 0} → (Dispatch → ℕ) → (Dispatch → A → A) → Dispatch → (answer : ℕ) → (old new : A) → Type 0
+IsGivenIf answered f d answer old new = (answer ≡ answered d) × (answer ≡ DONE → new ≡ f d old) × ((answer ≡ DONE → ⊥) → new ≡ old)

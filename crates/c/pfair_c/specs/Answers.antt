@@ -4,7 +4,7 @@ use Rattle.std.specs.declared.option.Option.TheVariants.{None, Some}
 use Rattle.std.specs.List.{AllByRecursion}
 use Rattle.pfair_weight.specs.declared.weight.TheConstants.Weight.{MAX_PERIOD}
 use Rattle.pfair_weight.specs.declared.window.TheConstants.{MAX_OFFSET}
-use Rattle.pfair_replica.specs.HeldRows.{replica_of, SameShape}
+use Rattle.pfair_replica.specs.ReplicaRows.{replica_of, SameShape}
 use Rattle.pfair_replica.specs.Replica.{has_torn}
 use Rattle.pfair_replica.specs.Faults.{IsMergeFaultOf}
 use Rattle.pfair_replica.specs.declared.answer.MergeFault.TheVariants.{Memory as OutOfMemory}
@@ -90,11 +90,11 @@ pub record IsNextRunAnswer (slots : ℕ) (d e : Dispatch) (answer : ℕ) : Type 
 
 -- the dispatchers x and o have logs alike, and x takes all that o holds, and is y then
 abbrev pub IsJoinedTo : (x o y : Kept) → Type 0
-IsJoinedTo x o y = Between x o (λ d e. SameShape d.held e.held) × IsAbsorbedTo x o y
+IsJoinedTo x o y = Between x o (λ d e. SameShape d.replica e.replica) × IsAbsorbedTo x o y
 
 -- an allocation failed as x took what o holds; it took a part of that, and is y then
 abbrev pub IsPartlyJoinedTo : (x o y : Kept) → Type 0
-IsPartlyJoinedTo x o y = Between x o (λ d e. IsMergeFaultOf d.held e.held OutOfMemory) × IsPartlyAbsorbedTo x o y
+IsPartlyJoinedTo x o y = Between x o (λ d e. IsMergeFaultOf d.replica e.replica OutOfMemory) × IsPartlyAbsorbedTo x o y
 
 -- ---- plans
 
@@ -155,7 +155,7 @@ forgetting slots d = record d { forgotten = max d.forgotten (min slots (length d
 -- what `pfair_reopen` answers: 0, 30 if something held is torn, or 90
 pub record IsReopened (d e : Dispatch) (answer : ℕ) : Type 0 where
   pub only : (answer ≡ DONE) ⊎ ((answer ≡ 30) ⊎ (answer ≡ MEMORY))
-  pub torn : answer ≡ 30 → (has_torn (replica_of d.held) ≡ true) × (e ≡ d)
-  pub whole : (answer ≡ 30 → ⊥) → has_torn (replica_of d.held) ≡ false
+  pub torn : answer ≡ 30 → (has_torn (replica_of d.replica) ≡ true) × (e ≡ d)
+  pub whole : (answer ≡ 30 → ⊥) → has_torn (replica_of d.replica) ≡ false
   pub done : answer ≡ DONE → e ≡ record d { spent = false }
   pub memory : answer ≡ MEMORY → e ≡ record d { spent = true }

@@ -1,6 +1,6 @@
 -- Task files, read into dispatchers.
 use Rattle.std.specs.Prelude.{ℕ, ◌≡◌, ◌<◌, ◌⊎◌, List, [], length, None, true, false, Ok, Err}
-use Rattle.pfair_replica.specs.HeldRows.{replica_of}
+use Rattle.pfair_replica.specs.ReplicaRows.{replica_of}
 use Rattle.pfair_table.specs.Script.{LoggedRun, replica_of_logs}
 use Rattle.pfair_table.specs.Refinement.{Dispatch}
 use Rattle.pfair_file.specs.Documents.{script_of_file}
@@ -19,7 +19,7 @@ use Rattle.pfair_c.specs.declared.file.PfairFileFault.{PfairFileFault}
 -- a new dispatcher that has taken all entries of a script's logs, and no more
 abbrev pub IsStartedWith : LoggedRun → Dispatch → Type 0
 IsStartedWith script d =
-    (d.settings ≡ script.settings) × (d.origin ≡ None) × (replica_of d.held ≡ replica_of_logs script.logs)
+    (d.settings ≡ script.settings) × (d.origin ≡ None) × (replica_of d.replica ≡ replica_of_logs script.logs)
     × (d.tables ≡ []) × (d.spent ≡ false)
 
 -- what a file says, in such a dispatcher
@@ -79,4 +79,4 @@ pub record IsReadAnswer (bytes : List ℕ) (before after : Kept) (answer : ℕ) 
   pub read : answer ≡ DONE → Of after (IsReadFrom bytes)
   pub fault : (IsNoFault answer → ⊥) → IsFileFault bytes answer new
   pub unchanged : (answer ≡ DONE → ⊥) → after ≡ before
-  pub untold : IsNoFault answer → new ≡ old
+  pub unread : IsNoFault answer → new ≡ old

@@ -3,7 +3,7 @@ use Rattle.std.specs.Prelude.{ℕ, ◌+◌, ◌-◌, List, map, take}
 use Rattle.pfair_weight.specs.Name.{NameValue}
 use Rattle.pfair_lag.specs.Book.{Tally, Book, lag_of}
 use Rattle.pfair_table.specs.Refinement.{Dispatch}
-use Rattle.pfair_output.specs.Told.{all_slots_told, first_book}
+use Rattle.pfair_output.specs.Booked.{all_slots_booked, first_book}
 use Rattle.pfair_c.specs.Rows.{name_row, rows_of}
 use Rattle.pfair_c.specs.declared.lags.PfairLag.{PfairLag}
 
@@ -17,7 +17,7 @@ book_rows book = map (lag_row book.time) book.entered
 
 -- a book that was notified of the first t slots of a dispatcher, and of no others
 abbrev pub book_after : Dispatch → ℕ → Book
-book_after d t = all_slots_told (first_book d.origin) (take t d.decided) (take t d.tables)
+book_after d t = all_slots_booked (first_book d.origin) (take t d.decided) (take t d.tables)
 
 -- the lags after slot t
 abbrev pub lags_at : Dispatch → ℕ → List PfairLag

@@ -10,6 +10,6 @@ pub mod Misses
 pub mod Open
 pub mod Planning
 pub mod Rows
+pub mod RowsGiven
 pub mod State
 pub mod Taking
-pub mod Told

@@ -2,7 +2,7 @@
 use Rattle.std.specs.Prelude.{ℕ, ℤ, pos, neg_ℤ, ◌≡◌, ◌^◌, ◌-◌, false, if◌then◌else◌, List, length, unwrap_or}
 use Rattle.std.specs.Int.{int_max, int_min}
 use Rattle.pfair_admission.specs.Member.{Member, theta, is_departing, lag_at}
-use Rattle.pfair_replica.specs.HeldRows.{replica_of}
+use Rattle.pfair_replica.specs.ReplicaRows.{replica_of}
 use Rattle.pfair_replica.specs.Replica.{has_torn}
 use Rattle.pfair_table.specs.Refinement.{Dispatch, AreMembersOf, members_after}
 use Rattle.pfair_table.specs.Table.{slot_of}
@@ -35,4 +35,4 @@ member_row time m = record {
 -- the members after the slots that are planned: if nothing that is held is torn, those of the contents
 pub record AreMembersNow (d : Dispatch) (members : List Member) : Type 0 where
   pub are_members : AreMembersOf d members
-  pub of_held : has_torn (replica_of d.held) ≡ false → members ≡ members_after d.origin d.settings (replica_of d.held) (length d.tables)
+  pub of_held : has_torn (replica_of d.replica) ≡ false → members ≡ members_after d.origin d.settings (replica_of d.replica) (length d.tables)

@@ -46,4 +46,4 @@ pub record IsMissAnswer (AllIsWell : Share → List ℕ → ℕ → Type 0) (IsF
   pub found : answer ≡ 0 → IsFoundAs miss' (AllIsWell (record { cost = cost; period = period }) picks horizon) (IsFirst (record { cost = cost; period = period }) picks horizon)
   pub fault : asked_answer cost period horizon ≡ 0 → (answer ≡ 0 → ⊥) → IsPickFaultAs picks horizon answer place'
   pub unchanged : (answer ≡ 0 → ⊥) → miss' ≡ miss
-  pub untold : (answer ≡ 40 → ⊥) → (answer ≡ 41 → ⊥) → place' ≡ place
+  pub unread : (answer ≡ 40 → ⊥) → (answer ≡ 41 → ⊥) → place' ≡ place

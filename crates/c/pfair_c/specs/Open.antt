@@ -5,7 +5,7 @@ use Rattle.std.specs.Fn.{Once}
 use Rattle.pfair_table.specs.Refinement.{Dispatch}
 
 -- f at the dispatcher d, a and b may give this answer, and leave a' and b'
-pub record Tells {F A B : Type 0}
+pub record GivesRows {F A B : Type 0}
     (g : Once F (Bor Dispatch × (MutBor A × (MutBor B × Unit {0}))) (ℕ × (MutBor A × (MutBor B × Unit {0}))))
     (f : F) (d : Dispatch) (a : A) (b : B) (answer : ℕ) (a' : A) (b' : B) : Type 0 where
   pub shown : Bor Dispatch

@@ -1,6 +1,6 @@
 -- Several plans at once.
 use Rattle.std.specs.Prelude.{ℕ, zero, suc, ◌≡◌, ◌≤◌, ◌<◌, false, length, max}
-use Rattle.pfair_replica.specs.HeldRows.{replica_of}
+use Rattle.pfair_replica.specs.ReplicaRows.{replica_of}
 use Rattle.pfair_replica.specs.Replica.{has_torn}
 use Rattle.pfair_table.specs.declared.event.Event.TheVariants.{Plan}
 use Rattle.pfair_table.specs.declared.answer.Step.{Step}
@@ -24,7 +24,7 @@ pub record IsPlannedOn (until : ℕ) (d e : Dispatch) : Type 0 where
 
 -- nothing that is held is torn, and no plan was refused memory
 abbrev pub IsWhole : Dispatch → Type 0
-IsWhole d = (has_torn (replica_of d.held) ≡ false) × (d.spent ≡ false)
+IsWhole d = (has_torn (replica_of d.replica) ≡ false) × (d.spent ≡ false)
 
 -- why the plans ended: all slots below `until` are planned; or fewer are, and of a dispatcher that could plan the next one it is not settled,
 -- or none is left

@@ -22,7 +22,7 @@ use Rattle.pfair_handle.specs.Kept.{Kept, is_kept}
 use Rattle.pfair_handle.specs.Behind.{Of}
 use Rattle.pfair_c.specs.declared.answer.TheConstants.{DONE, FILE_TOO_LONG, MEMORY, OPEN_ALREADY, OUT_OF_RANGE}
 use Rattle.pfair_c.specs.declared.resume.PfairStateFault.{PfairStateFault}
-use Rattle.pfair_c.specs.Told.{AreTold, rows_count}
+use Rattle.pfair_c.specs.RowsGiven.{AreGiven, rows_count}
 
 abbrev pub state_at : Settings → Origin → Carried
 state_at s None = first_state s
@@ -32,8 +32,8 @@ abbrev pub began : Dispatch → Carried
 began d = state_at d.settings d.origin
 
 -- the bytes are given, of a state that is read back; or an allocation failed
-pub record AreBytesTold (d : Dispatch) (answer : ℕ) (old new : ℕ × List ℕ) : Type 0 where
-  pub told : (answer ≡ MEMORY → ⊥) → AreTold rows_count (λ e. Some (state_text (began e))) d answer old new
+pub record AreBytesGiven (d : Dispatch) (answer : ℕ) (old new : ℕ × List ℕ) : Type 0 where
+  pub given : (answer ≡ MEMORY → ⊥) → AreGiven rows_count (λ e. Some (state_text (began e))) d answer old new
   pub readable : (answer ≡ MEMORY → ⊥) → IsWritable (began d)
   pub memory : answer ≡ MEMORY → new ≡ old
 
@@ -85,4 +85,4 @@ pub record IsResumeAnswer (bytes : List ℕ) (slots capacity : ℕ) (before afte
   pub too_long : is_kept before ≡ false → IsRunnable slots capacity → LONGEST_FILE < length bytes → answer ≡ FILE_TOO_LONG
   pub begun : is_kept before ≡ false → IsRunnable slots capacity → length bytes ≤ LONGEST_FILE → IsBegunBy bytes slots capacity after answer new
   pub unchanged : (answer ≡ DONE → ⊥) → after ≡ before
-  pub untold : ((answer ≡ 68) ⊎ (answer ≡ 69) → ⊥) → new ≡ old
+  pub unread : ((answer ≡ 68) ⊎ (answer ≡ 69) → ⊥) → new ≡ old

@@ -5,7 +5,7 @@ use Rattle.pfair_lattice.specs.declared.flat.Flat.TheVariants.{One, Torn as Torn
 use Rattle.pfair_lattice.specs.Held.{Held}
 use Rattle.pfair_entry.specs.Entry.{Logged}
 use Rattle.pfair_entry.specs.Same.{entry_eq}
-use Rattle.pfair_replica.specs.HeldRows.{HeldRows, held, replica_of}
+use Rattle.pfair_replica.specs.ReplicaRows.{ReplicaRows, held, replica_of}
 use Rattle.pfair_replica.specs.Replica.{Replica}
 use Rattle.pfair_replica.specs.Offered.{has_key, taken}
 use Rattle.pfair_replica.specs.Faults.{IsTakeFaultOf}
@@ -33,12 +33,12 @@ one_more Torn t = record t { taken = suc t.taken; torn = suc t.torn }
 
 -- the contents, and what was counted
 pub record Taking : Type 0 where
-  pub held : Replica
+  pub replica : Replica
   pub counted : PfairTakenLog
 
 -- entry n of the log of k is taken
 abbrev pub one_taken : (k n : ℕ) → PfairEntry → Taking → Taking
-one_taken k n e s = record { held = taken s.held k n (logged_of e); counted = one_more (met (s.held.at k n) (logged_of e)) s.counted }
+one_taken k n e s = record { replica = taken s.replica k n (logged_of e); counted = one_more (met (s.replica.at k n) (logged_of e)) s.counted }
 
 -- these are, from number n on
 abbrev pub all_taken : (k n : ℕ) → List PfairEntry → Taking → Taking
@@ -52,17 +52,17 @@ AreOfLog x k n (e ∷ more) = IsMeant e × (has_key x k n ≡ true) × AreOfLog 
 
 -- nothing was taken yet
 abbrev pub untaken : Replica → Taking
-untaken x = record { held = x; counted = record { taken = 0; fresh = 0; known = 0; torn = 0 } }
+untaken x = record { replica = x; counted = record { taken = 0; fresh = 0; known = 0; torn = 0 } }
 
 -- the dispatcher d took the first of these entries, as many as are counted, from number n on, and is e then
 pub record IsTakenTo (k n : ℕ) (entries : List PfairEntry) (counted : PfairTakenLog) (d e : Dispatch) : Type 0 where
   pub no_more : counted.taken ≤ length entries
-  pub sound : AreOfLog (replica_of d.held) k n (take counted.taken entries)
-  pub after : record { held = replica_of e.held; counted = counted } ≡ all_taken k n (take counted.taken entries) (untaken (replica_of d.held))
-  pub rest : e ≡ record d { held = e.held }
+  pub sound : AreOfLog (replica_of d.replica) k n (take counted.taken entries)
+  pub after : record { replica = replica_of e.replica; counted = counted } ≡ all_taken k n (take counted.taken entries) (untaken (replica_of d.replica))
+  pub rest : e ≡ record d { replica = e.replica }
 
 -- why this isn't taken for entry n of the log of k: the first that applies, by its number
-abbrev pub IsRefusal : HeldRows → (k n : ℕ) → PfairEntry → ℕ → Type 0
+abbrev pub IsRefusal : ReplicaRows → (k n : ℕ) → PfairEntry → ℕ → Type 0
 IsRefusal x k n e answer =
     IsEntryFault e answer
     ⊎ (IsMeant e × (((answer ≡ NO_SUCH_PROCESSOR) × IsTakeFaultOf x k n NoSuchProcessor)
@@ -70,18 +70,18 @@ IsRefusal x k n e answer =
     ⊎ ((answer ≡ MEMORY) × IsTakeFaultOf x k n Memory))))
 
 -- the entry at a place isn't taken, as number n
-abbrev pub IsRefusedAt : HeldRows → (k n : ℕ) → List PfairEntry → (place answer : ℕ) → Type 0
+abbrev pub IsRefusedAt : ReplicaRows → (k n : ℕ) → List PfairEntry → (place answer : ℕ) → Type 0
 IsRefusedAt x k n entries place answer =
     (place < length entries) × ((e : PfairEntry) → slice_get entries place ≡ Some e → IsRefusal x k n e answer)
 
 -- ---- what the calls answer
 
 -- no entries are taken: there is no such log, or no such number in it
-abbrev pub IsKeyFault : (k n answer taken : ℕ) → HeldRows → Type 0
+abbrev pub IsKeyFault : (k n answer taken : ℕ) → ReplicaRows → Type 0
 IsKeyFault k n answer taken x = (key_answer x k n ≡ DONE → ⊥) → (answer ≡ key_answer x k n) × (taken ≡ 0)
 
 -- after so many entries were taken from number n on, the next one is refused
-abbrev pub IsRefusedAfter : (taken : ℕ) → (k n : ℕ) → List PfairEntry → (answer : ℕ) → HeldRows → Type 0
+abbrev pub IsRefusedAfter : (taken : ℕ) → (k n : ℕ) → List PfairEntry → (answer : ℕ) → ReplicaRows → Type 0
 IsRefusedAfter taken k n entries answer x = key_answer x k n ≡ DONE → IsRefusedAt x k (n + taken) entries taken answer
 
 -- how an entry was taken, as C has it
@@ -93,21 +93,21 @@ how_number Torn = 2
 -- the dispatcher d takes this for entry n of the log of k, and is e then
 pub record IsTakenFor (k n : ℕ) (entry : PfairEntry) (how : ℕ) (d e : Dispatch) : Type 0 where
   pub meant : IsMeant entry
-  pub key : has_key (replica_of d.held) k n ≡ true
-  pub how_met : how ≡ how_number (met (held d.held k n) (logged_of entry))
-  pub offered : replica_of e.held ≡ taken (replica_of d.held) k n (logged_of entry)
-  pub rest : e ≡ record d { held = e.held }
+  pub key : has_key (replica_of d.replica) k n ≡ true
+  pub how_met : how ≡ how_number (met (held d.replica k n) (logged_of entry))
+  pub offered : replica_of e.replica ≡ taken (replica_of d.replica) k n (logged_of entry)
+  pub rest : e ≡ record d { replica = e.replica }
 
 -- the answer is 0 and it is taken, or why it is refused, and nothing changes
 pub record IsTakeAnswer (k n : ℕ) (entry : PfairEntry) (d e : Dispatch) (answer how how' : ℕ) : Type 0 where
   pub done : answer ≡ DONE → IsTakenFor k n entry how' d e
-  pub refused : (answer ≡ DONE → ⊥) → IsRefusal d.held k n entry answer
+  pub refused : (answer ≡ DONE → ⊥) → IsRefusal d.replica k n entry answer
   pub unchanged : (answer ≡ DONE → ⊥) → (e ≡ d) × (how' ≡ how)
 
 -- the first of these entries are taken and counted, up to the first that is refused: all of them exactly if the answer is 0, else it says why
 -- that one is refused, or that there is no log of k or no number n in it
 pub record IsTakeLogAnswer (k n : ℕ) (entries : List PfairEntry) (d e : Dispatch) (answer : ℕ) (old new : PfairTakenLog) : Type 0 where
   pub first : IsTakenTo k n entries new d e
-  pub no_key : IsKeyFault k n answer new.taken d.held
+  pub no_key : IsKeyFault k n answer new.taken d.replica
   pub all : answer ≡ DONE → new.taken ≡ length entries
-  pub refused : (answer ≡ DONE → ⊥) → IsRefusedAfter new.taken k n entries answer e.held
+  pub refused : (answer ≡ DONE → ⊥) → IsRefusedAfter new.taken k n entries answer e.replica

@@ -2,12 +2,12 @@
 ghost use Rattle.std.specs.Prelude.{◌≡◌, ◌≤◌, ◌+◌, ◌++◌, length, map, min, take, drop};
 ghost use Rattle.pfair_c.specs.Answered.{Reads};
 ghost use Rattle.pfair_c.specs.Rows.{slot_of, decision_row, decisions_at, decisions_of, written_over};
-ghost use Rattle.pfair_c.specs.Told.{AreTold, rows_counted, decisions_between};
+ghost use Rattle.pfair_c.specs.RowsGiven.{AreGiven, rows_counted, decisions_between};
 
 use crate::answer::{DONE, NOT_PLANNED};
 use crate::name::{PfairName, name_row};
-use crate::open::tell_rows;
-use crate::rows::{are_told, fits, lay_rows};
+use crate::open::give_rows;
+use crate::rows::{are_readable, fits, lay_rows};
 use pfair_admission::Decision;
 use pfair_handle::Handle;
 use pfair_ready::Ready;
@@ -44,10 +44,10 @@ pub extern "C" fn pfair_decisions(
     rows: &mut [PfairDecision],
 ) -> u32
     ensures { Reads handle.old.owner.kept handle.new.owner.kept result (count.old, rows.old) (count.new, rows.new)
-        (AreTold rows_counted (decisions_between from to)) }
+        (AreGiven rows_counted (decisions_between from to)) }
 {
-    tell_rows(alloc, handle, count, rows, |dispatcher, count, rows| {
-        if !are_told(dispatcher, from, to) {
+    give_rows(alloc, handle, count, rows, |dispatcher, count, rows| {
+        if !are_readable(dispatcher, from, to) {
             return NOT_PLANNED;
         }
         if from >= to {

@@ -1,6 +1,6 @@
 //! Dispatchers behind handles: opened, begun anew, joined and closed.
 ghost use Rattle.std.specs.Prelude.{◌≡◌, ◌⊎◌, ◌&&◌, None, true, false};
-ghost use Rattle.pfair_replica.specs.HeldRows.{SameShape};
+ghost use Rattle.pfair_replica.specs.ReplicaRows.{SameShape};
 ghost use Rattle.pfair_handle.specs.Kept.{is_kept};
 ghost use Rattle.pfair_handle.specs.Behind.{Between};
 ghost use Rattle.pfair_c.specs.declared.answer.TheConstants.{MEMORY};
@@ -103,9 +103,9 @@ pub extern "C" fn pfair_absorb(alloc: Global, handle: &mut Handle, other: &mut H
     ensures open { (is_kept handle.old.owner.kept && is_kept other.old.owner.kept) ≡ true →
         (result ≡ DONE) ⊎ ((result ≡ 15) ⊎ (result ≡ MEMORY)) }
     ensures joined { result ≡ DONE → IsJoinedTo handle.old.owner.kept other.old.owner.kept handle.new.owner.kept }
-    ensures other_shape { result ≡ 15 → Between handle.old.owner.kept other.old.owner.kept (λ d o. SameShape d.held o.held → ⊥) }
+    ensures other_shape { result ≡ 15 → Between handle.old.owner.kept other.old.owner.kept (λ d o. SameShape d.replica o.replica → ⊥) }
     ensures partly { result ≡ MEMORY → IsPartlyJoinedTo handle.old.owner.kept other.old.owner.kept handle.new.owner.kept }
-    ensures rest { is_kept handle.old.owner.kept ≡ true → Between handle.old.owner.kept handle.new.owner.kept (λ d e. e ≡ record d { held = e.held }) }
+    ensures rest { is_kept handle.old.owner.kept ≡ true → Between handle.old.owner.kept handle.new.owner.kept (λ d e. e ≡ record d { replica = e.replica }) }
     ensures unchanged { (result ≡ 15) ⊎ (result ≡ NOT_OPEN) → handle.new.owner.kept ≡ handle.old.owner.kept }
     ensures other { other.new.owner.kept ≡ other.old.owner.kept }
 {

@@ -1,11 +1,11 @@
 //! What a dispatcher holds, and what it plans for.
 ghost use Rattle.std.specs.Prelude.{◌≡◌, ◌≤◌, ◌++◌, None, true, length, map};
-ghost use Rattle.pfair_replica.specs.HeldRows.{replica_of};
+ghost use Rattle.pfair_replica.specs.ReplicaRows.{replica_of};
 ghost use Rattle.pfair_replica.specs.Replica.{Below};
 ghost use Rattle.pfair_handle.specs.Kept.{is_kept};
 ghost use Rattle.pfair_handle.specs.Behind.{Between};
-ghost use Rattle.pfair_c.specs.Answered.{Reads, IsTold};
-ghost use Rattle.pfair_c.specs.Held.{IsHeldTold, IsMarkTold, IsMissingTold, AreFaultsTold, key_answer, settings_row};
+ghost use Rattle.pfair_c.specs.Answered.{Reads, IsGiven};
+ghost use Rattle.pfair_c.specs.Held.{IsHeldGiven, IsMarkGiven, IsMissingGiven, AreFaultsGiven, key_answer, settings_row};
 ghost use Rattle.pfair_c.specs.Rows.{key_row, written_over};
 
 use crate::answer::{DONE, MEMORY, NO_ROOM, NO_SUCH_NUMBER, NO_SUCH_PROCESSOR, NOT_OPEN};
@@ -51,7 +51,7 @@ pub extern "C" fn pfair_settings(
     handle: &mut Handle,
     settings: &mut PfairSettings,
 ) -> u32
-    ensures { Reads handle.old.owner.kept handle.new.owner.kept result settings.old settings.new (IsTold settings_row) }
+    ensures { Reads handle.old.owner.kept handle.new.owner.kept result settings.old settings.new (IsGiven settings_row) }
 {
     let Some(row) = with_open(alloc, handle, |dispatcher| settings_row(dispatcher)) else {
         return NOT_OPEN;
@@ -87,7 +87,7 @@ pub extern "C" fn pfair_held(
     kind: &mut u64,
     entry: &mut PfairEntry,
 ) -> u32
-    ensures { Reads handle.old.owner.kept handle.new.owner.kept result (kind.old, entry.old) (kind.new, entry.new) (IsHeldTold processor number) }
+    ensures { Reads handle.old.owner.kept handle.new.owner.kept result (kind.old, entry.old) (kind.new, entry.new) (IsHeldGiven processor number) }
 {
     let found = with_open(alloc, handle, |dispatcher| {
         let replica = dispatcher.replica();
@@ -122,7 +122,7 @@ pub extern "C" fn pfair_mark(
     slot: &mut u64,
     count: &mut u64,
 ) -> u32
-    ensures { Reads handle.old.owner.kept handle.new.owner.kept result (slot.old, count.old) (slot.new, count.new) (IsMarkTold processor) }
+    ensures { Reads handle.old.owner.kept handle.new.owner.kept result (slot.old, count.old) (slot.new, count.new) (IsMarkGiven processor) }
 {
     let found = with_open(alloc, handle, |dispatcher| {
         let replica = dispatcher.replica();
@@ -154,7 +154,7 @@ pub extern "C" fn pfair_missing(
     processor: u8,
     number: &mut u64,
 ) -> u32
-    ensures { Reads handle.old.owner.kept handle.new.owner.kept result number.old number.new (IsMissingTold processor) }
+    ensures { Reads handle.old.owner.kept handle.new.owner.kept result number.old number.new (IsMissingGiven processor) }
 {
     let found = with_open(alloc, handle, |dispatcher| {
         let replica = dispatcher.replica();
@@ -187,7 +187,7 @@ pub extern "C" fn pfair_faults(
     fallen: &mut u64,
     rows: &mut [PfairKey],
 ) -> u32
-    ensures { Reads handle.old.owner.kept handle.new.owner.kept result (torn.old, fallen.old, rows.old) (torn.new, fallen.new, rows.new) AreFaultsTold }
+    ensures { Reads handle.old.owner.kept handle.new.owner.kept result (torn.old, fallen.old, rows.old) (torn.new, fallen.new, rows.new) AreFaultsGiven }
 {
     let faults = match with_open(alloc, handle, |dispatcher| dispatcher.replica().faults()) {
         Some(Ok(faults)) => faults,
@@ -218,10 +218,10 @@ pub extern "C" fn pfair_below(
     ensures other_closed { other.old.owner.kept ≡ None → result ≡ NOT_OPEN }
     ensures open { is_kept handle.old.owner.kept ≡ true → is_kept other.old.owner.kept ≡ true → (result ≡ DONE) × (is_below.new ≤ 1) }
     ensures below { result ≡ DONE → is_below.new ≡ 1 →
-        Between handle.old.owner.kept other.old.owner.kept (λ d o. Below (replica_of d.held) (replica_of o.held)) }
+        Between handle.old.owner.kept other.old.owner.kept (λ d o. Below (replica_of d.replica) (replica_of o.replica)) }
     ensures not_below { result ≡ DONE → is_below.new ≡ 0 →
-        Between handle.old.owner.kept other.old.owner.kept (λ d o. Below (replica_of d.held) (replica_of o.held) → ⊥) }
-    ensures untold { (result ≡ DONE → ⊥) → (result ≡ NOT_OPEN) × (is_below.new ≡ is_below.old) }
+        Between handle.old.owner.kept other.old.owner.kept (λ d o. Below (replica_of d.replica) (replica_of o.replica) → ⊥) }
+    ensures unread { (result ≡ DONE → ⊥) → (result ≡ NOT_OPEN) × (is_below.new ≡ is_below.old) }
     ensures unchanged { (handle.new.owner.kept ≡ handle.old.owner.kept) × (other.new.owner.kept ≡ other.old.owner.kept) }
 {
     if !handle.is_open() || !other.is_open() {

@@ -4,15 +4,15 @@ ghost use Rattle.pfair_weight.specs.Name.{NameValue};
 ghost use Rattle.pfair_lag.specs.Book.{Tally};
 ghost use Rattle.pfair_c.specs.Answered.{Reads};
 ghost use Rattle.pfair_c.specs.Lags.{lag_row, book_rows, book_after, lags_of};
-ghost use Rattle.pfair_c.specs.Told.{AreLagsTold};
+ghost use Rattle.pfair_c.specs.RowsGiven.{AreLagsGiven};
 
 use crate::answer::{DONE, MEMORY, NO_ROOM, NOT_PLANNED};
 use crate::name::{PfairName, name_row};
-use crate::open::tell_rows;
+use crate::open::give_rows;
 use crate::rows::fits;
 use pfair_handle::Handle;
 use pfair_lag::LagBook;
-use pfair_output::{first_book, tell_slots};
+use pfair_output::{book_slots, first_book};
 use pfair_ready::{HeapReady, Ready};
 use pfair_table::Dispatcher;
 use std::alloc::{AllocError, Global};
@@ -48,9 +48,9 @@ pub extern "C" fn pfair_lags(
     count: &mut u64,
     rows: &mut [PfairLag],
 ) -> u32
-    ensures { Reads handle.old.owner.kept handle.new.owner.kept result (count.old, rows.old) (count.new, rows.new) (AreLagsTold from to) }
+    ensures { Reads handle.old.owner.kept handle.new.owner.kept result (count.old, rows.old) (count.new, rows.new) (AreLagsGiven from to) }
 {
-    tell_rows(alloc, handle, count, rows, |dispatcher, count, rows| {
+    give_rows(alloc, handle, count, rows, |dispatcher, count, rows| {
         copy_lags(alloc, dispatcher, from, to, count, rows)
     })
 }
@@ -63,7 +63,7 @@ fn copy_lags(
     count: &mut u64,
     rows: &mut [PfairLag],
 ) -> u32
-    ensures { AreLagsTold from to dispatcher.now result (count.old, rows.old) (count.new, rows.new) }
+    ensures { AreLagsGiven from to dispatcher.now result (count.old, rows.old) (count.new, rows.new) }
 {
     if to > dispatcher.next_slot() {
         return NOT_PLANNED;
@@ -107,7 +107,7 @@ fn collect_lags<R: Ready>(
     let mut lags = Vec::new(alloc);
     let mut count: u64 = 0;
     for slot in from..to {
-        tell_slots(&mut book, dispatcher, slot + 1)?;
+        book_slots(&mut book, dispatcher, slot + 1)?;
         count = count.saturating_add(book.len() as u64);
         push_lags(&book, room, &mut lags)?;
     }
@@ -124,7 +124,7 @@ fn book_after<R: Ready>(
     ensures { IfOk result (λ book. book ≡ book_after dispatcher.now slots) }
 {
     let mut book = first_book(alloc, dispatcher)?;
-    tell_slots(&mut book, dispatcher, slots)?;
+    book_slots(&mut book, dispatcher, slots)?;
     Ok(book)
 }
 

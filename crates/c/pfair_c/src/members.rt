@@ -4,11 +4,11 @@ ghost use Rattle.pfair_admission.specs.Member.{Member};
 ghost use Rattle.pfair_c.specs.Answered.{Reads};
 ghost use Rattle.pfair_c.specs.Members.{member_row, time_of};
 ghost use Rattle.pfair_c.specs.Rows.{written_over};
-ghost use Rattle.pfair_c.specs.Told.{AreMembersTold};
+ghost use Rattle.pfair_c.specs.RowsGiven.{AreMembersGiven};
 
 use crate::answer::SPENT;
 use crate::name::{PfairName, name_row};
-use crate::open::tell_rows;
+use crate::open::give_rows;
 use crate::rows::lay_rows;
 use pfair_admission::Members;
 use pfair_handle::Handle;
@@ -56,9 +56,9 @@ pub extern "C" fn pfair_members(
     count: &mut u64,
     rows: &mut [PfairMember],
 ) -> u32
-    ensures { Reads handle.old.owner.kept handle.new.owner.kept result (count.old, rows.old) (count.new, rows.new) AreMembersTold }
+    ensures { Reads handle.old.owner.kept handle.new.owner.kept result (count.old, rows.old) (count.new, rows.new) AreMembersGiven }
 {
-    tell_rows(alloc, handle, count, rows, |dispatcher, count, rows| {
+    give_rows(alloc, handle, count, rows, |dispatcher, count, rows| {
         let Some(members) = dispatcher.members() else {
             return SPENT;
         };

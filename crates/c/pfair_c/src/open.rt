@@ -3,7 +3,7 @@ ghost use Rattle.std.specs.Prelude.{◌≡◌, Some, None, true, Ok, IsSomeAnd};
 ghost use Rattle.std.specs.Fn.{FnOnceReturnsAtMut};
 ghost use Rattle.pfair_handle.specs.Kept.{is_kept};
 ghost use Rattle.pfair_handle.specs.Behind.{Of, Between};
-ghost use Rattle.pfair_c.specs.Open.{Tells};
+ghost use Rattle.pfair_c.specs.Open.{GivesRows};
 
 use crate::answer::{DONE, MEMORY, NOT_OPEN};
 use pfair_handle::{Handle, Served};
@@ -20,37 +20,37 @@ pub(crate) fn with_open<T, F: FnOnce(&mut Dispatcher<HeapReady>) -> T>(
     requires { F.IsAlwaysCallable called }
     ensures closed { handle.old.owner.kept ≡ None → (result ≡ None) × (handle.new.owner.kept ≡ None) }
     ensures open { is_kept handle.old.owner.kept ≡ true →
-        IsSomeAnd result (λ told. Between handle.old.owner.kept handle.new.owner.kept (λ d e. FnOnceReturnsAtMut F.FnOnce called d told e)) }
+        IsSomeAnd result (λ given. Between handle.old.owner.kept handle.new.owner.kept (λ d e. FnOnceReturnsAtMut F.FnOnce called d given e)) }
 {
     if !handle.is_open() {
         return None;
     }
     let mut served = handle.take(alloc);
-    let told = called(&mut served.dispatcher);
+    let given = called(&mut served.dispatcher);
     handle.put(served);
-    Some(told)
+    Some(given)
 }
 
 /// Writes rows about the dispatcher and their count, and returns what the function answers; or 102
 /// if there is no dispatcher, and then nothing is written.
-pub(crate) fn tell_rows<B, F: FnOnce(&Dispatcher<HeapReady>, &mut u64, &mut [B]) -> u32>(
+pub(crate) fn give_rows<B, F: FnOnce(&Dispatcher<HeapReady>, &mut u64, &mut [B]) -> u32>(
     alloc: Global,
     handle: &mut Handle,
     count: &mut u64,
     rows: &mut [B],
-    told: F,
+    given: F,
 ) -> u32
-    requires { F.IsAlwaysCallable told }
+    requires { F.IsAlwaysCallable given }
     ensures closed { handle.old.owner.kept ≡ None → (result ≡ NOT_OPEN) × (count.new ≡ count.old) × (rows.new ≡ rows.old) }
-    ensures told { is_kept handle.old.owner.kept ≡ true →
-        Of handle.old.owner.kept (λ d. Tells F.FnOnce told d count.old rows.old result count.new rows.new) }
+    ensures given { is_kept handle.old.owner.kept ≡ true →
+        Of handle.old.owner.kept (λ d. GivesRows F.FnOnce given d count.old rows.old result count.new rows.new) }
     ensures unchanged { handle.new.owner.kept ≡ handle.old.owner.kept }
 {
     if !handle.is_open() {
         return NOT_OPEN;
     }
     let served = handle.take(alloc);
-    let answer = told(&served.dispatcher, count, rows);
+    let answer = given(&served.dispatcher, count, rows);
     handle.put(served);
     answer
 }

@@ -1,9 +1,9 @@
 //! Plans, and how far they have come.
 ghost use Rattle.std.specs.Prelude.{◌≡◌, ◌≤◌, ◌⊎◌, length, IfOk, IfErr, OnOk};
-ghost use Rattle.pfair_replica.specs.HeldRows.{replica_of};
+ghost use Rattle.pfair_replica.specs.ReplicaRows.{replica_of};
 ghost use Rattle.pfair_replica.specs.Replica.{frontier};
 ghost use Rattle.pfair_table.specs.Faults.{plan_fault_number};
-ghost use Rattle.pfair_c.specs.Answered.{Reads, Changes, IsTold, nothing};
+ghost use Rattle.pfair_c.specs.Answered.{Reads, Changes, IsGiven, nothing};
 ghost use Rattle.pfair_c.specs.Planning.{IsPlannedOn, IsStopOf, IsStoppedBy};
 ghost use Rattle.pfair_c.specs.Answers.{IsPlanAnswer, IsPlanToAnswer, IsReopened, forgetting, step_row, fault_row};
 
@@ -188,7 +188,7 @@ pub extern "C" fn pfair_reopen(alloc: Global, handle: &mut Handle) -> u32
 /// Answers 0; or 102 if the handle has no dispatcher, and then nothing is written.
 #[unsafe(no_mangle)]
 pub extern "C" fn pfair_frontier(alloc: Global, handle: &mut Handle, slot: &mut u64) -> u32
-    ensures { Reads handle.old.owner.kept handle.new.owner.kept result slot.old slot.new (IsTold (λ d. frontier (replica_of d.held))) }
+    ensures { Reads handle.old.owner.kept handle.new.owner.kept result slot.old slot.new (IsGiven (λ d. frontier (replica_of d.replica))) }
 {
     let Some(frontier) = with_open(alloc, handle, |dispatcher| dispatcher.replica().frontier())
     else {
@@ -203,7 +203,7 @@ pub extern "C" fn pfair_frontier(alloc: Global, handle: &mut Handle, slot: &mut 
 /// Answers 0; or 102 if the handle has no dispatcher, and then nothing is written.
 #[unsafe(no_mangle)]
 pub extern "C" fn pfair_next_slot(alloc: Global, handle: &mut Handle, slot: &mut u64) -> u32
-    ensures { Reads handle.old.owner.kept handle.new.owner.kept result slot.old slot.new (IsTold (λ d. length d.tables)) }
+    ensures { Reads handle.old.owner.kept handle.new.owner.kept result slot.old slot.new (IsGiven (λ d. length d.tables)) }
 {
     let Some(next) = with_open(alloc, handle, |dispatcher| dispatcher.next_slot()) else {
         return NOT_OPEN;

@@ -3,12 +3,12 @@ ghost use Rattle.std.specs.Prelude.{◌≡◌, ◌≤◌, ◌+◌, ◌*◌, ◌+
 ghost use Rattle.pfair_c.specs.Answered.{Reads};
 ghost use Rattle.pfair_table.specs.Places.{places_in};
 ghost use Rattle.pfair_c.specs.Rows.{slot_of, quantum_row, quanta_in, quanta_at, quanta_of, written_over};
-ghost use Rattle.pfair_c.specs.Told.{AreTold, rows_count, quanta_between};
+ghost use Rattle.pfair_c.specs.RowsGiven.{AreGiven, rows_count, quanta_between};
 
 use crate::answer::{DONE, NOT_PLANNED};
 use crate::name::{PfairName, name_row};
-use crate::open::tell_rows;
-use crate::rows::{are_told, fits, lay_rows};
+use crate::open::give_rows;
+use crate::rows::{are_readable, fits, lay_rows};
 use pfair_handle::Handle;
 use pfair_ready::Ready;
 use pfair_table::{Dispatcher, Pick, Settings};
@@ -42,10 +42,10 @@ pub extern "C" fn pfair_quanta(
     rows: &mut [PfairQuantum],
 ) -> u32
     ensures { Reads handle.old.owner.kept handle.new.owner.kept result (count.old, rows.old) (count.new, rows.new)
-        (AreTold rows_count (quanta_between from to)) }
+        (AreGiven rows_count (quanta_between from to)) }
 {
-    tell_rows(alloc, handle, count, rows, |dispatcher, count, rows| {
-        if !are_told(dispatcher, from, to) {
+    give_rows(alloc, handle, count, rows, |dispatcher, count, rows| {
+        if !are_readable(dispatcher, from, to) {
             return NOT_PLANNED;
         }
         if from >= to {

@@ -5,16 +5,16 @@
 //! there are fewer. Nothing else is written.
 ghost use Rattle.std.specs.Prelude.{◌≡◌, ◌≤◌, ◌<◌, ◌+◌, true, length, nat_le, if◌then◌else◌};
 ghost use Rattle.std.specs.Fn.{FnOnceTakesAtMut, FnOnceReturnsAtMut};
-ghost use Rattle.pfair_c.specs.Told.{are_told};
+ghost use Rattle.pfair_c.specs.RowsGiven.{are_readable};
 
 use crate::answer::{DONE, NO_ROOM};
 use pfair_ready::HeapReady;
 use pfair_table::{Dispatcher, Settings};
 
 /// Whether the slots `from` to `to` - 1 are planned, and none of them is forgotten.
-pub(crate) fn are_told(dispatcher: &Dispatcher<HeapReady>, from: u64, to: u64) -> bool
-    ensures tables { result ≡ are_told dispatcher.now.forgotten (length dispatcher.now.tables) from to }
-    ensures decided { result ≡ are_told dispatcher.now.forgotten (length dispatcher.now.decided) from to }
+pub(crate) fn are_readable(dispatcher: &Dispatcher<HeapReady>, from: u64, to: u64) -> bool
+    ensures tables { result ≡ are_readable dispatcher.now.forgotten (length dispatcher.now.tables) from to }
+    ensures decided { result ≡ are_readable dispatcher.now.forgotten (length dispatcher.now.decided) from to }
     ensures within { result ≡ true → (to ≤ length dispatcher.now.tables) × (to ≤ Settings.MAX_SLOTS) }
     ensures standing { result ≡ true → from < to → dispatcher.now.forgotten ≤ from }
 {

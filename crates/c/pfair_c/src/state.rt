@@ -3,10 +3,10 @@ ghost use Rattle.std.specs.Prelude.{◌≡◌, IfOk, OnOk};
 ghost use Rattle.pfair_state.specs.Reading.{IsWritable};
 ghost use Rattle.pfair_state.specs.Rows.{state_text};
 ghost use Rattle.pfair_c.specs.Answered.{Reads};
-ghost use Rattle.pfair_c.specs.State.{began, AreBytesTold};
+ghost use Rattle.pfair_c.specs.State.{began, AreBytesGiven};
 
 use crate::answer::{DONE, MEMORY, NO_ROOM};
-use crate::open::tell_rows;
+use crate::open::give_rows;
 use pfair_handle::Handle;
 use pfair_ready::HeapReady;
 use pfair_state::add_state;
@@ -27,9 +27,9 @@ pub extern "C" fn pfair_state(
     length: &mut u64,
     bytes: &mut [u8],
 ) -> u32
-    ensures { Reads handle.old.owner.kept handle.new.owner.kept result (length.old, bytes.old) (length.new, bytes.new) AreBytesTold }
+    ensures { Reads handle.old.owner.kept handle.new.owner.kept result (length.old, bytes.old) (length.new, bytes.new) AreBytesGiven }
 {
-    tell_rows(alloc, handle, length, bytes, |dispatcher, length, bytes| {
+    give_rows(alloc, handle, length, bytes, |dispatcher, length, bytes| {
         copy_state(alloc, dispatcher, length, bytes)
     })
 }
@@ -40,7 +40,7 @@ fn copy_state(
     length: &mut u64,
     bytes: &mut [u8],
 ) -> u32
-    ensures { AreBytesTold dispatcher.now result (length.old, bytes.old) (length.new, bytes.new) }
+    ensures { AreBytesGiven dispatcher.now result (length.old, bytes.old) (length.new, bytes.new) }
 {
     let Ok(text) = began_text(alloc, dispatcher) else {
         return MEMORY;

@@ -2,11 +2,11 @@
 ghost use Rattle.std.specs.Prelude.{◌≡◌, ◌≤◌, length, map};
 ghost use Rattle.pfair_c.specs.Answered.{Reads};
 ghost use Rattle.pfair_c.specs.Rows.{pick_row, written_over};
-ghost use Rattle.pfair_c.specs.Told.{AreTold, rows_count, table_of, places_at};
+ghost use Rattle.pfair_c.specs.RowsGiven.{AreGiven, rows_count, table_of, places_at};
 
 use crate::answer::NOT_PLANNED;
 use crate::name::{PfairName, name_row};
-use crate::open::tell_rows;
+use crate::open::give_rows;
 use crate::rows::lay_rows;
 use pfair_handle::Handle;
 use pfair_table::Pick;
@@ -31,9 +31,9 @@ pub extern "C" fn pfair_table(
     count: &mut u64,
     rows: &mut [PfairPick],
 ) -> u32
-    ensures { Reads handle.old.owner.kept handle.new.owner.kept result (count.old, rows.old) (count.new, rows.new) (AreTold rows_count (table_of slot)) }
+    ensures { Reads handle.old.owner.kept handle.new.owner.kept result (count.old, rows.old) (count.new, rows.new) (AreGiven rows_count (table_of slot)) }
 {
-    tell_rows(alloc, handle, count, rows, |dispatcher, count, rows| {
+    give_rows(alloc, handle, count, rows, |dispatcher, count, rows| {
         let Some(table) = dispatcher.table(slot) else {
             return NOT_PLANNED;
         };
@@ -52,9 +52,9 @@ pub extern "C" fn pfair_places(
     count: &mut u64,
     rows: &mut [u8],
 ) -> u32
-    ensures { Reads handle.old.owner.kept handle.new.owner.kept result (count.old, rows.old) (count.new, rows.new) (AreTold rows_count (places_at slot)) }
+    ensures { Reads handle.old.owner.kept handle.new.owner.kept result (count.old, rows.old) (count.new, rows.new) (AreGiven rows_count (places_at slot)) }
 {
-    tell_rows(alloc, handle, count, rows, |dispatcher, count, rows| {
+    give_rows(alloc, handle, count, rows, |dispatcher, count, rows| {
         let Some(places) = dispatcher.places(slot) else {
             return NOT_PLANNED;
         };

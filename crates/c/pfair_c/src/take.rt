@@ -1,6 +1,6 @@
 //! Entries, one or several of a log at once.
 ghost use Rattle.std.specs.Prelude.{◌≡◌, ◌≤◌, ◌<◌, ◌+◌, true, length, IfOk, IfErr, OnOk, OnErr};
-ghost use Rattle.pfair_replica.specs.HeldRows.{held, replica_of};
+ghost use Rattle.pfair_replica.specs.ReplicaRows.{held, replica_of};
 ghost use Rattle.pfair_replica.specs.Offered.{has_key, taken as offered_to};
 ghost use Rattle.pfair_c.specs.Answered.{Changes};
 ghost use Rattle.pfair_c.specs.Entries.{logged_of, IsMeant};
@@ -153,7 +153,7 @@ fn take_entries<R: Ready>(
 ) -> Result<(), u32>
     ensures taken { IsTakenTo processor first entries.now counted.new dispatcher.old dispatcher.new }
     ensures all { OnOk result (counted.new.taken ≡ length entries.now) }
-    ensures refused { IfErr result (λ answer. IsRefusedAt dispatcher.new.held processor (first + counted.new.taken) entries.now counted.new.taken answer) }
+    ensures refused { IfErr result (λ answer. IsRefusedAt dispatcher.new.replica processor (first + counted.new.taken) entries.now counted.new.taken answer) }
     ensures numbered { IfErr result (λ answer. (0 < answer) × (answer ≤ 100)) }
 {
     *counted = PfairTakenLog {
@@ -178,13 +178,13 @@ fn take_one<R: Ready>(
     number: u32,
     entry: &PfairEntry,
 ) -> Result<Taken, u32>
-    ensures answer { IfOk result (λ how. how ≡ met (held dispatcher.old.held processor number) (logged_of entry.now)) }
+    ensures answer { IfOk result (λ how. how ≡ met (held dispatcher.old.replica processor number) (logged_of entry.now)) }
     ensures meant { OnOk result (IsMeant entry.now) }
-    ensures key { OnOk result (has_key (replica_of dispatcher.old.held) processor number ≡ true) }
+    ensures key { OnOk result (has_key (replica_of dispatcher.old.replica) processor number ≡ true) }
     ensures few { OnOk result (number ≤ Script.LONGEST_LOG) }
-    ensures offered { OnOk result (replica_of dispatcher.new.held ≡ offered_to (replica_of dispatcher.old.held) processor number (logged_of entry.now)) }
-    ensures rest { OnOk result (dispatcher.new ≡ record dispatcher.old { held = dispatcher.new.held }) }
-    ensures refused { IfErr result (IsRefusal dispatcher.old.held processor number entry.now) }
+    ensures offered { OnOk result (replica_of dispatcher.new.replica ≡ offered_to (replica_of dispatcher.old.replica) processor number (logged_of entry.now)) }
+    ensures rest { OnOk result (dispatcher.new ≡ record dispatcher.old { replica = dispatcher.new.replica }) }
+    ensures refused { IfErr result (IsRefusal dispatcher.old.replica processor number entry.now) }
     ensures numbered { IfErr result (λ answer. (0 < answer) × (answer ≤ 100)) }
     ensures unchanged { OnErr result (dispatcher.new ≡ dispatcher.old) }
 {

@@ -1,7 +1,7 @@
 -- What holds of the dispatchers behind handles.
 use Rattle.std.specs.Prelude.{◌≡◌}
 use Rattle.std.specs.declared.option.Option.TheVariants.{None, Some}
-use Rattle.pfair_replica.specs.HeldRows.{replica_of}
+use Rattle.pfair_replica.specs.ReplicaRows.{replica_of}
 use Rattle.pfair_replica.specs.Offered.{absorbed}
 use Rattle.pfair_replica.specs.Faults.{IsPartlyMerged}
 use Rattle.pfair_table.specs.Refinement.{Dispatch}
@@ -20,14 +20,14 @@ Between (Some x) None P = ⊥
 
 -- the dispatcher x, behind a handle, takes all that o, behind another, holds, and is y then
 abbrev pub IsAbsorbedTo : Kept → Kept → Kept → Type 0
-IsAbsorbedTo (Some x) (Some o) (Some y) = replica_of y.dispatcher.held ≡ absorbed (replica_of x.dispatcher.held) (replica_of o.dispatcher.held)
+IsAbsorbedTo (Some x) (Some o) (Some y) = replica_of y.dispatcher.replica ≡ absorbed (replica_of x.dispatcher.replica) (replica_of o.dispatcher.replica)
 IsAbsorbedTo None o y = ⊥
 IsAbsorbedTo (Some x) None y = ⊥
 IsAbsorbedTo (Some x) (Some o) None = ⊥
 
 -- or it takes a part of that
 abbrev pub IsPartlyAbsorbedTo : Kept → Kept → Kept → Type 0
-IsPartlyAbsorbedTo (Some x) (Some o) (Some y) = IsPartlyMerged (replica_of x.dispatcher.held) (replica_of o.dispatcher.held) (replica_of y.dispatcher.held)
+IsPartlyAbsorbedTo (Some x) (Some o) (Some y) = IsPartlyMerged (replica_of x.dispatcher.replica) (replica_of o.dispatcher.replica) (replica_of y.dispatcher.replica)
 IsPartlyAbsorbedTo None o y = ⊥
 IsPartlyAbsorbedTo (Some x) None y = ⊥
 IsPartlyAbsorbedTo (Some x) (Some o) None = ⊥

@@ -4,7 +4,7 @@
 #![tactic(auto)]
 
 ghost use Rattle.std.specs.Prelude.{◌≡◌, true, false, None, Some, IfErr, OnOk, OnErr, Err};
-ghost use Rattle.pfair_replica.specs.HeldRows.{replica_of, SameShape};
+ghost use Rattle.pfair_replica.specs.ReplicaRows.{replica_of, SameShape};
 ghost use Rattle.pfair_replica.specs.Replica.{Below};
 ghost use Rattle.pfair_replica.specs.Faults.{IsMergeFaultOf};
 ghost use Rattle.pfair_handle.specs.Kept.{is_kept};
@@ -74,12 +74,12 @@ impl Handle {
         requires open { is_kept self.old.owner.kept ≡ true }
         requires other_open { is_kept other.old.owner.kept ≡ true }
         ensures joined { OnOk result (IsAbsorbedTo self.old.owner.kept other.old.owner.kept self.new.owner.kept) }
-        ensures same_shape { OnOk result (Between self.old.owner.kept other.old.owner.kept (λ d o. SameShape d.held o.held)) }
+        ensures same_shape { OnOk result (Between self.old.owner.kept other.old.owner.kept (λ d o. SameShape d.replica o.replica)) }
         ensures fault { IfErr result (λ fault.
-            Between self.old.owner.kept other.old.owner.kept (λ d o. IsMergeFaultOf d.held o.held fault)) }
+            Between self.old.owner.kept other.old.owner.kept (λ d o. IsMergeFaultOf d.replica o.replica fault)) }
         ensures unchanged { result ≡ Err MergeFault.OtherShape → self.new.owner.kept ≡ self.old.owner.kept }
         ensures partly { OnErr result (IsPartlyAbsorbedTo self.old.owner.kept other.old.owner.kept self.new.owner.kept) }
-        ensures rest { Between self.old.owner.kept self.new.owner.kept (λ d e. e ≡ record d { held = e.held }) }
+        ensures rest { Between self.old.owner.kept self.new.owner.kept (λ d e. e ≡ record d { replica = e.replica }) }
         ensures other { other.new.owner.kept ≡ other.old.owner.kept }
     {
         let mut served = self.take(alloc);
@@ -95,9 +95,9 @@ impl Handle {
     pub fn le(&mut self, alloc: Global, other: &mut Handle) -> bool
         requires open { is_kept self.old.owner.kept ≡ true }
         requires other_open { is_kept other.old.owner.kept ≡ true }
-        ensures below { result ≡ true → Between self.old.owner.kept other.old.owner.kept (λ d o. Below (replica_of d.held) (replica_of o.held)) }
+        ensures below { result ≡ true → Between self.old.owner.kept other.old.owner.kept (λ d o. Below (replica_of d.replica) (replica_of o.replica)) }
         ensures not_below { result ≡ false →
-            Between self.old.owner.kept other.old.owner.kept (λ d o. Below (replica_of d.held) (replica_of o.held) → ⊥) }
+            Between self.old.owner.kept other.old.owner.kept (λ d o. Below (replica_of d.replica) (replica_of o.replica) → ⊥) }
         ensures unchanged { self.new.owner.kept ≡ self.old.owner.kept }
         ensures other { other.new.owner.kept ≡ other.old.owner.kept }
     {

@@ -21,7 +21,7 @@ use Rattle.pfair_order.specs.declared.Key.{Key}
 use Rattle.pfair_order.proofs.Later.{filter_mapped}
 use Rattle.pfair_entry.specs.Exact.{name_exact}
 use Rattle.pfair_entry.specs.Same.{name_eq}
-use Rattle.pfair_entry.specs.Said.{Said}
+use Rattle.pfair_entry.specs.declared.said.Said.{Said}
 use Rattle.pfair_entry.specs.declared.announcement.Announcement.{Announcement}
 use Rattle.pfair_entry.specs.declared.announcement.Announcement.TheVariants.{Arrive, Depart, Late}
 use Rattle.pfair_entry.specs.Entry.{IsWeighed}
@@ -296,13 +296,13 @@ module _ (left : List Member) (begin : ℕ) where
   decided_paired {t} now machine ps apart a h = grind (arith, present_paired, decision_same, effect_paired)
 
   -- all that is said in a slot
-  pub record AreDecided (machine : Machine) (t : ℕ) (L S : List Member) (told : List Said) : Type 0 where
-    pub members : ArePaired t (all_decided machine t L (announcements (all_raised left begin machine t S told))) (all_decided machine t S (announcements told))
-    pub decisions : all_decisions machine t L (announcements (all_raised left begin machine t S told)) ≡ all_decisions machine t S (announcements told)
+  pub record AreDecided (machine : Machine) (t : ℕ) (L S : List Member) (announced : List Said) : Type 0 where
+    pub members : ArePaired t (all_decided machine t L (announcements (all_raised left begin machine t S announced))) (all_decided machine t S (announcements announced))
+    pub decisions : all_decisions machine t L (announcements (all_raised left begin machine t S announced)) ≡ all_decisions machine t S (announcements announced)
 
-  pub all_paired : {t : ℕ} → begin ≤ t → (machine : Machine) (told : List Said) → AllByRecursion IsWeighed (announcements told) → (L S : List Member) → ArePaired t L S → NamesApart label S → AreDecided machine t L S told
+  pub all_paired : {t : ℕ} → begin ≤ t → (machine : Machine) (announced : List Said) → AllByRecursion IsWeighed (announcements announced) → (L S : List Member) → ArePaired t L S → NamesApart label S → AreDecided machine t L S announced
   all_paired now machine [] h L S a apart = record { members = a; decisions = refl }
-  all_paired {t} now machine (s ∷ told) h L S a apart = grind (arith, decided_paired, decision_same, apart_present, apart_effect, all_paired now machine told h.1)
+  all_paired {t} now machine (s ∷ announced) h L S a apart = grind (arith, decided_paired, decision_same, apart_present, apart_effect, all_paired now machine announced h.1)
 
   -- ---- quanta
 
@@ -315,8 +315,8 @@ module _ (left : List Member) (begin : ℕ) where
   later_paired L S a = record { pairs = map waits a.pairs; longs_are = map-map long_of waits a.pairs ∙ a.longs_are; shorts_are = map-map short_of waits a.pairs ∙ a.shorts_are }
 
   -- what a key and a freeing slot give
-  pub standing_paired : {A : Type 0} {t : ℕ} (f : Key → Option ℕ → A) (L S : List Member) → ArePaired t L S → map (λ m. f (next_key m) m.freed_at) S ≡ map (λ m. f (next_key m) m.freed_at) L
-  standing_paired {A} {t} f L S a = ap (map given) (sym a.shorts_are) ∙ all a.pairs ∙ ap (map given) a.longs_are
+  pub membership_paired : {A : Type 0} {t : ℕ} (f : Key → Option ℕ → A) (L S : List Member) → ArePaired t L S → map (λ m. f (next_key m) m.freed_at) S ≡ map (λ m. f (next_key m) m.freed_at) L
+  membership_paired {A} {t} f L S a = ap (map given) (sym a.shorts_are) ∙ all a.pairs ∙ ap (map given) a.longs_are
     where
       given : Member → A
       given m = f (next_key m) m.freed_at

@@ -8,7 +8,7 @@ use Rattle.std.proofs.lemmas.List.{take_more}
 use Rattle.std.proofs.lemmas.List.Sums.{sum_by_push}
 use Rattle.pfair_entry.specs.Entry.{IsWithinLimits}
 use Rattle.pfair_entry.specs.declared.announcement.Announcement.{Announcement}
-use Rattle.pfair_entry.specs.Said.{Said}
+use Rattle.pfair_entry.specs.declared.said.Said.{Said}
 use Rattle.pfair_admission.specs.declared.decision.Decision.{Decision}
 use Rattle.pfair_admission.specs.declared.delay.Delay.{Delay}
 use Rattle.pfair_entry.specs.declared.entry.TheConstants.Entry.{LONGEST_DELAY}
@@ -17,7 +17,7 @@ use Rattle.pfair_admission.specs.Member.{Member, last_offset}
 use Rattle.pfair_admission.specs.Admission.{Machine, change, newcomer, with_freeing, with_delay, with_quantum, effect, is_freed, present, decision, decided, all_decided, all_decisions, announcements, ran}
 use Rattle.pfair_admission.specs.Roster.{after_boundary, EachBounded, EachHasRoom, IsCutShort, Roster}
 use Rattle.pfair_admission.specs.Ledger.{after_all}
-use Rattle.pfair_admission.specs.Standing.{Standing}
+use Rattle.pfair_admission.specs.Membership.{Membership}
 use Rattle.pfair_admission.proofs.Each.{each_at, each_filter}
 use Rattle.pfair_admission.proofs.Effects.{by_effect, each_change}
 
@@ -70,36 +70,36 @@ decisions_push machine t ms [] a = refl
 decisions_push machine t ms (x ∷ xs) a = ap (λ (l : List Decision). decision machine t ms x ∷ l) (decisions_push machine t (decided machine t ms x) xs a)
 
 -- the first n are decided
-pub record SoFar (start : Standing) (t n : ℕ) (announced : List Announcement) (now : Standing) (all : List Decision) : Type 0 where
+pub record SoFar (start : Membership) (t n : ℕ) (announced : List Announcement) (now : Membership) (all : List Decision) : Type 0 where
   pub left : now ≡ record start { members = all_decided start.machine t start.members (take n announced) }
-  pub told : all ≡ all_decisions start.machine t start.members (take n announced)
+  pub decisions : all ≡ all_decisions start.machine t start.members (take n announced)
   pub bounded : (heard : ℕ) → EachBounded heard start.members → EachBounded (heard + n) now.members
 
 -- one announcement more is decided
-pub one_more : (start : Standing) (t n : ℕ) (announced : List Announcement) (now after : Standing) (all : List Decision) (a : Announcement) (d : Decision) → SoFar start t n announced now all → t ≤ LAST_SLOT → IsWithinLimits a → n < length announced → get_or announced n a ≡ a
+pub one_more : (start : Membership) (t n : ℕ) (announced : List Announcement) (now after : Membership) (all : List Decision) (a : Announcement) (d : Decision) → SoFar start t n announced now all → t ≤ LAST_SLOT → IsWithinLimits a → n < length announced → get_or announced n a ≡ a
     → d ≡ decision now.machine t now.members a → after ≡ record now { members = decided now.machine t now.members a } → SoFar start t (n + 1) announced after (all ++ d ∷ [])
 one_more start t n announced now after all a d s in_time limits within at is left =
     let front : take (n + 1) announced ≡ take n announced ++ a ∷ [] = take_more announced n a within ∙ ap (λ (x : Announcement). take n announced ++ x ∷ []) at in
-    let of : List Member → Standing = λ ms. record start { members = ms } in
+    let of : List Member → Membership = λ ms. record start { members = ms } in
     record {
       left =
-          left ∙ ap (λ (r : Standing). record r { members = decided r.machine t r.members a }) s.left
+          left ∙ ap (λ (r : Membership). record r { members = decided r.machine t r.members a }) s.left
           ∙ ap of (sym (decided_push start.machine t start.members (take n announced) a) ∙ ap (all_decided start.machine t start.members) (sym front));
-      told =
-          ap (λ (l : List Decision). l ++ d ∷ []) s.told ∙ ap (λ (x : Decision). all_decisions start.machine t start.members (take n announced) ++ x ∷ []) (is ∙ ap (λ (r : Standing). decision r.machine t r.members a) s.left)
+      decisions =
+          ap (λ (l : List Decision). l ++ d ∷ []) s.decisions ∙ ap (λ (x : Decision). all_decisions start.machine t start.members (take n announced) ++ x ∷ []) (is ∙ ap (λ (r : Membership). decision r.machine t r.members a) s.left)
           ∙ sym (decisions_push start.machine t start.members (take n announced) a) ∙ ap (all_decisions start.machine t start.members) (sym front);
       bounded = λ heard h.
           let count : heard + n + 1 ≡ heard + (n + 1) = omega arith in
-          subst (λ (r : Standing). EachBounded (heard + (n + 1)) r.members) (sym left)
+          subst (λ (r : Membership). EachBounded (heard + (n + 1)) r.members) (sym left)
           (subst (λ k. EachBounded k (decided now.machine t now.members a)) count (bounded_decided now.machine (heard + n) t now.members a in_time limits (s.bounded heard h)));
     }
 
 -- and more may be heard
-pub bounded_so_far : (start : Standing) (t n m : ℕ) (announced : List Announcement) (now : Standing) (all : List Decision) → SoFar start t n announced now all → n ≤ m → (heard : ℕ) → EachBounded heard start.members → EachBounded (heard + m) now.members
+pub bounded_so_far : (start : Membership) (t n m : ℕ) (announced : List Announcement) (now : Membership) (all : List Decision) → SoFar start t n announced now all → n ≤ m → (heard : ℕ) → EachBounded heard start.members → EachBounded (heard + m) now.members
 bounded_so_far start t n m announced now all s more heard h = bounded_later (heard + n) (heard + m) (omega arith) now.members (s.bounded heard h)
 
 -- while there is more to hear each member has room for one delay more
-pub room_so_far : (start : Standing) (t n m : ℕ) (announced : List Announcement) (now : Standing) (all : List Decision) → SoFar start t n announced now all → n < m → m ≤ MAX_HEARD → EachBounded (MAX_HEARD - m) start.members → EachHasRoom now.members
+pub room_so_far : (start : Membership) (t n m : ℕ) (announced : List Announcement) (now : Membership) (all : List Decision) → SoFar start t n announced now all → n < m → m ≤ MAX_HEARD → EachBounded (MAX_HEARD - m) start.members → EachHasRoom now.members
 room_so_far start t n m announced now all s more few h = has_room (MAX_HEARD - m + n) now.members (omega arith) (s.bounded (MAX_HEARD - m) h)
 
 -- ---- announcements at their places
@@ -107,31 +107,31 @@ room_so_far start t n m announced now all s more few h = has_room (MAX_HEARD - m
 pub length_announcements : (xs : List Said) → length (announcements xs) ≡ length xs
 length_announcements xs = grind (arith, common_steps)
 
-said_at : (xs : List Said) (i : ℕ) (x : Said) → i < length xs → get_or (announcements xs) i x.2 ≡ (get_or xs i x).2
+said_at : (xs : List Said) (i : ℕ) (x : Said) → i < length xs → get_or (announcements xs) i x.announcement ≡ (get_or xs i x).announcement
 said_at xs i x within = grind (arith, common_steps)
 
-pub said_item : (xs : List Said) (i : ℕ) (x : Said) → i < length xs → x ≡ get_or xs i x → get_or (announcements xs) i x.2 ≡ x.2
-said_item xs i x within is = said_at xs i x within ∙ ap (λ (a : Said). a.2) (sym is)
+pub said_item : (xs : List Said) (i : ℕ) (x : Said) → i < length xs → x ≡ get_or xs i x → get_or (announcements xs) i x.announcement ≡ x.announcement
+said_item xs i x within is = said_at xs i x within ∙ ap (λ (a : Said). a.announcement) (sym is)
 
-pub limits_item : (xs : List Said) (i : ℕ) (x : Said) → AllByRecursion (λ a. IsWithinLimits a.2) xs → i < length xs → x ≡ get_or xs i x → IsWithinLimits x.2
-limits_item xs i x h within is = subst (λ (a : Said). IsWithinLimits a.2) (sym is) (each_at (λ (a : Said). IsWithinLimits a.2) xs i x h within)
+pub limits_item : (xs : List Said) (i : ℕ) (x : Said) → AllByRecursion (λ a. IsWithinLimits a.announcement) xs → i < length xs → x ≡ get_or xs i x → IsWithinLimits x.announcement
+limits_item xs i x h within is = subst (λ (a : Said). IsWithinLimits a.announcement) (sym is) (each_at (λ (a : Said). IsWithinLimits a.announcement) xs i x h within)
 
 -- ---- who is left
 
 -- those that a boundary begins with
-abbrev pub begun : ℕ → Roster → Standing
+abbrev pub begun : ℕ → Roster → Membership
 begun t r = record { machine = r.machine; members = present t r.members }
 
 -- with what was heard
-abbrev pub with_heard : ℕ → List Said → Roster → Standing → Roster
+abbrev pub with_heard : ℕ → List Said → Roster → Membership → Roster
 with_heard t announced old s = record { machine = s.machine; members = s.members; heard = old.heard + length announced; last_slot = Some t }
 
-pub decided_ok : {A E : Type 0} (r : Result A E) (t : ℕ) (announced : List Said) (old after : Roster) {start now : Standing} → start ≡ begun t old → after ≡ with_heard t announced old now
+pub decided_ok : {A E : Type 0} (r : Result A E) (t : ℕ) (announced : List Said) (old after : Roster) {start now : Membership} → start ≡ begun t old → after ≡ with_heard t announced old now
     → OnOk r (now ≡ after_all t (announcements announced) start) → OnOk r (after ≡ after_boundary t announced old)
 decided_ok (Ok x) t announced old after same is all = is ∙ ap (with_heard t announced old) (all ∙ ap (after_all t (announcements announced)) same)
 decided_ok (Err e) t announced old after same is all = tt
 
-pub decided_err : {A E : Type 0} (r : Result A E) (t : ℕ) (announced : List Said) (old after : Roster) {start now : Standing} → start ≡ begun t old → after ≡ with_heard t announced old now
+pub decided_err : {A E : Type 0} (r : Result A E) (t : ℕ) (announced : List Said) (old after : Roster) {start now : Membership} → start ≡ begun t old → after ≡ with_heard t announced old now
     → OnErr r ((k : ℕ) × (now ≡ after_all t (take k (announcements announced)) start)) → OnErr r (IsCutShort t announced old after)
 decided_err (Ok x) t announced old after same is some = tt
 decided_err (Err e) t announced old after same is some = (some.0, is ∙ ap (with_heard t announced old) (some.1 ∙ ap (after_all t (take some.0 (announcements announced))) same))

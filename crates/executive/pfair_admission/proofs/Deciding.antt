@@ -17,7 +17,7 @@ use Rattle.pfair_admission.specs.Admission.{Machine, member_named, claimed, arri
 use Rattle.pfair_admission.specs.Removal.{NoneFreed}
 use Rattle.pfair_admission.specs.Roster.{EachHasRoom}
 use Rattle.pfair_admission.specs.Ledger.{is_there}
-use Rattle.pfair_admission.specs.Standing.{Standing}
+use Rattle.pfair_admission.specs.Membership.{Membership}
 use Rattle.pfair_admission.proofs.MemberLists.{present_all, none_freed_push}
 use Rattle.pfair_admission.proofs.Written.{filter_again}
 
@@ -54,7 +54,7 @@ room_of_named (x ∷ ms) name m h found = grind (arith, same_Some, room_of_named
 
 -- ---- one machine
 
-pub stood : (machine : Machine) {ms ns : List Member} → ms ≡ ns → ◌≡◌ {A = Standing} (record { machine = machine; members = ms }) (record { machine = machine; members = ns })
+pub stood : (machine : Machine) {ms ns : List Member} → ms ≡ ns → ◌≡◌ {A = Membership} (record { machine = machine; members = ms }) (record { machine = machine; members = ns })
 stood machine e = ap (λ (l : List Member). record { machine = machine; members = l }) e
 
 -- if nobody has the name nothing changes
@@ -69,9 +69,9 @@ pub if_decided : {E : Type 0} (r : Result Decision E) (t index : ℕ) {o p : Opt
 if_decided r t index same is = grind arith
 
 pub late_decided : {E : Type 0} (r : Result Decision E) (machine : Machine) (t : ℕ) (old new : List Member) (name : List ℕ) (index by : ℕ) → IfOk r (λ d. d ≡ late_release t (member_named old name) index) → IfOk r (λ d. new ≡ present t (effect t old (Late name index by) d))
-    → OnOk r (◌≡◌ {A = Standing} (record { machine = machine; members = new }) (record { machine = machine; members = decided machine t old (Late name index by) }))
+    → OnOk r (◌≡◌ {A = Membership} (record { machine = machine; members = new }) (record { machine = machine; members = decided machine t old (Late name index by) }))
 late_decided r machine t old new name index by is changed = grind (arith, stood)
 
-pub late_same : {A E : Type 0} (r : Result A E) (machine : Machine) (old new : List Member) → OnErr r (new ≡ old) → OnErr r (◌≡◌ {A = Standing} (record { machine = machine; members = new }) (record { machine = machine; members = old }))
+pub late_same : {A E : Type 0} (r : Result A E) (machine : Machine) (old new : List Member) → OnErr r (new ≡ old) → OnErr r (◌≡◌ {A = Membership} (record { machine = machine; members = new }) (record { machine = machine; members = old }))
 late_same (Ok d) machine old new same = same
 late_same (Err e) machine old new same = stood machine same

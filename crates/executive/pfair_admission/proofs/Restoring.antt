@@ -20,7 +20,7 @@ use Rattle.pfair_admission.specs.declared.refusal.Refusal.TheVariants.{NameTaken
 use Rattle.pfair_entry.specs.declared.entry.TheConstants.Entry.{LONGEST_DELAY}
 use Rattle.pfair_admission.specs.Ledger.{IsFound, Numbered}
 use Rattle.pfair_admission.specs.Roster.{EachBounded}
-use Rattle.pfair_admission.specs.Standing.{Standing}
+use Rattle.pfair_admission.specs.Membership.{Membership}
 use Rattle.pfair_admission.specs.Admission.{arrival, is_freed, member_named, Machine}
 use Rattle.pfair_admission.specs.Carried.{as_one, carried, coming_delays, delays_from, jobs_done, passed_delays, subtasks_done}
 use Rattle.pfair_admission.specs.Removal.{IsNotBefore}
@@ -162,13 +162,13 @@ admitted_else machine ms name w d is other = grind arith
 pub length_values : (es : Numbered) → length (values_of es) ≡ length es
 length_values es = grind (arith, common_steps)
 
-pub length_restored : {A E : Type 0} (r : Result A E) (old new : Standing) (m : Member) → OnOk r (new ≡ record old { members = old.members ++ m ∷ [] }) → OnErr r (new ≡ old) → length new.members ≤ length old.members + 1
-length_restored (Ok x) old new m is same = let more = ap (λ (s : Standing). length s.members) is in omega (arith, more, length-append old.members (m ∷ []))
-length_restored (Err e) old new m is same = let more = ap (λ (s : Standing). length s.members) same in omega (arith, more)
+pub length_restored : {A E : Type 0} (r : Result A E) (old new : Membership) (m : Member) → OnOk r (new ≡ record old { members = old.members ++ m ∷ [] }) → OnErr r (new ≡ old) → length new.members ≤ length old.members + 1
+length_restored (Ok x) old new m is same = let more = ap (λ (s : Membership). length s.members) is in omega (arith, more, length-append old.members (m ∷ []))
+length_restored (Err e) old new m is same = let more = ap (λ (s : Membership). length s.members) same in omega (arith, more)
 
-pub bounded_restored : {A E : Type 0} (r : Result A E) (heard t : ℕ) (machine : Machine) (old new : Standing) (m : Member) → OnOk r (CanBeRestored machine t old.members m) → OnOk r (new ≡ record old { members = old.members ++ m ∷ [] })
+pub bounded_restored : {A E : Type 0} (r : Result A E) (heard t : ℕ) (machine : Machine) (old new : Membership) (m : Member) → OnOk r (CanBeRestored machine t old.members m) → OnOk r (new ≡ record old { members = old.members ++ m ∷ [] })
     → OnErr r (new ≡ old) → EachBounded heard old.members → EachBounded heard new.members
 bounded_restored (Ok x) heard t machine old new m fit is same h =
     let fits = subst (λ (x : Member). last_offset x ≤ LAST_SLOT) fit.left.again fit.left.able.offset in
-    subst (λ (s : Standing). EachBounded heard s.members) (sym is) (all_by_recursion_push (λ x. last_offset x ≤ LAST_SLOT + LONGEST_DELAY * heard) old.members m h (omega (arith, fits)))
-bounded_restored (Err e) heard t machine old new m fit is same h = subst (λ (s : Standing). EachBounded heard s.members) (sym same) h
+    subst (λ (s : Membership). EachBounded heard s.members) (sym is) (all_by_recursion_push (λ x. last_offset x ≤ LAST_SLOT + LONGEST_DELAY * heard) old.members m h (omega (arith, fits)))
+bounded_restored (Err e) heard t machine old new m fit is same h = subst (λ (s : Membership). EachBounded heard s.members) (sym same) h

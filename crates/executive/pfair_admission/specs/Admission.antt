@@ -5,7 +5,7 @@ use Rattle.pfair_weight.specs.Window.{release_of}
 use Rattle.pfair_entry.specs.Same.{name_eq}
 use Rattle.pfair_entry.specs.declared.announcement.Announcement.{Announcement}
 use Rattle.pfair_entry.specs.declared.announcement.Announcement.TheVariants.{Arrive, Depart, Late}
-use Rattle.pfair_entry.specs.Said.{Said}
+use Rattle.pfair_entry.specs.declared.said.Said.{Said}
 use Rattle.pfair_admission.specs.declared.decision.Decision.{Decision}
 use Rattle.pfair_admission.specs.declared.decision.Decision.TheVariants.{Admitted, Departing, Delayed, Refused}
 use Rattle.pfair_admission.specs.declared.quantum.Quantum.{Quantum}
@@ -107,7 +107,7 @@ boundary_decisions machine t members announced = all_decisions machine t (presen
 
 -- what was announced, in order
 abbrev pub announcements : List Said → List Announcement
-announcements announced = map (λ a. a.2) announced
+announcements announced = map (λ (a : Said). a.announcement) announced
 
 -- ---- a quantum
 

@@ -4,7 +4,7 @@ use Rattle.std.specs.List.{AllByRecursion}
 use Rattle.pfair_entry.specs.declared.announcement.Announcement.{Announcement}
 use Rattle.pfair_entry.specs.declared.announcement.Announcement.TheVariants.{Late}
 use Rattle.pfair_entry.specs.declared.entry.TheConstants.Entry.{LAST_INDEX}
-use Rattle.pfair_entry.specs.Said.{Said}
+use Rattle.pfair_entry.specs.declared.said.Said.{Said}
 use Rattle.pfair_admission.specs.declared.members.TheConstants.Members.{LAST_SLOT}
 use Rattle.pfair_admission.specs.declared.delay.Delay.{Delay}
 use Rattle.pfair_admission.specs.Member.{Member, last_offset}
@@ -82,4 +82,4 @@ raised left begin members a = a
 abbrev pub all_raised : List Member → ℕ → Machine → ℕ → List Member → List Said → List Said
 all_raised left begin machine t members [] = []
 all_raised left begin machine t members (a ∷ more) =
-    (a.0, a.1, raised left begin members a.2) ∷ all_raised left begin machine t (decided machine t members a.2) more
+    record a { announcement = raised left begin members a.announcement } ∷ all_raised left begin machine t (decided machine t members a.announcement) more

@@ -10,7 +10,7 @@ use Rattle.pfair_admission.specs.Member.{Member}
 use Rattle.pfair_admission.specs.Admission.{all_decided, all_decisions, arrival, claimed, decided, decision, is_freed, is_named, member_named, present}
 use Rattle.pfair_admission.specs.Removal.{NoneFreedBefore}
 use Rattle.pfair_admission.specs.Roster.{EachBounded}
-use Rattle.pfair_admission.specs.Standing.{Standing}
+use Rattle.pfair_admission.specs.Membership.{Membership}
 use Rattle.pfair_admission.specs.declared.members.TheConstants.Members.{MAX_PROCESSORS, MAX_FRAME, MAX_HEARD}
 use Rattle.pfair_admission.specs.declared.ledger.Ledger.{Ledger}
 
@@ -23,30 +23,30 @@ abbrev pub is_there : ℕ → Member → Bool
 is_there t m = not (is_freed t m.freed_at)
 
 -- the machine and its members at the boundary of slot t
-abbrev pub standing : ℕ → Ledger → Standing
-standing t a = record { machine = record { processors = a.processors; frame = a.frame }; members = present t (listed a) }
+abbrev pub membership : ℕ → Ledger → Membership
+membership t a = record { machine = record { processors = a.processors; frame = a.frame }; members = present t (listed a) }
 
 -- the machine and all its members
-abbrev pub whole : Ledger → Standing
+abbrev pub whole : Ledger → Membership
 whole a = record { machine = record { processors = a.processors; frame = a.frame }; members = listed a }
 
 -- ---- decisions
 
-abbrev pub told : ℕ → Announcement → Standing → Decision
-told t announcement s = decision s.machine t s.members announcement
+abbrev pub decision_on : ℕ → Announcement → Membership → Decision
+decision_on t announcement s = decision s.machine t s.members announcement
 
-abbrev pub after : ℕ → Announcement → Standing → Standing
+abbrev pub after : ℕ → Announcement → Membership → Membership
 after t announcement s = record s { members = decided s.machine t s.members announcement }
 
-abbrev pub all_told : ℕ → List Announcement → Standing → List Decision
-all_told t announced s = all_decisions s.machine t s.members announced
+abbrev pub decisions_on : ℕ → List Announcement → Membership → List Decision
+decisions_on t announced s = all_decisions s.machine t s.members announced
 
-abbrev pub after_all : ℕ → List Announcement → Standing → Standing
+abbrev pub after_all : ℕ → List Announcement → Membership → Membership
 after_all t announced s = record s { members = all_decided s.machine t s.members announced }
 
 -- an announcement is decided, or an allocation failed and nothing has changed
-pub record IsDecided {E : Type 0} (t : ℕ) (announcement : Announcement) (old new : Standing) (result : Result Decision E) : Type 0 where
-  pub decision : IfOk result (λ d. d ≡ told t announcement old)
+pub record IsDecided {E : Type 0} (t : ℕ) (announcement : Announcement) (old new : Membership) (result : Result Decision E) : Type 0 where
+  pub decision : IfOk result (λ d. d ≡ decision_on t announcement old)
   pub members : OnOk result (new ≡ after t announcement old)
   pub err : OnErr result (new ≡ old)
 
@@ -121,14 +121,14 @@ pub record IsUnswept (t : ℕ) (a : Ledger) : Type 0 where
 -- ---- hearing
 
 -- n announcements can be decided at slot t
-pub record CanHear (t n : ℕ) (a : Ledger) : Type 0 where
+pub record CanDecide (t n : ℕ) (a : Ledger) : Type 0 where
   pub kept : IsLedger (is_there t) a
   pub few : n ≤ MAX_HEARD
   pub numbers : a.admitted + n < 2 ^ 64
   pub bounded : EachBounded (MAX_HEARD - n) (present t (listed a))
 
 -- what n announcements leave, whether or not all of them are decided
-pub record HasHeard (t n : ℕ) (old new : Ledger) : Type 0 where
+pub record HasDecided (t n : ℕ) (old new : Ledger) : Type 0 where
   pub kept : IsLedger (is_there t) new
   pub admitted : new.admitted ≤ old.admitted + n
   pub bounded : (heard : ℕ) → EachBounded heard (present t (listed old)) → EachBounded (heard + n) (present t (listed new))

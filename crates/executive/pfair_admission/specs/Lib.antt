@@ -6,8 +6,8 @@ pub mod Laws
 pub mod Ledger
 pub mod Member
 pub mod Members
+pub mod Membership
 pub mod Refusal
 pub mod Removal
 pub mod Restored
 pub mod Roster
-pub mod Standing

@@ -11,7 +11,7 @@ ghost use Rattle.pfair_admission.specs.Carried.{carried, CanBeCarried};
 ghost use Rattle.pfair_admission.specs.Removal.{earlier_of, NoneFreed, NoneFreedBefore};
 ghost use Rattle.pfair_admission.specs.Roster.{EachBounded, EachHasRoom};
 ghost use Rattle.pfair_admission.specs.Restored.{member_in, CanBeRestored, IsRestoreFault};
-ghost use Rattle.pfair_admission.specs.Ledger.{after, after_all, all_told, has_number, is_there, listed, standing, told, whole, CanHear, HasHeard, HasRegister, IsArrivalByWeight, IsDecided, IsFound, IsLedger, IsPlace, IsUnswept};
+ghost use Rattle.pfair_admission.specs.Ledger.{after, after_all, decisions_on, has_number, is_there, listed, membership, decision_on, whole, CanDecide, HasDecided, HasRegister, IsArrivalByWeight, IsDecided, IsFound, IsLedger, IsPlace, IsUnswept};
 
 use crate::decision::Decision;
 use crate::incarnation::{Incarnation, has_come};
@@ -73,7 +73,7 @@ impl Ledger {
     /// O(n) for n members if one of them may be freed by then, and else O(1).
     pub(crate) fn sweep(&mut self, slot: u64)
         requires { IsUnswept slot self.old }
-        ensures same { standing slot self.new ≡ standing slot self.old }
+        ensures same { membership slot self.new ≡ membership slot self.old }
         ensures gone { NoneFreed slot (listed self.new) }
         ensures kept { IsLedger (λ _. true) self.new }
         ensures admitted { self.new.admitted ≡ self.old.admitted }
@@ -94,17 +94,17 @@ impl Ledger {
         announced: &[Said],
     ) -> Result<Vec<Decision>, AllocError>
         requires slot { slot ≤ Members.LAST_SLOT }
-        requires able { CanHear slot (length announced.now) self.old }
-        requires limits { AllByRecursion (λ a. IsWithinLimits a.2) announced.now }
-        ensures decisions { IfOk result (λ all. all.items ≡ all_told slot (announcements announced.now) (standing slot self.old)) }
-        ensures members { OnOk result (standing slot self.new ≡ after_all slot (announcements announced.now) (standing slot self.old)) }
-        ensures err { OnErr result ((k : ℕ) × (standing slot self.new ≡ after_all slot (take k (announcements announced.now)) (standing slot self.old))) }
+        requires able { CanDecide slot (length announced.now) self.old }
+        requires limits { AllByRecursion (λ a. IsWithinLimits a.announcement) announced.now }
+        ensures decisions { IfOk result (λ all. all.items ≡ decisions_on slot (announcements announced.now) (membership slot self.old)) }
+        ensures members { OnOk result (membership slot self.new ≡ after_all slot (announcements announced.now) (membership slot self.old)) }
+        ensures err { OnErr result ((k : ℕ) × (membership slot self.new ≡ after_all slot (take k (announcements announced.now)) (membership slot self.old))) }
         ensures wanted { OnErr result (0 < length announced.now) }
-        ensures heard { HasHeard slot (length announced.now) self.old self.new }
+        ensures ledger { HasDecided slot (length announced.now) self.old self.new }
     {
         let mut all = Vec::new(self.alloc);
         for said in announced {
-            all.push(self.decide(slot, said.2)?)?;
+            all.push(self.decide(slot, said.announcement)?)?;
         }
         Ok(all)
     }
@@ -115,7 +115,7 @@ impl Ledger {
         requires numbers { self.old.admitted + 1 < 2 ^ 64 }
         requires room { EachHasRoom (present slot (listed self.old)) }
         requires limits { IsWithinLimits announcement }
-        ensures decided { IsDecided slot announcement (standing slot self.old) (standing slot self.new) result }
+        ensures decided { IsDecided slot announcement (membership slot self.old) (membership slot self.new) result }
         ensures kept { IsLedger (is_there slot) self.new }
         ensures admitted { self.new.admitted ≤ self.old.admitted + 1 }
     {
@@ -140,7 +140,7 @@ impl Ledger {
         requires slot { slot ≤ MAX_OFFSET }
         requires kept { IsLedger (is_there slot) self.old }
         requires numbers { self.old.admitted + 1 < 2 ^ 64 }
-        ensures decided { IsDecided slot (Arrive name weight early) (standing slot self.old) (standing slot self.new) result }
+        ensures decided { IsDecided slot (Arrive name weight early) (membership slot self.old) (membership slot self.new) result }
         ensures kept { IsLedger (is_there slot) self.new }
         ensures admitted { self.new.admitted ≤ self.old.admitted + 1 }
     {
@@ -159,7 +159,7 @@ impl Ledger {
 
     fn arrival(&self, slot: u64, name: &TaskName, weight: Weight) -> Decision
         requires { IsLedger (is_there slot) self.now }
-        ensures { result ≡ arrival (standing slot self.now).machine (present slot (listed self.now)) name.now weight }
+        ensures { result ≡ arrival (membership slot self.now).machine (present slot (listed self.now)) name.now weight }
     {
         if self.place_of(slot, name).is_some() {
             return Decision::Refused(Refusal::NameTaken);
@@ -185,8 +185,8 @@ impl Ledger {
 
     fn depart(&mut self, slot: u64, name: &TaskName) -> Decision
         requires { IsLedger (is_there slot) self.old }
-        ensures decision { result ≡ told slot (Depart name.now) (standing slot self.old) }
-        ensures members { standing slot self.new ≡ after slot (Depart name.now) (standing slot self.old) }
+        ensures decision { result ≡ decision_on slot (Depart name.now) (membership slot self.old) }
+        ensures members { membership slot self.new ≡ after slot (Depart name.now) (membership slot self.old) }
         ensures kept { IsLedger (is_there slot) self.new }
         ensures admitted { self.new.admitted ≡ self.old.admitted }
     {
@@ -214,7 +214,7 @@ impl Ledger {
         requires kept { IsLedger (is_there slot) self.old }
         requires room { EachHasRoom (present slot (listed self.old)) }
         requires limits { IsWithinLimits (Late name.now index by) }
-        ensures decided { IsDecided slot (Late name.now index by) (standing slot self.old) (standing slot self.new) result }
+        ensures decided { IsDecided slot (Late name.now index by) (membership slot self.old) (membership slot self.new) result }
         ensures kept { IsLedger (is_there slot) self.new }
         ensures admitted { self.new.admitted ≡ self.old.admitted }
     {

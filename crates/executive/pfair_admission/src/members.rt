@@ -154,7 +154,7 @@ impl Members {
         requires slot { slot ≤ Members.LAST_SLOT }
         requires order { ForSome self.old.last_slot (λ last. last ≤ slot) }
         requires heard { self.old.heard + length announced.now ≤ Members.MAX_HEARD }
-        requires limits { AllByRecursion (λ a. IsWithinLimits a.2) announced.now }
+        requires limits { AllByRecursion (λ a. IsWithinLimits a.announcement) announced.now }
         ensures decisions { IfOk result (λ all. all.items ≡ boundary_decisions self.old.machine slot self.old.members (announcements announced.now)) }
         ensures members { OnOk result (self.new ≡ after_boundary slot announced.now self.old) }
         ensures err { OnErr result (IsCutShort slot announced.now self.old self.new) }

@@ -22,7 +22,7 @@ use Rattle.pfair_order.proofs.NamesApart.{once_from_names}
 use Rattle.pfair_weight.specs.Name.{NamesApart}
 use Rattle.pfair_weight.proofs.NamesApart.{apart_head, apart_tail, apart_filter, apart_map}
 use Rattle.std.specs.Cmp.Lexicographic.{bytes_decides, nat_list_eq_equiv}
-use Rattle.pfair_ready.specs.declared.plain.Waiting.{Waiting}
+use Rattle.pfair_ready.specs.declared.plain.PlainEntry.{PlainEntry}
 use Rattle.pfair_ready.specs.Names.{NameValue, name_cmp, name_eq}
 use Rattle.pfair_ready.specs.Queue.{Queue, released}
 use Rattle.std.proofs.lemmas.List.{map-append, nil_from_length}
@@ -63,36 +63,36 @@ module _ {X Y : Type 0} (q : X → Bool) (f : X → Y) where
         | Greater ↦ λ t. IsPermutation-trans (chosen ((k, v) ∷ e ∷ es)) (chosen (e ∷ (k, v) ∷ es)) (chosen (e ∷ put name_cmp k v es)) (chosen_swap (k, v) e es) (chosen_cons e ((k, v) ∷ es) (put name_cmp k v es) (chosen_put k v es (ap (λ r. cond (is_eq r) (Some e.1) (find name_cmp k es)) (sym t) ∙ none)))
       ] refl
 
-abbrev pub entry : Waiting → NameValue × (ℕ × Key)
+abbrev pub entry : PlainEntry → NameValue × (ℕ × Key)
 entry w = (w.key.name, (w.release, w.key))
 
-find_entry : (ws : List Waiting) (q : NameValue) → find name_cmp q (map entry ws) ≡ first_named q ws
+find_entry : (ws : List PlainEntry) (q : NameValue) → find name_cmp q (map entry ws) ≡ first_named q ws
 find_entry [] q = refl
 find_entry (w ∷ ws) q = grind (arith, map, same_name, find_entry ws q)
 
 -- the contents under a name
-pub get_held : (ws : List Waiting) (q : NameValue) → finmap.get (queue_of ws) q ≡ first_named q ws
+pub get_held : (ws : List PlainEntry) (q : NameValue) → finmap.get (queue_of ws) q ≡ first_named q ws
 get_held ws q = get-from_entries names_total (map entry ws) q ∙ find_entry ws q
 
 -- whether something is held under a name, by a search of the list
-pub contained : (held : Queue) (ws seen : List Waiting) (name : NameValue) (o : Option (ℕ × Key)) (b : Bool) → queue_of ws ≡ held → seen ≡ ws → o ≡ first_named name seen → b ≡ is_some o → finmap.contains_key held name ≡ b
+pub contained : (held : Queue) (ws seen : List PlainEntry) (name : NameValue) (o : Option (ℕ × Key)) (b : Bool) → queue_of ws ≡ held → seen ≡ ws → o ≡ first_named name seen → b ≡ is_some o → finmap.contains_key held name ≡ b
 contained held ws seen name o b view same found is = grind (arith, get_held)
 
 -- one more with a new name
-pub queue_of_push : (ws : List Waiting) (w : Waiting) → first_named w.key.name ws ≡ None → queue_of (ws ++ w ∷ []) ≡ finmap.insert (queue_of ws) w.key.name (w.release, w.key)
+pub queue_of_push : (ws : List PlainEntry) (w : PlainEntry) → first_named w.key.name ws ≡ None → queue_of (ws ++ w ∷ []) ≡ finmap.insert (queue_of ws) w.key.name (w.release, w.key)
 queue_of_push ws w none =
     ap (λ es. finmap.from_entries {R = name_cmp} es) (map-append entry ws (w ∷ []))
     ∙ from_entries_push names_total names_exact (map entry ws) w.key.name (w.release, w.key) (find_entry ws w.key.name ∙ none)
 
-abbrev shown : Waiting → ℕ × Key
+abbrev shown : PlainEntry → ℕ × Key
 shown w = (w.release, w.key)
 
-named_filter : (p : NameValue → Bool) (ws : List Waiting) (q : NameValue) → first_named q (filter (λ w. p w.key.name) ws) ≡ cond (p q) (first_named q ws) None
+named_filter : (p : NameValue → Bool) (ws : List PlainEntry) (q : NameValue) → first_named q (filter (λ w. p w.key.name) ws) ≡ cond (p q) (first_named q ws) None
 named_filter p [] q = elim (p q) as (λ b. let e : Option (ℕ × Key) = None in e ≡ cond b e e) [ true ↦ refl | false ↦ refl ]
 named_filter p (w ∷ ws) q = grind (arith, bytes_decides, named_filter p ws q)
 
 -- those whose names pass stay
-pub queue_of_filter : (p : NameValue → Bool) (ws : List Waiting) → queue_of (filter (λ w. p w.key.name) ws) ≡ finmap.retain_keys (queue_of ws) p
+pub queue_of_filter : (p : NameValue → Bool) (ws : List PlainEntry) → queue_of (filter (λ w. p w.key.name) ws) ≡ finmap.retain_keys (queue_of ws) p
 queue_of_filter p ws =
     same_map names_total names_exact _ _ (λ q.
     get_held (filter (λ w. p w.key.name) ws) q ∙ named_filter p ws q ∙ ap (λ o. cond (p q) o None) (sym (get_held ws q))
@@ -107,26 +107,26 @@ retain_but m name =
     ∙ ap (λ b. cond b None (finmap.get m q)) (sym (same_name name q) ∙ (eq_by_cmp_equiv names_total).symm name q)
     ∙ sym (get-remove names_total m name q))
 
-abbrev pub name_of : Waiting → NameValue
+abbrev pub name_of : PlainEntry → NameValue
 name_of w = w.key.name
 
 -- a name that is not found is no other's, and the other way round
-pub none_named : (q : NameValue) (ws : List Waiting) → first_named q ws ≡ None → AllByRecursion (λ w. name_eq w.key.name q ≡ false) ws
+pub none_named : (q : NameValue) (ws : List PlainEntry) → first_named q ws ≡ None → AllByRecursion (λ w. name_eq w.key.name q ≡ false) ws
 none_named q [] none = tt
 none_named q (w ∷ ws) none = grind (arith, none-some, none_named q ws)
 
-none_found : (q : NameValue) (ws : List Waiting) → AllByRecursion (λ w. name_eq q w.key.name ≡ false) ws → first_named q ws ≡ None
+none_found : (q : NameValue) (ws : List PlainEntry) → AllByRecursion (λ w. name_eq q w.key.name ≡ false) ws → first_named q ws ≡ None
 none_found q [] other = refl
-none_found q (w ∷ ws) other = ap (λ b. option_map shown (cond b (Some w) (list.find (λ (w : Waiting). name_eq w.key.name q) ws))) (nat_list_eq_equiv.symm w.key.name q ∙ other.0) ∙ none_found q ws other.1
+none_found q (w ∷ ws) other = ap (λ b. option_map shown (cond b (Some w) (list.find (λ (w : PlainEntry). name_eq w.key.name q) ws))) (nat_list_eq_equiv.symm w.key.name q ∙ other.0) ∙ none_found q ws other.1
 
-abbrev pub released_of : ℕ → List Waiting → List Key
+abbrev pub released_of : ℕ → List PlainEntry → List Key
 released_of slot ws = map (λ w. w.key) (filter (λ w. nat_le w.release slot) ws)
 
 empty_entries : finmap.entries (finmap.empty {X = ℕ × Key} {R = name_cmp}) ≡ []
 empty_entries = nil_from_length _ (sym (finmap.len-entries finmap.empty) ∙ finmap.len-empty name_cmp (ℕ × Key))
 
 -- the released keys of the list are those of what it holds, in another order
-pub released_held : (slot : ℕ) (ws : List Waiting) → NamesApart name_of ws → IsPermutation (released_of slot ws) (released slot (queue_of ws))
+pub released_held : (slot : ℕ) (ws : List PlainEntry) → NamesApart name_of ws → IsPermutation (released_of slot ws) (released slot (queue_of ws))
 released_held slot [] once = subst (λ es. IsPermutation [] (map (λ e. e.1) (filter (λ e. nat_le e.0 slot) (map (λ e. e.1) es)))) (sym empty_entries) (IsPermutation-refl [])
 released_held slot (w ∷ ws) once =
     let passes : ℕ × Key → Bool = λ e. nat_le e.0 slot in
@@ -142,7 +142,7 @@ released_held slot (w ∷ ws) once =
     (IsPermutation-trans (released_of slot (w ∷ ws)) (chosen passes (λ e. e.1) (entry w ∷ es)) (chosen passes (λ e. e.1) (put name_cmp w.key.name (w.release, w.key) es)) more (chosen_put passes (λ e. e.1) w.key.name (w.release, w.key) es new))
 
 -- the least of the list are the first by rank of what it holds
-pub first_from_least : (slot m : ℕ) (ws : List Waiting) (first : List Key) → NamesApart name_of ws → IsKLeast (by_cmp pd2_cmp) m (released_of slot ws) first → first ≡ first_by_rank pd2_cmp m (released slot (queue_of ws))
+pub first_from_least : (slot m : ℕ) (ws : List PlainEntry) (first : List Key) → NamesApart name_of ws → IsKLeast (by_cmp pd2_cmp) m (released_of slot ws) first → first ≡ first_by_rank pd2_cmp m (released slot (queue_of ws))
 first_from_least slot m ws first once least =
     let split : IsSplit keys_total (released_of slot ws) first least.2 = split_from_least keys_total (released_of slot ws) first least.2 (once_from_names (released_of slot ws) (apart_map name_of (λ (k : Key). k.name) (λ w. w.key) (λ _. refl) (filter (λ w. nat_le w.release slot) ws) (apart_filter name_of (λ w. nat_le w.release slot) ws once))) least.0 least.3 least.5 in
     by_rank_of_split keys_total (released slot (queue_of ws)) first least.2

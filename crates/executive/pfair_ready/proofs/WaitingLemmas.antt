@@ -17,7 +17,7 @@ use Rattle.indexmap.specs.IndexMap.{IndexMap, set_value_at, values, with_value_a
 use Rattle.indexmap.proofs.CallerLemmas.{keys-with_value_at, updates-with_value_at}
 use Rattle.pfair_order.specs.declared.Key.{Key}
 use Rattle.pfair_ready.specs.declared.waiting.Entry.{Entry}
-use Rattle.pfair_ready.specs.declared.waiting.Held.{Held}
+use Rattle.pfair_ready.specs.declared.waiting.HeldKey.{HeldKey}
 use Rattle.pfair_ready.specs.Names.{NameValue, name_cmp, name_eq}
 use Rattle.pfair_ready.specs.Waiting.{Entries, held_under, live, queue_in, with_entry, IsEntryOf}
 use Rattle.pfair_ready.proofs.Names.{names_total, names_exact, tied_names}
@@ -38,7 +38,7 @@ abbrev pub flat : NameValue → Option Entry → Option (ℕ × Key)
 flat q None = None
 flat q (Some e) = held_under q e.held
 
-pub is_some_under : (q : NameValue) (o : Option Held) → is_some (held_under q o) ≡ is_some o
+pub is_some_under : (q : NameValue) (o : Option HeldKey) → is_some (held_under q o) ≡ is_some o
 is_some_under q None = refl
 is_some_under q (Some h) = refl
 

@@ -6,7 +6,7 @@ use Rattle.std.specs.Ordering.{eq_by_cmp}
 use Rattle.pfair_order.specs.declared.Key.{Key}
 use Rattle.pfair_order.specs.Order.{pd2_cmp}
 use Rattle.pfair_ready.specs.declared.waiting.Entry.{Entry}
-use Rattle.pfair_ready.specs.declared.waiting.Held.{Held}
+use Rattle.pfair_ready.specs.declared.waiting.HeldKey.{HeldKey}
 use Rattle.pfair_ready.specs.Names.{NameValue}
 use Rattle.pfair_ready.specs.Queue.{Queue}
 
@@ -20,11 +20,11 @@ with_entry name None es = es
 with_entry name (Some v) es = (name, v) ∷ es
 
 -- the key that waits under a name
-abbrev pub key_under : NameValue → Held → Key
+abbrev pub key_under : NameValue → HeldKey → Key
 key_under name h = record { d = h.d; b = h.b; group = h.group; name = name }
 
 -- with its release
-abbrev pub held_under : NameValue → Option Held → Option (ℕ × Key)
+abbrev pub held_under : NameValue → Option HeldKey → Option (ℕ × Key)
 held_under name = option_map (λ h. (h.release, key_under name h))
 
 -- the names under which something waits, with that

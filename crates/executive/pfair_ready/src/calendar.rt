@@ -64,7 +64,8 @@ impl Calendar {
 
     // The list of a slot if that is near and the list not full.
     fn bucket_of(&self, slot: u64) -> Option<usize>
-        ensures near { IfSome result (λ bucket. (bucket ≡ slot % 64) × (bucket < length self.now.near.items) × (self.now.turned < slot) × (slot ≤ self.now.turned + 64)) }
+        ensures near { IfSome result (λ bucket.
+            (bucket ≡ slot % 64) × (bucket < length self.now.near.items) × (self.now.turned < slot) × (slot ≤ self.now.turned + 64)) }
         ensures room { OnSome result (length (under self.now.near.items slot) < 256) }
     {
         let bucket = (slot % NEAR) as usize;

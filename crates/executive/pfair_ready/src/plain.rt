@@ -17,7 +17,7 @@ use std::vec::IntoIter;
 
 // A key that waits for its release or its turn.
 #[derive(Clone, Copy, Debug)]
-struct Waiting {
+struct PlainEntry {
     release: u64,
     key: Key,
 }
@@ -30,7 +30,7 @@ struct Waiting {
 pub struct PlainReady {
     alloc: Global,
     now: u64,
-    waiting: Vec<Waiting>,
+    waiting: Vec<PlainEntry>,
 }
 
 impl Model for PlainReady {
@@ -73,7 +73,7 @@ impl Ready for PlainReady {
         if find_name(&self.waiting, key.name).is_some() {
             return Ok(false);
         }
-        self.waiting.push(Waiting { release, key })?;
+        self.waiting.push(PlainEntry { release, key })?;
         Ok(true)
     }
 
@@ -93,7 +93,7 @@ impl Ready for PlainReady {
 }
 
 // The release and the key that wait under this name.
-fn find_name(waiting: &[Waiting], name: TaskName) -> Option<(u64, Key)>
+fn find_name(waiting: &[PlainEntry], name: TaskName) -> Option<(u64, Key)>
     ensures { result ≡ first_named name waiting.now }
 {
     waiting
@@ -103,7 +103,7 @@ fn find_name(waiting: &[Waiting], name: TaskName) -> Option<(u64, Key)>
 }
 
 // The keys that are released by the slot, in the order of the list.
-fn released_keys(alloc: Global, waiting: &[Waiting], slot: u64) -> Result<Vec<Key>, AllocError>
+fn released_keys(alloc: Global, waiting: &[PlainEntry], slot: u64) -> Result<Vec<Key>, AllocError>
     ensures { IfOk result (λ keys. keys.items ≡
         map (λ w. w.key) (filter (λ w. nat_le w.release slot) waiting.now)) }
 {
@@ -130,7 +130,7 @@ fn listed(alloc: Global, keys: IntoIter<Key>) -> Result<Vec<Key>, AllocError>
 }
 
 // Removes the keys under these names.
-fn keep_others(waiting: &mut Vec<Waiting>, keys: &[Key])
+fn keep_others(waiting: &mut Vec<PlainEntry>, keys: &[Key])
     ensures { waiting.new.items ≡
         filter (λ w. not (list_any (λ k. name_eq w.key.name k.name) keys.now)) waiting.old.items }
 {

@@ -15,18 +15,18 @@ use std::marker::Model;
 
 // A release and a key that wait, without the name under which they do.
 #[derive(Clone, Copy, Debug)]
-struct Held {
+struct HeldKey {
     release: u64,
     d: u64,
     b: u64,
     group: u64,
 }
 
-impl Held {
-    fn of(release: u64, key: &Key) -> Held
+impl HeldKey {
+    fn of(release: u64, key: &Key) -> HeldKey
         ensures { result ≡ record { release = release; d = key.now.d; b = key.now.b; group = key.now.group } }
     {
-        Held {
+        HeldKey {
             release,
             d: key.d,
             b: key.b,
@@ -56,7 +56,7 @@ impl Held {
 // What waits under a name, and where the task stands in the caller's list.
 #[derive(Clone, Copy, Debug)]
 struct Entry {
-    held: Option<Held>,
+    held: Option<HeldKey>,
     member: usize,
 }
 
@@ -139,7 +139,7 @@ impl Waiting {
         prove!(self.entries.len() < usize::MAX);
         let index = self.entries.len();
         let name = key.name;
-        let held = Some(Held::of(release, key));
+        let held = Some(HeldKey::of(release, key));
         self.entries.insert(name, Entry { held, member })?;
         self.added = self.added.saturating_add(1);
         Ok(index)
@@ -220,7 +220,7 @@ fn fill(entries: &mut Entries, index: usize, member: usize, release: u64, key: &
     if entry.held.is_some() {
         return false;
     }
-    let held = Some(Held::of(release, key));
+    let held = Some(HeldKey::of(release, key));
     *entry = Entry { held, member };
     true
 }

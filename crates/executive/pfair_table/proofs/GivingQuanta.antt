@@ -25,8 +25,8 @@ use Rattle.pfair_admission.specs.declared.quantum.Quantum.{Quantum}
 use Rattle.pfair_admission.specs.Roster.{Roster}
 use Rattle.pfair_table.specs.declared.pick.Pick.{Pick}
 use Rattle.pfair_table.specs.Table.{Table, names_task, pick, index_of, all_ran}
-use Rattle.pfair_table.specs.Queue.{queued, IsQueueWithout, IsToldOf, MayRun, has_key_of, keys_of}
-use Rattle.pfair_table.proofs.QueueKept.{found_other, found_changed, absent_removed, told_next, drop_item}
+use Rattle.pfair_table.specs.Queue.{queued, IsQueueWithout, IsNotifiedOf, MayRun, has_key_of, keys_of}
+use Rattle.pfair_table.proofs.QueueKept.{found_other, found_changed, absent_removed, notified_next, drop_item}
 
 -- the quanta of so many keys are given: the rows, the members, and what waits
 pub record RunSoFar (start : Roster) (first : List Key) (i : ℕ) (roster : Roster) (table : Table) (waiting : Queue) : Type 0 where
@@ -103,22 +103,22 @@ module _ {start : Roster} {first : List Key} {i : ℕ} {roster : Roster} {table 
     runs_next = ap (λ o. option_map quantum_of (running o)) still_found ∙ ap (λ b. option_map quantum_of (if b then None else Some may.0)) may.2
 
     -- so what waits under its name then is the subtask after that
-    pub told_on : {after : Roster} {anew : Queue} (quantum : Quantum) {new : Bool} → seatless quantum ≡ quantum_of may.0 → after ≡ record roster { members = ran key.name roster.members }
+    pub notified_on : {after : Roster} {anew : Queue} (quantum : Quantum) {new : Bool} → seatless quantum ≡ quantum_of may.0 → after ≡ record roster { members = ran key.name roster.members }
         → new ≡ not (finmap.contains_key waiting quantum.next_key.name) → anew ≡ (if new then finmap.insert waiting quantum.next_key.name (quantum.next_from, quantum.next_key) else waiting)
-        → IsToldOf key.name after.members waiting anew
-    told_on {after} {anew} quantum {new} is after_is fresh in_ =
-        told_next key.name after.members (with_quantum may.0) waiting waiting anew new quantum.next_from quantum.next_key
+        → IsNotifiedOf key.name after.members waiting anew
+    notified_on {after} {anew} quantum {new} is after_is fresh in_ =
+        notified_next key.name after.members (with_quantum may.0) waiting waiting anew new quantum.next_from quantum.next_key
         (ap (λ (r : Roster). member_named r.members key.name) after_is ∙ found_changed key.name with_quantum (λ m. refl) roster.members may.0 still_found)
         may.2 (ap (λ (q : Quantum). q.next_from) is) (ap (λ (q : Quantum). q.next_key) is)
         (absent_removed waiting key.name not_waiting) fresh in_
 
     -- one turn
     pub run_turn : {after : Roster} {rows : Table} {anew : Queue} {index : ℕ} → index ≡ may.0.next → after ≡ record roster { members = ran key.name roster.members }
-        → rows ≡ table ++ record { name = key.name; index = index } ∷ [] → IsToldOf key.name after.members waiting anew → RunSoFar start first (i + 1) after rows anew
-    run_turn {after} {rows} {anew} {index} index_is after_is rows_are told = record {
+        → rows ≡ table ++ record { name = key.name; index = index } ∷ [] → IsNotifiedOf key.name after.members waiting anew → RunSoFar start first (i + 1) after rows anew
+    run_turn {after} {rows} {anew} {index} index_is after_is rows_are notified = record {
       rows = rows_are ∙ ap (λ (xs : Table). xs ++ record { name = key.name; index = index } ∷ []) so.rows ∙ ap (λ (p : Pick). map (pick start.members) (take i first) ++ p ∷ []) picked ∙ sym pushed;
       ran_are = after_is ∙ ap (λ (r : Roster). record r { members = ran key.name r.members }) so.ran_are ∙ ap (λ (ms : List Member). record start { members = ms }) (sym (ap (λ (ps : Table). all_ran ps start.members) pushed ∙ all_ran_push (map (pick start.members) (take i first)) (pick start.members key) start.members));
-      queue = λ name. by name (name_eq name key.name) refl (told name);
+      queue = λ name. by name (name_eq name key.name) refl (notified name);
     }
       where
         picked : record { name = key.name; index = index } ≡ pick start.members key

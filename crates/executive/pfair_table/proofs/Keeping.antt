@@ -4,7 +4,7 @@ use Rattle.std.specs.Prelude.{◌≢◌, ◌&&◌, not, nat_lt, IsTrue, if◌the
 use Rattle.std.proofs.lemmas.Bool.{le-ltb}
 use Rattle.std.proofs.lemmas.List.{map-append}
 use Rattle.std.proofs.lemmas.Option.{none-some}
-use Rattle.pfair_replica.specs.HeldRows.{HeldRows, replica_of}
+use Rattle.pfair_replica.specs.ReplicaRows.{ReplicaRows, replica_of}
 use Rattle.pfair_replica.specs.Replica.{Replica, IsReplica, has_torn, frontier, empty_replica, numbers_below}
 use Rattle.pfair_table.specs.Queue.{IsQueue}
 use Rattle.pfair_table.specs.Limits.{IsOrigin}
@@ -48,41 +48,41 @@ pub tables_listed : (o : Origin) (s : Settings) (x : Replica) (n : ℕ) → (his
 tables_listed o s x zero = refl
 tables_listed o s x (suc n) = ap (λ (ts : List Table). ts ++ table_from o s x n ∷ []) (tables_listed o s x n) ∙ sym (map-append (table_from o s x) (numbers_below n) (n ∷ []))
 
-module _ {o : Origin} {s : Settings} {held : Replica} {tables : List Table} {decided : List (List Decided)} {spent : Bool} {roster : Roster} {now : ℕ} {waiting : Queue} (kept : IsKept o s held tables decided spent roster now waiting) (sound : IsReplica held) where
-  pub is_of_held : IsOf s held
+module _ {o : Origin} {s : Settings} {replica : Replica} {tables : List Table} {decided : List (List Decided)} {spent : Bool} {roster : Roster} {now : ℕ} {waiting : Queue} (kept : IsKept o s replica tables decided spent roster now waiting) (sound : IsReplica replica) where
+  pub is_of_held : IsOf s replica
   is_of_held = record { replica = sound; processors = kept.processors }
 
-  module _ (test : has_torn held ≡ false) where
-    pub plan_now : IsPlanOf o s held held tables decided
-    plan_now = plan_of_held kept.plan is_of_held (untorn_by_test held sound test)
+  module _ (test : has_torn replica ≡ false) where
+    pub plan_now : IsPlanOf o s replica replica tables decided
+    plan_now = plan_of_held kept.plan is_of_held (untorn_by_test replica sound test)
 
     -- nothing is spent: members and ready structure are in step with the present contents
-    pub step_now : spent ≡ false → IsInStep o s held (length tables) roster now waiting
-    step_now e = step_of_held kept.plan is_of_held (untorn_by_test held sound test) (kept.step e)
+    pub step_now : spent ≡ false → IsInStep o s replica (length tables) roster now waiting
+    step_now e = step_of_held kept.plan is_of_held (untorn_by_test replica sound test) (kept.step e)
 
     -- if as many slots are planned as can be, the tables and decisions are the whole plan
-    as_many : min (frontier held) s.slots ≤ length tables → length tables ≡ min (frontier held) s.slots
+    as_many : min (frontier replica) s.slots ≤ length tables → length tables ≡ min (frontier replica) s.slots
     as_many le = omega (arith, le, plan_now.early, plan_now.wanted)
 
-    pub tables_whole : min (frontier held) s.slots ≤ length tables → tables ≡ plan_from o s held
-    tables_whole le = plan_now.tables_are ∙ tables_listed o s held (length tables) ∙ ap (λ (n : ℕ). map (table_from o s held) (numbers_below n)) (as_many le)
+    pub tables_whole : min (frontier replica) s.slots ≤ length tables → tables ≡ plan_from o s replica
+    tables_whole le = plan_now.tables_are ∙ tables_listed o s replica (length tables) ∙ ap (λ (n : ℕ). map (table_from o s replica) (numbers_below n)) (as_many le)
 
-    pub decided_whole : min (frontier held) s.slots ≤ length tables → decided ≡ map (decisions_from o s held) (numbers_below (min (frontier held) s.slots))
-    decided_whole le = plan_now.decided_are ∙ ap (λ (n : ℕ). map (decisions_from o s held) (numbers_below n)) (as_many le)
+    pub decided_whole : min (frontier replica) s.slots ≤ length tables → decided ≡ map (decisions_from o s replica) (numbers_below (min (frontier replica) s.slots))
+    decided_whole le = plan_now.decided_are ∙ ap (λ (n : ℕ). map (decisions_from o s replica) (numbers_below n)) (as_many le)
 
     -- members and ready structure made anew
-    pub kept_anew : {spent2 : Bool} {roster2 : Roster} {now2 : ℕ} {waiting2 : Queue} → IsInStep o s held (length tables) roster2 now2 waiting2 → IsKept o s held tables decided spent2 roster2 now2 waiting2
-    kept_anew step = record { began = kept.began; processors = kept.processors; capacity = kept.capacity; of = held; room = kept.capacity; plan = plan_now; step = λ _. step }
+    pub kept_anew : {spent2 : Bool} {roster2 : Roster} {now2 : ℕ} {waiting2 : Queue} → IsInStep o s replica (length tables) roster2 now2 waiting2 → IsKept o s replica tables decided spent2 roster2 now2 waiting2
+    kept_anew step = record { began = kept.began; processors = kept.processors; capacity = kept.capacity; of = replica; room = kept.capacity; plan = plan_now; step = λ _. step }
 
     -- one more slot
-    pub kept_next : {more : List Table} {more_decided : List (List Decided)} {spent2 : Bool} {roster2 : Roster} {now2 : ℕ} {waiting2 : Queue} → length tables < frontier held → length tables < s.slots
-        → more ≡ tables ++ table_from o s held (length tables) ∷ [] → more_decided ≡ decided ++ decisions_from o s held (length tables) ∷ []
-        → IsInStep o s held (length more) roster2 now2 waiting2 → IsKept o s held more more_decided spent2 roster2 now2 waiting2
+    pub kept_next : {more : List Table} {more_decided : List (List Decided)} {spent2 : Bool} {roster2 : Roster} {now2 : ℕ} {waiting2 : Queue} → length tables < frontier replica → length tables < s.slots
+        → more ≡ tables ++ table_from o s replica (length tables) ∷ [] → more_decided ≡ decided ++ decisions_from o s replica (length tables) ∷ []
+        → IsInStep o s replica (length more) roster2 now2 waiting2 → IsKept o s replica more more_decided spent2 roster2 now2 waiting2
     kept_next {more_decided} early wanted tables_are decided_are step = grind (arith, plan_next_slot, plan_now)
 
-pub whole_plan : {o : Origin} {s : Settings} {x : HeldRows} {tables : List Table} {decided : List (List Decided)} {spent : Bool} {roster : Roster} {now forgotten : ℕ} {waiting : Queue} → IsKept o s (replica_of x) tables decided spent roster now waiting
+pub whole_plan : {o : Origin} {s : Settings} {x : ReplicaRows} {tables : List Table} {decided : List (List Decided)} {spent : Bool} {roster : Roster} {now forgotten : ℕ} {waiting : Queue} → IsKept o s (replica_of x) tables decided spent roster now waiting
     → IsReplica (replica_of x) → has_torn (replica_of x) ≡ false → min (frontier (replica_of x)) s.slots ≤ length tables
-    → IsWholePlan (record { settings = s; origin = o; held = x; tables = tables; decided = decided; forgotten = forgotten; spent = spent })
+    → IsWholePlan (record { settings = s; origin = o; replica = x; tables = tables; decided = decided; forgotten = forgotten; spent = spent })
 whole_plan kept sound test enough = record { tables_are = tables_whole kept sound test enough; decided_are = decided_whole kept sound test enough }
 
 -- a new dispatcher's members and ready structure are in step
@@ -98,15 +98,15 @@ start_kept {s} {x} began e few step =
     grind (arith, none-some)
 
 -- with the next slot planned, as it happens
-pub course_next : (s : Settings) (p : PlannedSlots) (x : HeldRows) → p.settings ≡ s → IsTrue (is_plannable s (replica_of x) (length p.tables))
-    → record { origin = p.origin; held = replica_of x; tables = (with_next p x).tables; decided = (with_next p x).decided }
-    ≡ (let c : Course = record { origin = p.origin; held = replica_of x; tables = p.tables; decided = p.decided } in
+pub course_next : (s : Settings) (p : PlannedSlots) (x : ReplicaRows) → p.settings ≡ s → IsTrue (is_plannable s (replica_of x) (length p.tables))
+    → record { origin = p.origin; replica = replica_of x; tables = (with_next p x).tables; decided = (with_next p x).decided }
+    ≡ (let c : Course = record { origin = p.origin; replica = replica_of x; tables = p.tables; decided = p.decided } in
     if is_plannable s (replica_of x) (length p.tables) then with_next_slot s c else c)
 course_next s p x same can =
-    let c : Course = record { origin = p.origin; held = replica_of x; tables = p.tables; decided = p.decided } in
+    let c : Course = record { origin = p.origin; replica = replica_of x; tables = p.tables; decided = p.decided } in
     ap (λ (r : Settings). with_next_slot r c) same ∙ ap (λ b. if b then with_next_slot s c else c) (sym can)
 
 -- and with none planned
-pub course_same : (d : Dispatch) → is_plannable d.settings (replica_of d.held) (length d.tables) ≡ false
-    → course_of d ≡ (if is_plannable d.settings (replica_of d.held) (length d.tables) then with_next_slot d.settings (course_of d) else course_of d)
+pub course_same : (d : Dispatch) → is_plannable d.settings (replica_of d.replica) (length d.tables) ≡ false
+    → course_of d ≡ (if is_plannable d.settings (replica_of d.replica) (length d.tables) then with_next_slot d.settings (course_of d) else course_of d)
 course_same d none = ap (λ b. if b then with_next_slot d.settings (course_of d) else course_of d) (sym none)

@@ -5,7 +5,7 @@ use Rattle.std.specs.Option.{option_map}
 use Rattle.std.proofs.lemmas.List.{length-map, length-append, length-drop, map-append, drop-append-le, drop-map}
 use Rattle.std.proofs.lemmas.Option.{slice_get_past, slice_get-map}
 use Rattle.std.proofs.Math.Seq.{drop-nil}
-use Rattle.pfair_replica.specs.HeldRows.{HeldRows, replica_of}
+use Rattle.pfair_replica.specs.ReplicaRows.{ReplicaRows, replica_of}
 use Rattle.pfair_replica.specs.Replica.{numbers_below}
 use Rattle.pfair_table.specs.declared.pick.Decided.{Decided}
 use Rattle.pfair_table.specs.declared.planned.PlannedSlot.{PlannedSlot}
@@ -18,10 +18,10 @@ use Rattle.pfair_table.proofs.Runs.{length_numbers}
 
 -- ---- how many there are
 
-pub tables_long : (o : Origin) (s : Settings) (x : HeldRows) (n : ℕ) → length (tables_to o s x n) ≡ n
+pub tables_long : (o : Origin) (s : Settings) (x : ReplicaRows) (n : ℕ) → length (tables_to o s x n) ≡ n
 tables_long o s x n = ap length (tables_listed o s (replica_of x) n) ∙ (length-map (numbers_below n) (table_from o s (replica_of x)) ∙ length_numbers n)
 
-pub decided_long : (o : Origin) (s : Settings) (x : HeldRows) (n : ℕ) → length (decided_to o s x n) ≡ n
+pub decided_long : (o : Origin) (s : Settings) (x : ReplicaRows) (n : ℕ) → length (decided_to o s x n) ≡ n
 decided_long o s x n = length-map (numbers_below n) (decisions_from o s (replica_of x)) ∙ length_numbers n
 
 places_long : (before : Table) (old : List ℕ) (tables : List Table) → length (places_from before old tables) ≡ length tables
@@ -63,7 +63,7 @@ still_some (suc n) m k some few more = (let there = some (omega arith) in omega 
 
 -- ---- what is kept
 
-module _ {o : Origin} {s : Settings} {of : HeldRows} {first forgotten : ℕ} {slots : List PlannedSlot} (kept : AreKept o s of first forgotten slots) where
+module _ {o : Origin} {s : Settings} {of : ReplicaRows} {first forgotten : ℕ} {slots : List PlannedSlot} (kept : AreKept o s of first forgotten slots) where
   abbrev all : List Table
   all = tables_to o s of (first + length slots)
 
@@ -113,7 +113,7 @@ module _ {o : Origin} {s : Settings} {of : HeldRows} {first forgotten : ℕ} {sl
   long : length all ≡ first + length slots
   long = tables_long o s of (first + length slots)
 
-  module _ {x : HeldRows} {next : PlannedSlot} (is : IsNext seen x next) where
+  module _ {x : ReplicaRows} {next : PlannedSlot} (is : IsNext seen x next) where
     one_more : first + length (slots ++ next ∷ []) ≡ suc (first + length slots)
     one_more = omega (arith, length-append slots (next ∷ []))
 

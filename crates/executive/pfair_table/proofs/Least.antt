@@ -9,7 +9,7 @@ use Rattle.pfair_lattice.specs.HeldLaws.{join_least, join_second, below_itself, 
 use Rattle.pfair_entry.specs.Entry.{Logged}
 use Rattle.pfair_entry.specs.Same.{entry_eq}
 use Rattle.pfair_entry.specs.Exact.{entry_exact}
-use Rattle.pfair_replica.specs.HeldRows.{replica_of}
+use Rattle.pfair_replica.specs.ReplicaRows.{replica_of}
 use Rattle.pfair_replica.specs.Offered.{has_key, has_shape, taken, absorbed}
 use Rattle.pfair_replica.specs.HeldAfter.{only_here}
 use Rattle.pfair_replica.specs.Replica.{Replica, Below, join, only, with_entry}
@@ -26,19 +26,19 @@ record HasShape (s : Settings) (m : ℕ) (x : Replica) : Type 0 where
   pub processors : x.processors ≡ s.processors
   pub capacity : x.capacity ≡ m
 
-planned_holds : (s : Settings) (c : Course) → (happens s c Plan).held ≡ c.held
+planned_holds : (s : Settings) (c : Course) → (happens s c Plan).replica ≡ c.replica
 planned_holds s c = grind arith
 
-shape_stays : (s : Settings) (m : ℕ) (c : Course) (e : Event) → HasShape s m c.held → HasShape s m (happens s c e).held
+shape_stays : (s : Settings) (m : ℕ) (c : Course) (e : Event) → HasShape s m c.replica → HasShape s m (happens s c e).replica
 shape_stays s m c e shape = grind (arith, offered_stays, planned_holds)
 
 -- what was held stays held
-step_grows : (s : Settings) (c : Course) (e : Event) → Below c.held (happens s c e).held
+step_grows : (s : Settings) (c : Course) (e : Event) → Below c.replica (happens s c e).replica
 step_grows s c e = grind (arith, offered_stays, planned_holds, below_itself)
 
-grows : (s : Settings) (events : List Event) (c : Course) → Below c.held (run s c events).held
-grows s [] c = λ k n. below_itself (c.held.at k n)
-grows s (e ∷ events) c = below_all c.held (happens s c e).held (run s (happens s c e) events).held (step_grows s c e) (grows s events (happens s c e))
+grows : (s : Settings) (events : List Event) (c : Course) → Below c.replica (run s c events).replica
+grows s [] c = λ k n. below_itself (c.replica.at k n)
+grows s (e ∷ events) c = below_all c.replica (happens s c e).replica (run s (happens s c e) events).replica (step_grows s c e) (grows s events (happens s c e))
 
 -- ---- above all
 
@@ -48,7 +48,7 @@ same_keys s m x k n shape = λ i. nat_lt k (shape.processors i) && (nat_lt 0 n &
 absorbed_holds : (x y : Replica) → has_shape x y ≡ true → Below y (absorbed x y)
 absorbed_holds x y alike = rw alike (λ k n. join_second entry_eq entry_exact (x.at k n) (y.at k n))
 
-step_brings : (s : Settings) (m : ℕ) (c : Course) (e : Event) → HasShape s m c.held → IsBroughtBelow s m (happens s c e).held e
+step_brings : (s : Settings) (m : ℕ) (c : Course) (e : Event) → HasShape s m c.replica → IsBroughtBelow s m (happens s c e).replica e
 step_brings s m c e shape = grind (arith, same_keys, and_from, lt-ltb, le-leb, absorbed_holds, eq-eqb, only_here, join_second, entry_exact)
 
 brought_more : (s : Settings) (m : ℕ) (x y : Replica) (e : Event) → Below x y → IsBroughtBelow s m x e → IsBroughtBelow s m y e
@@ -56,11 +56,11 @@ brought_more s m x y (Take k n e) below brought = λ row first last. below_trans
 brought_more s m x y (Absorb z) below brought = λ p q. below_all (replica_of z) x y (brought p q) below
 brought_more s m x y Plan below brought = tt
 
-above : (s : Settings) (m : ℕ) (events : List Event) (c : Course) → HasShape s m c.held → AllByRecursion (IsBroughtBelow s m (run s c events).held) events
+above : (s : Settings) (m : ℕ) (events : List Event) (c : Course) → HasShape s m c.replica → AllByRecursion (IsBroughtBelow s m (run s c events).replica) events
 above s m [] c shape = tt
 above s m (e ∷ events) c shape =
     let next = happens s c e in
-    (brought_more s m next.held (run s next events).held e (grows s events next) (step_brings s m c e shape), above s m events next (shape_stays s m c e shape))
+    (brought_more s m next.replica (run s next events).replica e (grows s events next) (step_brings s m c e shape), above s m events next (shape_stays s m c e shape))
 
 -- ---- and below whatever is above all
 
@@ -85,18 +85,18 @@ absorbed_least s m x y z below brought = by (has_shape x z) refl
     by true alike = (let other = brought alike in λ i j. join_least entry_eq entry_exact (x.at i j) (z.at i j) (y.at i j) (below i j) (other i j))
     by false apart = below
 
-step_least : (s : Settings) (m : ℕ) (c : Course) (y : Replica) (e : Event) → HasShape s m c.held → Below c.held y → IsBroughtBelow s m y e → Below (happens s c e).held y
-step_least s m c y (Take k n e) shape below brought = taken_least s m c.held y k n e shape below brought
-step_least s m c y (Absorb z) shape below brought = absorbed_least s m c.held y (replica_of z) below (λ alike.
-    (let both = and_parts (c.held.processors == z.processors) (c.held.capacity == z.capacity) alike in
-    brought (sym (eqb-true c.held.processors z.processors both.0) ∙ shape.processors) (sym (eqb-true c.held.capacity z.capacity both.1) ∙ shape.capacity)))
+step_least : (s : Settings) (m : ℕ) (c : Course) (y : Replica) (e : Event) → HasShape s m c.replica → Below c.replica y → IsBroughtBelow s m y e → Below (happens s c e).replica y
+step_least s m c y (Take k n e) shape below brought = taken_least s m c.replica y k n e shape below brought
+step_least s m c y (Absorb z) shape below brought = absorbed_least s m c.replica y (replica_of z) below (λ alike.
+    (let both = and_parts (c.replica.processors == z.processors) (c.replica.capacity == z.capacity) alike in
+    brought (sym (eqb-true c.replica.processors z.processors both.0) ∙ shape.processors) (sym (eqb-true c.replica.capacity z.capacity both.1) ∙ shape.capacity)))
 step_least s m c y Plan shape below brought = subst (λ x. Below x y) (sym (planned_holds s c)) below
 
-least : (s : Settings) (m : ℕ) (y : Replica) (events : List Event) (c : Course) → HasShape s m c.held → Below c.held y → AllByRecursion (IsBroughtBelow s m y) events → Below (run s c events).held y
+least : (s : Settings) (m : ℕ) (y : Replica) (events : List Event) (c : Course) → HasShape s m c.replica → Below c.replica y → AllByRecursion (IsBroughtBelow s m y) events → Below (run s c events).replica y
 least s m y [] c shape below all = below
 least s m y (e ∷ events) c shape below all = least s m y events (happens s c e) (shape_stays s m c e shape) (step_least s m c y e shape below all.0) all.1
 
 pub events_leave_the_least : EventsLeaveTheLeast
 events_leave_the_least o s m events =
-    let shape : HasShape s m (begin_at o s m).held = record { processors = refl; capacity = refl } in
+    let shape : HasShape s m (begin_at o s m).replica = record { processors = refl; capacity = refl } in
     (above s m events (begin_at o s m) shape, (λ y all. least s m y events (begin_at o s m) shape (λ k n. none_below (y.at k n)) all))

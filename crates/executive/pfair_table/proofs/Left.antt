@@ -15,7 +15,7 @@ use Rattle.pfair_admission.proofs.Effects.{each_change}
 use Rattle.pfair_admission.proofs.Keeping.{frame_boundary, frame_carried, frame_ran, none_freed_boundary, room_boundary, room_carried, room_ran}
 use Rattle.pfair_admission.proofs.RestoredRuns.{left_carried}
 use Rattle.pfair_table.specs.Limits.{AreLeftAt, IsOrigin}
-use Rattle.pfair_table.specs.RunsOn.{HasBegun, IsBegun, TellsWeights}
+use Rattle.pfair_table.specs.RunsOn.{HasBegun, IsBegun, IsWeighedStory}
 use Rattle.pfair_table.specs.Table.{Settings, Origin, Story, Table, machine, members_before, slot_of, all_ran, history_over, table_over, world_over}
 use Rattle.pfair_table.proofs.Members.{label, named_before, named_history}
 use Rattle.pfair_table.proofs.RunsOn.{begun_over, slot_more}
@@ -85,7 +85,7 @@ module _ (o : Origin) (s : Settings) (began : IsOrigin o s) (story : Story) wher
       (by_rows (Stay (suc at)) (λ name. each_change (λ m. IsNotBefore (Some (suc at)) m.freed_at) (λ m. IsNotBefore (Some (suc at)) m.freed_at) name with_quantum (λ m h. h) (λ m h. h)) (table_over o s story t) world stay)
 
   -- so what is left can be restored
-  pub all_left : TellsWeights story → (n : ℕ) → AllByRecursion CanBeCarried (history_over o s story n).members → AreLeftAt (slot_of o n) (machine s) (map carried (history_over o s story n).members)
+  pub all_left : IsWeighedStory story → (n : ℕ) → AllByRecursion CanBeCarried (history_over o s story n).members → AreLeftAt (slot_of o n) (machine s) (map carried (history_over o s story n).members)
   all_left weights n able =
       let members = (history_over o s story n).members in
       let t = slot_of o n in

@@ -14,7 +14,7 @@ use Rattle.pfair_entry.specs.Same.{name_eq}
 use Rattle.pfair_entry.specs.declared.announcement.Announcement.{Announcement}
 use Rattle.pfair_entry.specs.Exact.{name_exact}
 use Rattle.pfair_replica.specs.Replica.{said}
-use Rattle.pfair_entry.specs.Said.{Said}
+use Rattle.pfair_entry.specs.declared.said.Said.{Said}
 use Rattle.pfair_admission.specs.Admission.{Machine, is_named, newcomer, is_freed, boundary, with_freeing, with_delay, ran, with_quantum, announcements}
 use Rattle.pfair_admission.specs.Member.{Member}
 use Rattle.pfair_table.specs.Table.{Settings, Origin, Table, History, machine, names_task, quanta, next_index, counted, counted_one, members_at, all_ran, Story, history_over}

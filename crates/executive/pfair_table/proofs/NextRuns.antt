@@ -1,7 +1,7 @@
 -- What a finished run leaves can be taken over by a next run, and finished runs that agree leave the same.
 use Rattle.std.proofs.Common.{ℕ, ◌+◌, ◌≤◌, ◌<◌, ◌≡◌, sym, ap, subst, ◌∙◌, arith, Bool, false, List, length, map}
 use Rattle.std.specs.List.{AllByRecursion}
-use Rattle.pfair_replica.specs.HeldRows.{HeldRows, replica_of}
+use Rattle.pfair_replica.specs.ReplicaRows.{ReplicaRows, replica_of}
 use Rattle.pfair_replica.specs.Replica.{Replica, IsReplica, has_torn, said}
 use Rattle.pfair_replica.proofs.Marks.{same_said}
 use Rattle.pfair_ready.specs.Queue.{Queue}
@@ -31,27 +31,27 @@ use Rattle.pfair_table.proofs.Steps.{plan_of_held}
 use Rattle.pfair_table.proofs.Within.{said_weighed}
 use Rattle.pfair_table.proofs.TableLaws.{same_history}
 
-module _ {o : Origin} {s : Settings} {held : Replica} {tables : List Table} {decided : List (List Decided)} {spent : Bool} {roster : Roster} {now : ℕ} {waiting : Queue} (kept : IsKept o s held tables decided spent roster now waiting) (sound : IsReplica held) (test : has_torn held ≡ false) (able : spent ≡ false) (all : s.slots ≤ length tables) where
+module _ {o : Origin} {s : Settings} {replica : Replica} {tables : List Table} {decided : List (List Decided)} {spent : Bool} {roster : Roster} {now : ℕ} {waiting : Queue} (kept : IsKept o s replica tables decided spent roster now waiting) (sound : IsReplica replica) (test : has_torn replica ≡ false) (able : spent ≡ false) (all : s.slots ≤ length tables) where
   -- the members are those after the last slot
-  pub left_members : roster.members ≡ members_after o s held s.slots
+  pub left_members : roster.members ≡ members_after o s replica s.slots
   left_members =
       let wanted = kept.plan.wanted in
       let long : length tables ≡ s.slots = omega (arith, wanted, all) in
-      (step_now kept sound test able).members_are ∙ ap (members_after o s held) long
+      (step_now kept sound test able).members_are ∙ ap (members_after o s replica) long
 
   -- and the tables are those of all slots
-  pub left_tables : tables ≡ (history_from o s held s.slots).tables
+  pub left_tables : tables ≡ (history_from o s replica s.slots).tables
   left_tables =
       let wanted = kept.plan.wanted in
       let long : length tables ≡ s.slots = omega (arith, wanted, all) in
-      (plan_now kept sound test).tables_are ∙ ap (λ n. (history_from o s held n).tables) long
+      (plan_now kept sound test).tables_are ∙ ap (λ n. (history_from o s replica n).tables) long
 
   -- and with their jobs taken off, a next run can begin with them
-  pub carried_on : (slots : ℕ) (c : Carried) → c.slot ≡ slot_of o s.slots → c.machine ≡ machine s → c.members ≡ map carried (members_after o s held s.slots) → AllByRecursion CanBeCarried (members_after o s held s.slots)
+  pub carried_on : (slots : ℕ) (c : Carried) → c.slot ≡ slot_of o s.slots → c.machine ≡ machine s → c.members ≡ map carried (members_after o s replica s.slots) → AllByRecursion CanBeCarried (members_after o s replica s.slots)
       → c.table ≡ last_or (table_before o) tables → c.places ≡ last_or (places_before o) (places_in o tables) → c.slot + slots ≤ LAST_SLOT → IsCarried (record s { slots = slots }) c
   carried_on slots c slot_is machine_is members_are can table_is places_are within =
       let fit = fit_plan kept.began kept.plan in
-      let left = all_left o s kept.began (said held) (said_weighed held sound) s.slots can in
+      let left = all_left o s kept.began (said replica) (said_weighed replica sound) s.slots can in
       record {
         machine_is = machine_is;
         members = subst (λ (p : ℕ × Machine × List Member). AreLeftAt p.0 p.1 p.2) (λ i. (sym slot_is i, sym machine_is i, sym members_are i)) left;
@@ -62,7 +62,7 @@ module _ {o : Origin} {s : Settings} {held : Replica} {tables : List Table} {dec
 
 -- ---- a finished dispatcher, as it is seen
 
-module _ {o : Origin} {s : Settings} {x : HeldRows} {tables : List Table} {decided : List (List Decided)} {forgotten : ℕ} {spent : Bool} {roster : Roster} {now : ℕ} {waiting : Queue} (kept : IsKept o s (replica_of x) tables decided spent roster now waiting) (sound : IsReplica (replica_of x)) (d : Dispatch) (seen : record { settings = s; origin = o; held = x; tables = tables; decided = decided; forgotten = forgotten; spent = spent } ≡ d) (finished : IsFinished d) where
+module _ {o : Origin} {s : Settings} {x : ReplicaRows} {tables : List Table} {decided : List (List Decided)} {forgotten : ℕ} {spent : Bool} {roster : Roster} {now : ℕ} {waiting : Queue} (kept : IsKept o s (replica_of x) tables decided spent roster now waiting) (sound : IsReplica (replica_of x)) (d : Dispatch) (seen : record { settings = s; origin = o; replica = x; tables = tables; decided = decided; forgotten = forgotten; spent = spent } ≡ d) (finished : IsFinished d) where
   -- its members are those left
   pub left_seen : roster.members ≡ members_left d
   left_seen = let inside = subst IsFinished (sym seen) finished in left_members kept sound inside.whole inside.able inside.all ∙ ap members_left seen
@@ -92,9 +92,9 @@ fault_seen (Err (CannotCarry name)) d c slots is can fault = absurd fault
 fault_seen (Err Memory) d c slots is can fault = can
 
 -- Of finished runs that began alike and hold what agrees, a next run takes over the same.
-pub left_alike : {o q : Origin} {s r : Settings} {x y : HeldRows} {tx ty : List Table} {dx dy : List (List Decided)} {bx by : Bool} {fx fy : ℕ} {mx my : Roster} {nx ny : ℕ} {hx hy : Queue}
+pub left_alike : {o q : Origin} {s r : Settings} {x y : ReplicaRows} {tx ty : List Table} {dx dy : List (List Decided)} {bx by : Bool} {fx fy : ℕ} {mx my : Roster} {nx ny : ℕ} {hx hy : Queue}
     → IsKept o s (replica_of x) tx dx bx mx nx hx → IsKept q r (replica_of y) ty dy by my ny hy → IsReplica (replica_of x) → IsReplica (replica_of y)
-    → LeaveAlike (record { settings = s; origin = o; held = x; tables = tx; decided = dx; forgotten = fx; spent = bx }) (record { settings = r; origin = q; held = y; tables = ty; decided = dy; forgotten = fy; spent = by })
+    → LeaveAlike (record { settings = s; origin = o; replica = x; tables = tx; decided = dx; forgotten = fx; spent = bx }) (record { settings = r; origin = q; replica = y; tables = ty; decided = dy; forgotten = fy; spent = by })
 left_alike {o} {q} {s} {r} {x} {y} {tx} {ty} kx ky sound_x sound_y same began agree fx fy =
     let of_x = is_of_held kx sound_x in
     let of_y = is_of_held ky sound_y in

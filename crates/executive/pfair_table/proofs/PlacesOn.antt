@@ -55,7 +55,7 @@ last_places m before old are (now ∷ tables) fit = last_places m now (places_af
 -- ---- what a dispatcher plans
 
 -- the tables of a plan are fit
-pub fit_plan : {o : Origin} {s : Settings} {held of : Replica} {tables : List Table} {decided : List (List Decided)} → IsOrigin o s → IsPlanOf o s held of tables decided → AllByRecursion (IsFit s.processors) tables
+pub fit_plan : {o : Origin} {s : Settings} {replica of : Replica} {tables : List Table} {decided : List (List Decided)} → IsOrigin o s → IsPlanOf o s replica of tables decided → AllByRecursion (IsFit s.processors) tables
 fit_plan {o} {s} {of} {tables} began plan =
     subst (AllByRecursion (IsFit s.processors)) (sym (plan.tables_are ∙ tables_listed o s of (length tables)))
     (all_among (IsFit s.processors) (map (table_from o s of) (numbers_below (length tables)))

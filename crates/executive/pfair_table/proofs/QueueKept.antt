@@ -16,7 +16,7 @@ use Rattle.pfair_ready.specs.Names.{NameValue as Name, name_cmp}
 use Rattle.pfair_order.specs.declared.Key.{Key}
 use Rattle.pfair_entry.specs.Same.{name_eq}
 use Rattle.pfair_entry.specs.Names.{name_of}
-use Rattle.pfair_entry.specs.Said.{Said}
+use Rattle.pfair_entry.specs.declared.said.Said.{Said}
 use Rattle.pfair_entry.specs.declared.announcement.Announcement.{Announcement}
 use Rattle.pfair_entry.specs.Exact.{name_exact, name_itself}
 use Rattle.std.proofs.lemmas.Option.{none-some, same_Some, slice_get_within, get_or_from_slice_get}
@@ -24,7 +24,7 @@ use Rattle.pfair_ready.specs.Queue.{Queue}
 use Rattle.pfair_admission.specs.Admission.{Machine, is_named, member_named, change, effect, present, is_freed, all_decided, boundary, announcements}
 use Rattle.pfair_admission.specs.Member.{Member, is_departing, eligible_from, next_key}
 use Rattle.pfair_admission.specs.declared.decision.Decision.{Decision}
-use Rattle.pfair_table.specs.Queue.{queued, IsQueue, IsQueueBesides, IsQueueBut, IsToldOf, is_of_some, is_said}
+use Rattle.pfair_table.specs.Queue.{queued, IsQueue, IsQueueBesides, IsQueueBut, IsNotifiedOf, is_of_some, is_said}
 use Rattle.pfair_admission.proofs.Effects.{by_effect}
 use Rattle.pfair_admission.proofs.NamesKept.{apart_present, apart_effect}
 
@@ -76,33 +76,33 @@ quiet_present t name (m ∷ members) a = by (not (is_freed t m.freed_at)) (name_
 quiet_effect : (t : ℕ) (name : Name) (members : List Member) (a : Announcement) (d : Decision) → name_eq name (name_of a) ≡ false → member_named (effect t members a d) name ≡ member_named members name
 quiet_effect t name members a d e = grind (arith, by_effect, find_push, found_other)
 
-quiet_decided : (mc : Machine) (t : ℕ) (name : Name) (heard : List Said) (members : List Member) → NamesApart (λ (m : Member). m.name) members → is_said name heard ≡ false → queued (member_named (all_decided mc t members (announcements heard)) name) ≡ queued (member_named members name)
+quiet_decided : (mc : Machine) (t : ℕ) (name : Name) (announced : List Said) (members : List Member) → NamesApart (λ (m : Member). m.name) members → is_said name announced ≡ false → queued (member_named (all_decided mc t members (announcements announced)) name) ≡ queued (member_named members name)
 quiet_decided mc t name [] members a e = refl
-quiet_decided mc t name (said ∷ heard) members a e = grind (arith, or_parts, apart_effect, apart_present, quiet_present, quiet_effect, quiet_decided mc t name heard)
+quiet_decided mc t name (said ∷ announced) members a e = grind (arith, or_parts, apart_effect, apart_present, quiet_present, quiet_effect, quiet_decided mc t name announced)
 
 -- So a queue of the members before a boundary is one of the members after it, but for the names that something was said about.
-pub queue_after_boundary : (mc : Machine) (t : ℕ) (heard : List Said) (members : List Member) (waiting : Queue) → NamesApart (λ (m : Member). m.name) members → IsQueue members waiting → IsQueueBut heard (boundary mc t members (announcements heard)) waiting
-queue_after_boundary mc t heard members waiting named queue name e = grind (arith, quiet_decided, apart_present, quiet_present)
+pub queue_after_boundary : (mc : Machine) (t : ℕ) (announced : List Said) (members : List Member) (waiting : Queue) → NamesApart (λ (m : Member). m.name) members → IsQueue members waiting → IsQueueBut announced (boundary mc t members (announcements announced)) waiting
+queue_after_boundary mc t announced members waiting named queue name e = grind (arith, quiet_decided, apart_present, quiet_present)
 
 -- ---- one task's entry anew
 
 -- it is taken out
-pub told_out : (told : Name) (members : List Member) (before : Queue) → queued (member_named members told) ≡ None → IsToldOf told members before (finmap.remove before told)
-told_out told members before none name =
-    get-remove nat_list_cmp_total before told name ∙ ap (λ b. cond b None (finmap.get before name)) (tied_names name told)
-    ∙ ap (λ o. cond (name_eq name told) o (finmap.get before name)) (sym none)
+pub notified_out : (notified : Name) (members : List Member) (before : Queue) → queued (member_named members notified) ≡ None → IsNotifiedOf notified members before (finmap.remove before notified)
+notified_out notified members before none name =
+    get-remove nat_list_cmp_total before notified name ∙ ap (λ b. cond b None (finmap.get before name)) (tied_names name notified)
+    ∙ ap (λ o. cond (name_eq name notified) o (finmap.get before name)) (sym none)
 
 -- and another is put in
-pub told_in : (told : Name) (members : List Member) (before : Queue) (e : ℕ × Key) (named : Name) → named ≡ told → queued (member_named members told) ≡ Some e → IsToldOf told members before (finmap.insert (finmap.remove before told) named e)
-told_in told members before e named same some name = by (name_eq name told) refl
+pub notified_in : (notified : Name) (members : List Member) (before : Queue) (e : ℕ × Key) (named : Name) → named ≡ notified → queued (member_named members notified) ≡ Some e → IsNotifiedOf notified members before (finmap.insert (finmap.remove before notified) named e)
+notified_in notified members before e named same some name = by (name_eq name notified) refl
   where
-    turned : finmap.get (finmap.insert (finmap.remove before told) named e) name ≡ cond (name_eq name told) (Some e) (cond (name_eq name told) None (finmap.get before name))
+    turned : finmap.get (finmap.insert (finmap.remove before notified) named e) name ≡ cond (name_eq name notified) (Some e) (cond (name_eq name notified) None (finmap.get before name))
     turned =
-        get-insert nat_list_cmp_total (finmap.remove before told) named e name
-        ∙ ap (λ b. cond b (Some e) (finmap.get (finmap.remove before told) name)) (ap (eq_by_cmp name_cmp name) same ∙ tied_names name told)
-        ∙ ap (cond (name_eq name told) (Some e)) (get-remove nat_list_cmp_total before told name ∙ ap (λ b. cond b None (finmap.get before name)) (tied_names name told))
+        get-insert nat_list_cmp_total (finmap.remove before notified) named e name
+        ∙ ap (λ b. cond b (Some e) (finmap.get (finmap.remove before notified) name)) (ap (eq_by_cmp name_cmp name) same ∙ tied_names name notified)
+        ∙ ap (cond (name_eq name notified) (Some e)) (get-remove nat_list_cmp_total before notified name ∙ ap (λ b. cond b None (finmap.get before name)) (tied_names name notified))
 
-    by : (b : Bool) → name_eq name told ≡ b → finmap.get (finmap.insert (finmap.remove before told) named e) name ≡ (if b then queued (member_named members told) else finmap.get before name)
+    by : (b : Bool) → name_eq name notified ≡ b → finmap.get (finmap.insert (finmap.remove before notified) named e) name ≡ (if b then queued (member_named members notified) else finmap.get before name)
     by true q = turned ∙ ap (λ b. cond b (Some e) (cond b None (finmap.get before name))) q ∙ sym some
     by false q = turned ∙ ap (λ b. cond b (Some e) (cond b None (finmap.get before name))) q
 
@@ -116,19 +116,19 @@ found_named (x ∷ members) name m e = by (name_eq name x.name) refl e (found_na
     by false q e more = more e
 
 -- what is absent need not go
-pub absent_removed : (held : Queue) (name : Name) → finmap.get held name ≡ None → held ≡ finmap.remove held name
-absent_removed held name none =
+pub absent_removed : (waiting : Queue) (name : Name) → finmap.get waiting name ≡ None → waiting ≡ finmap.remove waiting name
+absent_removed waiting name none =
     same_map nat_list_cmp_total names_exact _ _ (λ q.
     at q (eq_by_cmp name_cmp q name) refl
-    ∙ sym (get-remove nat_list_cmp_total held name q))
+    ∙ sym (get-remove nat_list_cmp_total waiting name q))
   where
-    at : (q : Name) (b : Bool) → eq_by_cmp name_cmp q name ≡ b → finmap.get held q ≡ cond b None (finmap.get held q)
-    at q true e = ap (finmap.get held) (name_exact q name (sym (tied_names q name) ∙ e)) ∙ none
+    at : (q : Name) (b : Bool) → eq_by_cmp name_cmp q name ≡ b → finmap.get waiting q ≡ cond b None (finmap.get waiting q)
+    at q true e = ap (finmap.get waiting) (name_exact q name (sym (tied_names q name) ∙ e)) ∙ none
     at q false e = refl
 
 -- if there is no such member, or it is departing
-pub told_gone : (told : Name) (members : List Member) (before after : Queue) → queued (member_named members told) ≡ None → after ≡ finmap.remove before told → IsToldOf told members before after
-told_gone told members before after none is = subst (IsToldOf told members before) (sym is) (told_out told members before none)
+pub notified_gone : (notified : Name) (members : List Member) (before after : Queue) → queued (member_named members notified) ≡ None → after ≡ finmap.remove before notified → IsNotifiedOf notified members before after
+notified_gone notified members before after none is = subst (IsNotifiedOf notified members before) (sym is) (notified_out notified members before none)
 
 queued_running : (o : Option Member) (m : Member) → o ≡ Some m → is_departing m ≡ false → queued o ≡ Some (eligible_from m m.next, next_key m)
 queued_running o m found stays = ap queued found ∙ ap (λ d. if d then None else Some (eligible_from m m.next, next_key m)) stays
@@ -137,36 +137,36 @@ pub queued_departing : (o : Option Member) (m : Member) → o ≡ Some m → is_
 queued_departing o m found goes = ap queued found ∙ ap (λ d. if d then None else Some (eligible_from m m.next, next_key m)) goes
 
 -- if there is one, its next subtask is put in
-pub told_next : (told : Name) (members : List Member) (m : Member) (before middle after : Queue) (new : Bool) (from : ℕ) (key : Key)
-    → member_named members told ≡ Some m → is_departing m ≡ false → from ≡ eligible_from m m.next → key ≡ next_key m
-    → middle ≡ finmap.remove before told → new ≡ not (finmap.contains_key middle key.name)
-    → after ≡ (if new then finmap.insert middle key.name (from, key) else middle) → IsToldOf told members before after
-told_next told members m before middle after new from key found stays from_is key_is out fresh in_ =
-    subst (IsToldOf told members before)
+pub notified_next : (notified : Name) (members : List Member) (m : Member) (before middle after : Queue) (new : Bool) (from : ℕ) (key : Key)
+    → member_named members notified ≡ Some m → is_departing m ≡ false → from ≡ eligible_from m m.next → key ≡ next_key m
+    → middle ≡ finmap.remove before notified → new ≡ not (finmap.contains_key middle key.name)
+    → after ≡ (if new then finmap.insert middle key.name (from, key) else middle) → IsNotifiedOf notified members before after
+notified_next notified members m before middle after new from key found stays from_is key_is out fresh in_ =
+    subst (IsNotifiedOf notified members before)
     (sym (in_ ∙ ap (λ b. if b then finmap.insert middle key.name (from, key) else middle) (fresh ∙ ap (λ o. not (is_some o)) none) ∙ ap (λ h. finmap.insert h key.name (from, key)) out))
-    (told_in told members before (from, key) key.name named (queued_running (member_named members told) m found stays ∙ (λ i. Some (sym from_is i, sym key_is i))))
+    (notified_in notified members before (from, key) key.name named (queued_running (member_named members notified) m found stays ∙ (λ i. Some (sym from_is i, sym key_is i))))
   where
-    named : key.name ≡ told
-    named = ap (λ (k : Key). k.name) key_is ∙ found_named members told m found
+    named : key.name ≡ notified
+    named = ap (λ (k : Key). k.name) key_is ∙ found_named members notified m found
 
     none : finmap.get middle key.name ≡ None
     none =
-        ap (λ h. finmap.get h key.name) out ∙ get-remove nat_list_cmp_total before told key.name
-        ∙ ap (λ b. cond b None (finmap.get before key.name)) (tied_names key.name told ∙ ap (λ n. name_eq n told) named ∙ name_itself told)
+        ap (λ h. finmap.get h key.name) out ∙ get-remove nat_list_cmp_total before notified key.name
+        ∙ ap (λ b. cond b None (finmap.get before key.name)) (tied_names key.name notified ∙ ap (λ n. name_eq n notified) named ∙ name_itself notified)
 
 -- one name that the ready structure was notified of is one less to notify of
-pub told_one : (said : Said) (heard : List Said) (members : List Member) (before after : Queue) → IsQueueBut (said ∷ heard) members before → IsToldOf (name_of said.2) members before after → IsQueueBut heard members after
-told_one said heard members before after queue told name e = grind (arith, name_exact)
+pub notified_one : (said : Said) (announced : List Said) (members : List Member) (before after : Queue) → IsQueueBut (said ∷ announced) members before → IsNotifiedOf (name_of said.announcement) members before after → IsQueueBut announced members after
+notified_one said announced members before after queue notified name e = grind (arith, name_exact)
 
 -- the item at a place of a list, and what is left from it on
 pub drop_item : {A : Type 0} (xs : List A) (i : ℕ) (x : A) → i < length xs → x ≡ get_or xs i x → drop i xs ≡ x ∷ drop (i + 1) xs
 drop_item xs i x l e = drop_more xs i x l ∙ ap (λ y. y ∷ drop (i + 1) xs) (sym e)
 
 -- one turn of the loop over what was said
-pub told_turn : (heard : List Said) (i : ℕ) (said : Said) (members : List Member) (before after : Queue) → i < length heard → said ≡ get_or heard i said
-    → IsQueueBut (drop i heard) members before → IsToldOf (name_of said.2) members before after → IsQueueBut (drop (i + 1) heard) members after
-told_turn heard i said members before after l e queue told =
-    told_one said (drop (i + 1) heard) members before after (subst (λ (rest : List Said). IsQueueBut rest members before) (drop_item heard i said l e) queue) told
+pub notified_turn : (announced : List Said) (i : ℕ) (said : Said) (members : List Member) (before after : Queue) → i < length announced → said ≡ get_or announced i said
+    → IsQueueBut (drop i announced) members before → IsNotifiedOf (name_of said.announcement) members before after → IsQueueBut (drop (i + 1) announced) members after
+notified_turn announced i said members before after l e queue notified =
+    notified_one said (drop (i + 1) announced) members before after (subst (λ (rest : List Said). IsQueueBut rest members before) (drop_item announced i said l e) queue) notified
 
 -- ---- a ready structure that is made anew
 
@@ -180,12 +180,12 @@ besides_all members waiting empty name e = ap (λ (h : Queue). finmap.get h name
 
 -- and one that was notified of a member has to be notified of one less
 pub besides_at : (members : List Member) (i : ℕ) (m : Member) (name : Name) (before after : Queue) → Some m ≡ slice_get members i → name ≡ m.name
-    → IsQueueBesides (drop i members) members before → IsToldOf name members before after → IsQueueBesides (drop (i + 1) members) members after
-besides_at members i m told before after at is queue anew name e = by (name_eq name told) refl (anew name)
+    → IsQueueBesides (drop i members) members before → IsNotifiedOf name members before after → IsQueueBesides (drop (i + 1) members) members after
+besides_at members i m notified before after at is queue anew name e = by (name_eq name notified) refl (anew name)
   where
     rest : is_of_some name (drop i members) ≡ name_eq name m.name || is_of_some name (drop (i + 1) members)
     rest = ap (is_of_some name) (drop_item members i m (slice_get_within members i m (sym at)) (sym (get_or_from_slice_get members i m m (sym at))))
 
-    by : (b : Bool) → name_eq name told ≡ b → finmap.get after name ≡ (if b then queued (member_named members told) else finmap.get before name) → finmap.get after name ≡ queued (member_named members name)
-    by true q now = now ∙ ap (λ n. queued (member_named members n)) (sym (name_exact name told q))
+    by : (b : Bool) → name_eq name notified ≡ b → finmap.get after name ≡ (if b then queued (member_named members notified) else finmap.get before name) → finmap.get after name ≡ queued (member_named members name)
+    by true q now = now ∙ ap (λ n. queued (member_named members n)) (sym (name_exact name notified q))
     by false q now = now ∙ queue name (rest ∙ ap (λ b. b || is_of_some name (drop (i + 1) members)) (ap (name_eq name) (sym is) ∙ q) ∙ e)

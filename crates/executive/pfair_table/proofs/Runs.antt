@@ -1,6 +1,6 @@
 -- Whatever events come, a slot that was planned has the table of a replica that is still held, and every other dispatcher
 -- that agrees has it too.
-use Rattle.pfair_replica.specs.HeldRows.{replica_of}
+use Rattle.pfair_replica.specs.ReplicaRows.{replica_of}
 use Rattle.std.proofs.Common.{ℕ, zero, suc, ◌<◌, ◌≤◌, ◌≡◌, refl, sym, ◌∙◌, subst, arith, inl, inr, Bool, true, false, List, [], ◌∷◌, ◌++◌, length, min, Some}
 use Rattle.std.specs.Prelude.{◌&&◌, not, nat_lt, map, slice_get, if◌then◌else◌}
 use Rattle.std.specs.List.{AllByRecursion}
@@ -77,28 +77,28 @@ pub record WasPlanned (o : Origin) (s : Settings) (of : Replica) (tables : List 
 
 -- each slot was planned of a replica that is still held
 pub record IsSound (s : Settings) (c : Course) : Type 0 where
-  pub is_of : IsOf s c.held
+  pub is_of : IsOf s c.replica
   pub as_many : length c.decided ≡ length c.tables
-  pub planned : (t : ℕ) → t < length c.tables → (of : Replica) × Below of c.held × WasPlanned c.origin s of c.tables c.decided t
+  pub planned : (t : ℕ) → t < length c.tables → (of : Replica) × Below of c.replica × WasPlanned c.origin s of c.tables c.decided t
 
 -- with more held
-sound_more : (s : Settings) (c : Course) (x : Replica) → IsSound s c → IsOf s x → Below c.held x → IsSound s (record c { held = x })
+sound_more : (s : Settings) (c : Course) (x : Replica) → IsSound s c → IsOf s x → Below c.replica x → IsSound s (record c { replica = x })
 sound_more s c x sound o above = record {
   is_of = o;
   as_many = sound.as_many;
-  planned = λ t l. (let w = sound.planned t l in (w.0, below_all w.0 c.held x w.1 above, w.2));
+  planned = λ t l. (let w = sound.planned t l in (w.0, below_all w.0 c.replica x w.1 above, w.2));
 }
 
 -- with the next slot planned
-sound_next : (s : Settings) (c : Course) → IsSound s c → is_plannable s c.held (length c.tables) ≡ true → IsSound s (with_next_slot s c)
+sound_next : (s : Settings) (c : Course) → IsSound s c → is_plannable s c.replica (length c.tables) ≡ true → IsSound s (with_next_slot s c)
 sound_next s c sound ok =
-    let p = and_parts (not (has_torn c.held)) (nat_lt (length c.tables) (frontier c.held) && nat_lt (length c.tables) s.slots) ok in
-    let q = and_parts (nat_lt (length c.tables) (frontier c.held)) (nat_lt (length c.tables) s.slots) p.1 in
+    let p = and_parts (not (has_torn c.replica)) (nat_lt (length c.tables) (frontier c.replica) && nat_lt (length c.tables) s.slots) ok in
+    let q = and_parts (nat_lt (length c.tables) (frontier c.replica)) (nat_lt (length c.tables) s.slots) p.1 in
     let u = length c.tables in
-    let tables = c.tables ++ table_from c.origin s c.held u ∷ [] in
-    let decided = c.decided ++ decisions_from c.origin s c.held u ∷ [] in
-    let lt = length-append c.tables (table_from c.origin s c.held u ∷ []) in
-    let ld = length-append c.decided (decisions_from c.origin s c.held u ∷ []) in
+    let tables = c.tables ++ table_from c.origin s c.replica u ∷ [] in
+    let decided = c.decided ++ decisions_from c.origin s c.replica u ∷ [] in
+    let lt = length-append c.tables (table_from c.origin s c.replica u ∷ []) in
+    let ld = length-append c.decided (decisions_from c.origin s c.replica u ∷ []) in
     let same = sound.as_many in
     record {
       is_of = sound.is_of;
@@ -112,24 +112,24 @@ sound_next s c sound ok =
             whole = w.2.whole;
             early = w.2.early;
             wanted = w.2.wanted;
-            table_is = get_left c.tables (table_from c.origin s c.held u ∷ []) t old ∙ w.2.table_is;
-            decided_is = get_left c.decided (decisions_from c.origin s c.held u ∷ []) t (omega (arith, same, old)) ∙ w.2.decided_is;
+            table_is = get_left c.tables (table_from c.origin s c.replica u ∷ []) t old ∙ w.2.table_is;
+            decided_is = get_left c.decided (decisions_from c.origin s c.replica u ∷ []) t (omega (arith, same, old)) ∙ w.2.decided_is;
           },
         ))
         | inr new ↦ (
-          c.held,
-          (λ k n. below_itself (c.held.at k n)),
+          c.replica,
+          (λ k n. below_itself (c.replica.at k n)),
           (grind (arith, untorn_by_test, not-true, ltb-true, get_last)),
         )
       ];
     }
 
 sound_happens : (s : Settings) (c : Course) (e : Event) → IsEvent e → IsSound s c → IsSound s (happens s c e)
-sound_happens s c (Take k n e) ok sound = sound_more s c (taken c.held k n e) sound (taken_of s c.held k n e sound.is_of ok) (offered_stays.taken_above c.held k n e)
-sound_happens s c (Absorb y) ok sound = sound_more s c (absorbed c.held (replica_of y)) sound (absorbed_of s c.held (replica_of y) sound.is_of ok) (offered_stays.absorbed_above c.held (replica_of y))
-sound_happens s c Plan ok sound = by (is_plannable s c.held (length c.tables)) refl
+sound_happens s c (Take k n e) ok sound = sound_more s c (taken c.replica k n e) sound (taken_of s c.replica k n e sound.is_of ok) (offered_stays.taken_above c.replica k n e)
+sound_happens s c (Absorb y) ok sound = sound_more s c (absorbed c.replica (replica_of y)) sound (absorbed_of s c.replica (replica_of y) sound.is_of ok) (offered_stays.absorbed_above c.replica (replica_of y))
+sound_happens s c Plan ok sound = by (is_plannable s c.replica (length c.tables)) refl
   where
-    by : (b : Bool) → is_plannable s c.held (length c.tables) ≡ b → IsSound s (if b then with_next_slot s c else c)
+    by : (b : Bool) → is_plannable s c.replica (length c.tables) ≡ b → IsSound s (if b then with_next_slot s c else c)
     by true p = sound_next s c sound p
     by false p = sound
 
@@ -156,13 +156,13 @@ origin_stays s [] c = refl
 origin_stays s (e ∷ events) c = origin_stays s events (happens s c e) ∙ origin_happens s c e
 
 -- if nothing that is held is torn, what was planned is planned of that
-planned_now : (s : Settings) (c : Course) → IsSound s c → Untorn c.held → (t : ℕ) → t < length c.tables → WasPlanned c.origin s c.held c.tables c.decided t
+planned_now : (s : Settings) (c : Course) → IsSound s c → Untorn c.replica → (t : ℕ) → t < length c.tables → WasPlanned c.origin s c.replica c.tables c.decided t
 planned_now s c sound whole t l =
     let p = sound.planned t l in
     let w = p.2 in
-    let le = frontier_le p.0 c.held sound.is_of.replica (w.is_of.processors ∙ sym sound.is_of.processors) p.1 whole in
-    let early : t < frontier c.held = omega (arith, le, w.early) in
-    let same = one_table_from c.origin s p.0 c.held w.is_of sound.is_of (below_agree p.0 c.held p.1 whole) t w.early early in
+    let le = frontier_le p.0 c.replica sound.is_of.replica (w.is_of.processors ∙ sym sound.is_of.processors) p.1 whole in
+    let early : t < frontier c.replica = omega (arith, le, w.early) in
+    let same = one_table_from c.origin s p.0 c.replica w.is_of sound.is_of (below_agree p.0 c.replica p.1 whole) t w.early early in
     grind arith
 
 pub one_schedule : OneSchedule
@@ -170,9 +170,9 @@ one_schedule o s m n es fs all_es all_fs agree t lc ld =
     let c = run s (begin_at o s m) es in
     let d = run s (begin_at o s n) fs in
     let sound = sound_run s es (begin_at o s m) all_es (sound_start o s m) in
-    let v = planned_now s c sound (untorn_left c.held d.held agree) t lc in
+    let v = planned_now s c sound (untorn_left c.replica d.replica agree) t lc in
     let w = (sound_run s fs (begin_at o s n) all_fs (sound_start o s n)).planned t ld in
-    let there = one_table o s c.held w.0 sound.is_of w.2.is_of (agree_down c.held c.held w.0 d.held (λ k n. below_itself (c.held.at k n)) w.1 agree) t v.early w.2.early in
+    let there = one_table o s c.replica w.0 sound.is_of w.2.is_of (agree_down c.replica c.replica w.0 d.replica (λ k n. below_itself (c.replica.at k n)) w.1 agree) t v.early w.2.early in
     let first = origin_stays s es (begin_at o s m) in
     grind (arith, origin_stays)
 

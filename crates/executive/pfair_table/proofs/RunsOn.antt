@@ -18,7 +18,7 @@ use Rattle.pfair_order.specs.declared.Key.{Key}
 use Rattle.pfair_ready.specs.Names.{NameValue as Name}
 use Rattle.pfair_entry.specs.Exact.{name_exact}
 use Rattle.pfair_entry.specs.Same.{name_eq}
-use Rattle.pfair_entry.specs.Said.{Said}
+use Rattle.pfair_entry.specs.declared.said.Said.{Said}
 use Rattle.pfair_entry.specs.declared.announcement.Announcement.{Announcement}
 use Rattle.pfair_entry.specs.Entry.{IsWeighed}
 use Rattle.pfair_replica.specs.Among.{Among, all_among, among_all, among_map, among_filter, map_same}
@@ -27,7 +27,7 @@ use Rattle.pfair_admission.specs.declared.decision.Decision.{Decision}
 use Rattle.pfair_admission.specs.Admission.{Machine, announcements, all_decided, boundary_decisions, member_named, newcomer, present, ran, with_quantum}
 use Rattle.pfair_admission.specs.Carried.{all_raised, carried, carried_delays, jobs_done, subtasks_done, subtasks_of, taken_off}
 use Rattle.pfair_admission.proofs.CarriedAgain.{done_low, next_ran, none_done}
-use Rattle.pfair_admission.proofs.Beside.{AreDecided, ArePaired, Pair, all_paired, eligible_paired, index_paired, lags_paired, standing_paired, later_paired, present_paired, ran_paired}
+use Rattle.pfair_admission.proofs.Beside.{AreDecided, ArePaired, Pair, all_paired, eligible_paired, index_paired, lags_paired, membership_paired, later_paired, present_paired, ran_paired}
 use Rattle.pfair_admission.proofs.Each.{each, each_filter, each_map}
 use Rattle.pfair_admission.proofs.Effects.{by_effect, each_change}
 use Rattle.pfair_admission.proofs.Keeping.{eligible_at_job, one_each}
@@ -38,7 +38,7 @@ use Rattle.pfair_table.specs.Places.{all_kept, filled, place_of, places_after, p
 use Rattle.pfair_table.specs.Planned.{last_or}
 use Rattle.pfair_table.specs.Ranks.{first_by_rank}
 use Rattle.pfair_table.specs.Table.{Settings, Origin, Story, Table, machine, names_task, is_eligible, eligible, pick, all_ran, chosen, index_of, slot_of, with_decisions, history_over, world_over, table_over, decisions_over}
-use Rattle.pfair_table.specs.RunsOn.{TellsWeights, HasBegun, IsBegun, IsSlotOf, RunsGoOn, both_stories, last_places, last_table, left_over, raised_rows}
+use Rattle.pfair_table.specs.RunsOn.{IsWeighedStory, HasBegun, IsBegun, IsSlotOf, RunsGoOn, both_stories, last_places, last_table, left_over, raised_rows}
 use Rattle.pfair_table.proofs.FirstByRank.{among_first}
 use Rattle.pfair_table.proofs.FirstSubtasks.{found_own}
 use Rattle.pfair_table.proofs.Members.{label, named_from, named_history}
@@ -83,9 +83,9 @@ module _ (slot : ℕ) where
   begun_joins : (name : List ℕ) (w : Share) (early : Bool) → IsWeight w.cost w.period → HasBegun (suc slot) (newcomer slot name w early)
   begun_joins name w early h = grind (arith, div-eq_of_lt)
 
-  begun_decided : (machine : Machine) (told : List Announcement) → AllByRecursion IsWeighed told → (members : List Member) → AllByRecursion (HasBegun (suc slot)) members → AllByRecursion (HasBegun (suc slot)) (all_decided machine slot members told)
+  begun_decided : (machine : Machine) (announced : List Announcement) → AllByRecursion IsWeighed announced → (members : List Member) → AllByRecursion (HasBegun (suc slot)) members → AllByRecursion (HasBegun (suc slot)) (all_decided machine slot members announced)
   begun_decided machine [] h members all = all
-  begun_decided machine (a ∷ told) h members all = grind (arith, each_filter, by_effect, all_by_recursion_push, begun_joins, each_change, begun_decided machine told h.1)
+  begun_decided machine (a ∷ announced) h members all = grind (arith, each_filter, by_effect, all_by_recursion_push, begun_joins, each_change, begun_decided machine announced h.1)
 
   -- the quantum of a subtask that starts a job comes after the job's release
   begun_runs : (m : Member) → HasBegun (suc slot) m → is_eligible slot m ≡ true → HasBegun (suc slot) (with_quantum m)
@@ -140,12 +140,12 @@ module _ (slot : ℕ) where
 -- ---- a run from where it began
 
 module _ (o : Origin) (s : Settings) (began : IsBegun o) where
-  pub begun_over : (story : Story) → TellsWeights story → (t : ℕ) → AllByRecursion (HasBegun (slot_of o t)) (history_over o s story t).members
+  pub begun_over : (story : Story) → IsWeighedStory story → (t : ℕ) → AllByRecursion (HasBegun (slot_of o t)) (history_over o s story t).members
   begun_over story weights zero = began.begun
   begun_over story weights (suc t) = grind (arith, each, begun_decided, each_filter, slot_more, begun_ran, named_from, begun_over story weights t)
 
   -- so a next run can begin with what is left
-  pub left_begun : (story : Story) → TellsWeights story → (n : ℕ) → IsBegun (Some (left_over o s story n))
+  pub left_begun : (story : Story) → IsWeighedStory story → (n : ℕ) → IsBegun (Some (left_over o s story n))
   left_begun story weights n =
       let members = (history_over o s story n).members in
       record {
@@ -190,15 +190,15 @@ last_more d (y ∷ xs) x = last_more y xs x
 
 -- ---- decisions
 
-decisions_are : (told : List Said) (ds : List Decision) → length ds ≡ length told → map (λ d. d.decision) (with_decisions told ds) ≡ ds
+decisions_are : (announced : List Said) (ds : List Decision) → length ds ≡ length announced → map (λ d. d.decision) (with_decisions announced ds) ≡ ds
 decisions_are [] [] e = refl
 decisions_are [] (d ∷ ds) e = absurd (cc)
-decisions_are (a ∷ told) [] e = absurd (cc)
-decisions_are (a ∷ told) (d ∷ ds) e = ap (λ l. d ∷ l) (decisions_are told ds (omega (arith, e)))
+decisions_are (a ∷ announced) [] e = absurd (cc)
+decisions_are (a ∷ announced) (d ∷ ds) e = ap (λ l. d ∷ l) (decisions_are announced ds (omega (arith, e)))
 
 -- ---- one slot
 
-module _ (o : Origin) (s : Settings) (first : Story) (n : ℕ) (began : IsBegun o) (weights : TellsWeights first) (second : Story) (more : TellsWeights second) where
+module _ (o : Origin) (s : Settings) (first : Story) (n : ℕ) (began : IsBegun o) (weights : IsWeighedStory first) (second : Story) (more : IsWeighedStory second) where
   abbrev pub left : List Member
   left = (history_over o s first n).members
 
@@ -270,7 +270,7 @@ module _ (o : Origin) (s : Settings) (first : Story) (n : ℕ) (began : IsBegun 
   chosen_same t k e a =
       let L = world_over o s long k in
       let S = world_over next s second t in
-      ap (first_by_rank s.processors) (standing_paired left begin (λ key freed. key) (filter (is_eligible (begin + t)) L) (filter (is_eligible (begin + t)) S) (eligible_paired left begin (begin + t) L S a))
+      ap (first_by_rank s.processors) (membership_paired left begin (λ key freed. key) (filter (is_eligible (begin + t)) L) (filter (is_eligible (begin + t)) S) (eligible_paired left begin (begin + t) L S a))
       ∙ ap (λ slot. chosen s slot L) (sym (slot_at t k e))
 
   rows_paired : {t : ℕ} (ks : List Key) (M N L S : List Member) → ArePaired left begin t L S → ArePaired left begin t (all_ran (map (pick M) ks) L) (all_ran (map (pick N) ks) S)
@@ -346,8 +346,8 @@ module _ (o : Origin) (s : Settings) (first : Story) (n : ℕ) (began : IsBegun 
   decided_same t k e =
       let L = (history_over o s long k).members in
       let S = (history_over next s second t).members in
-      let near = one_each (machine s) (begin + t) S (announcements (second t)) ∙ length-map (second t) (λ (a : Said). a.2) in
-      let there = one_each (machine s) (slot_of o k) L (announcements (long k)) ∙ length-map (long k) (λ (a : Said). a.2) in
+      let near = one_each (machine s) (begin + t) S (announcements (second t)) ∙ length-map (second t) (λ (a : Said). a.announcement) in
+      let there = one_each (machine s) (slot_of o k) L (announcements (long k)) ∙ length-map (long k) (λ (a : Said). a.announcement) in
       decisions_are (second t) (boundary_decisions (machine s) (begin + t) S (announcements (second t))) near
       ∙ sym (decided_in t k e L (members_paired t k e)).decisions
       ∙ (λ i. boundary_decisions (machine s) (sym (slot_at t k e) i) L (announcements (sym (long_late t k e) i)))
@@ -355,8 +355,8 @@ module _ (o : Origin) (s : Settings) (first : Story) (n : ℕ) (began : IsBegun 
 
   pub slot_same : (t : ℕ) → IsSlotOf o s first n second t
   slot_same t = record {
-    members = standing_paired left begin (λ key freed. (key, freed)) (world_over o s long (n + t)) (world_over next s second t) (world_at t (n + t) refl);
-    left = standing_paired left begin (λ key freed. (key, freed)) (history_over o s long (suc (n + t))).members (history_over next s second (suc t)).members (members_paired (suc t) (suc (n + t)) (omega arith));
+    members = membership_paired left begin (λ key freed. (key, freed)) (world_over o s long (n + t)) (world_over next s second t) (world_at t (n + t) refl);
+    left = membership_paired left begin (λ key freed. (key, freed)) (history_over o s long (suc (n + t))).members (history_over next s second (suc t)).members (members_paired (suc t) (suc (n + t)) (omega arith));
     lags = (let paired = members_paired (suc t) (suc (n + t)) (omega arith) in
         lags_paired left begin (slot_of o (suc (n + t))) (let at = slot_at (suc t) (suc (n + t)) (omega arith) in omega (arith, at)) (history_over o s long (suc (n + t))).members (history_over next s second (suc t)).members paired);
     rows = rows_same t (n + t) refl;

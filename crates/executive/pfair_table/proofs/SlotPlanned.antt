@@ -4,7 +4,7 @@ use Rattle.std.specs.Prelude.{IsTrue, Some, None, Result, Ok, Err, IfErr}
 use Rattle.std.specs.Result.{IsErrAnd}
 use Rattle.std.proofs.lemmas.List.{map-append}
 use Rattle.pfair_weight.proofs.NamesApart.{apart_nil}
-use Rattle.pfair_replica.specs.HeldRows.{HeldRows, replica_of}
+use Rattle.pfair_replica.specs.ReplicaRows.{ReplicaRows, replica_of}
 use Rattle.pfair_replica.specs.Replica.{Replica, IsReplica, has_torn, frontier, numbers_below}
 use Rattle.pfair_ready.specs.Queue.{Queue}
 use Rattle.pfair_admission.specs.Roster.{Roster}
@@ -33,36 +33,36 @@ one_more : (n : ℕ) → n + 1 ≡ suc n
 one_more n = omega arith
 
 -- what is seen of a replica, if n slots are planned of what was held before
-abbrev pub at_slot : Settings → HeldRows → HeldRows → ℕ → Bool → Dispatch
-at_slot s x of n spent = record { settings = s; origin = None; held = x; tables = tables_to None s of n; decided = decided_to None s of n; forgotten = n; spent = spent }
+abbrev pub at_slot : Settings → ReplicaRows → ReplicaRows → ℕ → Bool → Dispatch
+at_slot s x of n spent = record { settings = s; origin = None; replica = x; tables = tables_to None s of n; decided = decided_to None s of n; forgotten = n; spent = spent }
 
 -- and what the next plan of that answers
-module _ (of : HeldRows) (n : ℕ) {s : Settings} {x : HeldRows} {spent : Bool} {d : Dispatch} (view : at_slot s x of n spent ≡ d) where
+module _ (of : ReplicaRows) (n : ℕ) {s : Settings} {x : ReplicaRows} {spent : Bool} {d : Dispatch} (view : at_slot s x of n spent ≡ d) where
   planned_are : n ≡ length d.tables
   planned_are = sym (tables_long None s of n) ∙ ap (λ (e : Dispatch). length e.tables) view
 
   settings_are : s ≡ d.settings
   settings_are = ap (λ (e : Dispatch). e.settings) view
 
-  pub plannable : is_plannable s (replica_of d.held) n ≡ is_plannable d.settings (replica_of d.held) (length d.tables)
-  plannable = λ i. is_plannable (settings_are i) (replica_of d.held) (planned_are i)
+  pub plannable : is_plannable s (replica_of d.replica) n ≡ is_plannable d.settings (replica_of d.replica) (length d.tables)
+  plannable = λ i. is_plannable (settings_are i) (replica_of d.replica) (planned_are i)
 
-  pub next_plan : (next : SlotPlan) → IsTrue (is_plannable s (replica_of d.held) n) → s.processors ≤ 64
-      → next.table.items ≡ table s (replica_of d.held) n → next.decided.items ≡ decisions s (replica_of d.held) n → IsNextPlan d (Some next)
+  pub next_plan : (next : SlotPlan) → IsTrue (is_plannable s (replica_of d.replica) n) → s.processors ≤ 64
+      → next.table.items ≡ table s (replica_of d.replica) n → next.decided.items ≡ decisions s (replica_of d.replica) n → IsNextPlan d (Some next)
   next_plan next can most table_is decided_is =
-      let fit = (tables_are_ordered None s (replica_of d.held) n (apart_nil label)).0 in
+      let fit = (tables_are_ordered None s (replica_of d.replica) n (apart_nil label)).0 in
       grind (arith, fit, plannable, planned_are)
 
-pub within : (of : HeldRows) (n : ℕ) {s : Settings} {x : Replica} {spent : Bool} {roster : Roster} {now : ℕ} {waiting : Queue} → IsKept None s x (tables_to None s of n) (decided_to None s of n) spent roster now waiting → n ≤ s.slots
+pub within : (of : ReplicaRows) (n : ℕ) {s : Settings} {x : Replica} {spent : Bool} {roster : Roster} {now : ℕ} {waiting : Queue} → IsKept None s x (tables_to None s of n) (decided_to None s of n) spent roster now waiting → n ≤ s.slots
 within of n {s} kept = omega (arith, kept.plan.wanted, tables_long None s of n)
 
-module _ (of : HeldRows) (n : ℕ) {s : Settings} {x : HeldRows} {spent : Bool} {roster : Roster} {now : ℕ} {waiting : Queue} (kept : IsKept None s (replica_of x) (tables_to None s of n) (decided_to None s of n) spent roster now waiting) where
-  module _ {d : Dispatch} (view : at_slot s x of n spent ≡ d) (sound : IsReplica (replica_of d.held)) (test : has_torn (replica_of d.held) ≡ false) where
+module _ (of : ReplicaRows) (n : ℕ) {s : Settings} {x : ReplicaRows} {spent : Bool} {roster : Roster} {now : ℕ} {waiting : Queue} (kept : IsKept None s (replica_of x) (tables_to None s of n) (decided_to None s of n) spent roster now waiting) where
+  module _ {d : Dispatch} (view : at_slot s x of n spent ≡ d) (sound : IsReplica (replica_of d.replica)) (test : has_torn (replica_of d.replica) ≡ false) where
     abbrev y : Replica
-    y = replica_of d.held
+    y = replica_of d.replica
 
     pub kept_of : IsKept None s y (tables_to None s of n) (decided_to None s of n) spent roster now waiting
-    kept_of = subst (λ (h : HeldRows). IsKept None s (replica_of h) (tables_to None s of n) (decided_to None s of n) spent roster now waiting) (ap (λ (e : Dispatch). e.held) view) kept
+    kept_of = subst (λ (h : ReplicaRows). IsKept None s (replica_of h) (tables_to None s of n) (decided_to None s of n) spent roster now waiting) (ap (λ (e : Dispatch). e.replica) view) kept
 
     pub step_seen : spent ≡ false → IsInStep None s y n roster now waiting
     step_seen able = subst (λ k. IsInStep None s y k roster now waiting) (tables_long None s of n) (step_now kept_of sound test able)
@@ -70,19 +70,19 @@ module _ (of : HeldRows) (n : ℕ) {s : Settings} {x : HeldRows} {spent : Bool} 
     pub whole_seen : min (frontier y) s.slots ≤ n → IsWholePlan d
     whole_seen far =
         let long = tables_long None s of n in
-        subst IsWholePlan (ap (λ (h : HeldRows). at_slot s h of n spent) (sym (ap (λ (e : Dispatch). e.held) view)) ∙ view) (whole_plan kept_of sound test (omega (arith, far, long)))
+        subst IsWholePlan (ap (λ (h : ReplicaRows). at_slot s h of n spent) (sym (ap (λ (e : Dispatch). e.replica) view)) ∙ view) (whole_plan kept_of sound test (omega (arith, far, long)))
 
-    tables_more : tables_to None s d.held (n + 1) ≡ tables_to None s of n ++ table s y n ∷ []
-    tables_more = ap (tables_to None s d.held) (one_more n) ∙ ap (λ (ts : List Table). ts ++ table s y n ∷ []) (sym ((plan_now kept_of sound test).tables_are ∙ ap (tables_to None s d.held) (tables_long None s of n)))
+    tables_more : tables_to None s d.replica (n + 1) ≡ tables_to None s of n ++ table s y n ∷ []
+    tables_more = ap (tables_to None s d.replica) (one_more n) ∙ ap (λ (ts : List Table). ts ++ table s y n ∷ []) (sym ((plan_now kept_of sound test).tables_are ∙ ap (tables_to None s d.replica) (tables_long None s of n)))
 
-    decided_more : decided_to None s d.held (n + 1) ≡ decided_to None s of n ++ decisions s y n ∷ []
+    decided_more : decided_to None s d.replica (n + 1) ≡ decided_to None s of n ++ decisions s y n ∷ []
     decided_more =
-        ap (decided_to None s d.held) (one_more n) ∙ map-append (decisions s y) (numbers_below n) (n ∷ [])
-        ∙ ap (λ (ds : List (List Decided)). ds ++ decisions s y n ∷ []) (sym ((plan_now kept_of sound test).decided_are ∙ ap (decided_to None s d.held) (tables_long None s of n)))
+        ap (decided_to None s d.replica) (one_more n) ∙ map-append (decisions s y) (numbers_below n) (n ∷ [])
+        ∙ ap (λ (ds : List (List Decided)). ds ++ decisions s y n ∷ []) (sym ((plan_now kept_of sound test).decided_are ∙ ap (decided_to None s d.replica) (tables_long None s of n)))
 
-    pub kept_seen : {z : HeldRows} {spent2 : Bool} {roster2 : Roster} {now2 : ℕ} {waiting2 : Queue} → z ≡ d.held → n < frontier y → n < s.slots → IsInStep None s y (n + 1) roster2 now2 waiting2
+    pub kept_seen : {z : ReplicaRows} {spent2 : Bool} {roster2 : Roster} {now2 : ℕ} {waiting2 : Queue} → z ≡ d.replica → n < frontier y → n < s.slots → IsInStep None s y (n + 1) roster2 now2 waiting2
         → IsKept None s (replica_of x) (tables_to None s z (n + 1)) (decided_to None s z (n + 1)) spent2 roster2 now2 waiting2
     kept_seen {roster2} {now2} {waiting2} same early wanted step = grind (arith, tables_long, kept_next, kept_of, tables_more, table, decided_more)
 
-    pub seen_after : {z : HeldRows} (next : SlotPlan) → z ≡ d.held → next.table.items ≡ table s y n → next.decided.items ≡ decisions s y n → at_slot s x z (n + 1) spent ≡ after_plan d (Some next)
+    pub seen_after : {z : ReplicaRows} (next : SlotPlan) → z ≡ d.replica → next.table.items ≡ table s y n → next.decided.items ≡ decisions s y n → at_slot s x z (n + 1) spent ≡ after_plan d (Some next)
     seen_after next same table_is decided_is = grind (arith, tables_more, decided_more, planned_are, tables_long, one_more, table, plan_now, kept_of, map-append)

@@ -3,7 +3,7 @@ use Rattle.std.proofs.Common.{ℕ, zero, suc, ◌+◌, ◌≤◌, ◌<◌, ◌�
 use Rattle.std.specs.Prelude.{if◌then◌else◌}
 use Rattle.std.specs.List.{AllByRecursion}
 use Rattle.pfair_entry.specs.declared.announcement.Announcement.{Announcement}
-use Rattle.pfair_entry.specs.Said.{Said}
+use Rattle.pfair_entry.specs.declared.said.Said.{Said}
 use Rattle.pfair_ready.specs.Queue.{Queue}
 use Rattle.pfair_weight.specs.Name.{NamesApart}
 use Rattle.pfair_admission.specs.Admission.{Machine, boundary, announcements, with_quantum}
@@ -26,7 +26,7 @@ use Rattle.pfair_table.proofs.NextIndexes.{each_boundary, all_ran_is, after_tabl
 
 -- ---- next indexes
 
-pub few_boundary : (n : ℕ) (mc : Machine) (t : ℕ) → 1 ≤ n → (heard : List Announcement) (members : List Member) → AllByRecursion (λ m. m.next ≤ n) members → AllByRecursion (λ m. m.next ≤ n) (boundary mc t members heard)
+pub few_boundary : (n : ℕ) (mc : Machine) (t : ℕ) → 1 ≤ n → (announced : List Announcement) (members : List Member) → AllByRecursion (λ m. m.next ≤ n) members → AllByRecursion (λ m. m.next ≤ n) (boundary mc t members announced)
 few_boundary n mc t le = each_boundary t (λ m. m.next ≤ n) (λ name w early. le) (λ slot m h. h) (λ index by m h. h) mc
 
 few_ran : (n : ℕ) (picks : Table) → NamesApart (λ (p : Pick). p.name) picks → (members : List Member) → AllByRecursion (λ m. m.next ≤ n) members → AllByRecursion (λ m. m.next ≤ n + 1) (all_ran picks members)
@@ -64,9 +64,9 @@ pub in_time : (o : Origin) (s : Settings) → IsOrigin o s → s.slots ≤ 10000
 in_time o s began few t early = grind arith
 
 -- after the quanta of a slot all is steady for the next
-pub steady_next : {slot now now2 : ℕ} {before after : Roster} {waiting waiting2 : Queue} (rows : Table) (heard : List Said)
+pub steady_next : {slot now now2 : ℕ} {before after : Roster} {waiting waiting2 : Queue} (rows : Table) (announced : List Said)
     → IsSteady slot before now waiting
-    → let world = boundary before.machine slot before.members (announcements heard) in
+    → let world = boundary before.machine slot before.members (announcements announced) in
     after.members ≡ all_ran rows world → after.last_slot ≡ Some slot → now2 ≡ slot → IsQueue after.members waiting2
     → IsSteady (slot + 1) after now2 waiting2
-steady_next {slot} {before} rows heard steady ran_are last_is now_is queue = grind (arith, apart_boundary, named_ran)
+steady_next {slot} {before} rows announced steady ran_are last_is now_is queue = grind (arith, apart_boundary, named_ran)

@@ -5,7 +5,7 @@ use Rattle.std.specs.declared.alloc.AllocError.{AllocError}
 use Rattle.pfair_table.specs.declared.slot.SlotPlan.{SlotPlan}
 use Rattle.std.proofs.lemmas.List.{length-append, map-append}
 use Rattle.pfair_entry.specs.Entry.{Logged}
-use Rattle.pfair_entry.specs.Said.{Said}
+use Rattle.pfair_entry.specs.declared.said.Said.{Said}
 use Rattle.pfair_entry.specs.declared.announcement.Announcement.{Announcement}
 use Rattle.pfair_replica.specs.Replica.{said_by, said_in, sound_beginning, Replica, Below, Untorn, said, frontier, numbers_below}
 use Rattle.pfair_replica.proofs.Marks.{same_said, below_agree, frontier_le}
@@ -37,11 +37,11 @@ slot_next : (o : Origin) (n : ℕ) → slot_of o n + 1 ≡ slot_of o (n + 1)
 slot_next o n = grind arith
 
 -- so what a slot's plan leaves is in step
-pub step_after : {o : Origin} {s : Settings} {x : Replica} {n : ℕ} {before : Roster} {now : ℕ} {waiting : Queue} {heard : List Said} {processors : ℕ} (after : Roster) (now2 : ℕ) (waiting2 : Queue) (r : Result SlotPlan AllocError)
-    → IsInStep o s x n before now waiting → {at : ℕ} → at ≡ slot_of o n → heard ≡ said x n → processors ≡ s.processors
-    → IfOk r (λ p. let w = boundary before.machine at before.members (announcements heard) in p.table.items ≡ map (pick w) (first_by_rank processors (eligible at w)))
-    → IfOk r (λ p. after.members ≡ all_ran p.table.items (boundary before.machine at before.members (announcements heard)))
-    → OnOk r (after.machine ≡ before.machine) → OnOk r (after.heard ≡ before.heard + length heard) → OnOk r (IsSteady (at + 1) after now2 waiting2) → OnOk r (IsInStep o s x (n + 1) after now2 waiting2)
+pub step_after : {o : Origin} {s : Settings} {x : Replica} {n : ℕ} {before : Roster} {now : ℕ} {waiting : Queue} {announced : List Said} {processors : ℕ} (after : Roster) (now2 : ℕ) (waiting2 : Queue) (r : Result SlotPlan AllocError)
+    → IsInStep o s x n before now waiting → {at : ℕ} → at ≡ slot_of o n → announced ≡ said x n → processors ≡ s.processors
+    → IfOk r (λ p. let w = boundary before.machine at before.members (announcements announced) in p.table.items ≡ map (pick w) (first_by_rank processors (eligible at w)))
+    → IfOk r (λ p. after.members ≡ all_ran p.table.items (boundary before.machine at before.members (announcements announced)))
+    → OnOk r (after.machine ≡ before.machine) → OnOk r (after.heard ≡ before.heard + length announced) → OnOk r (IsSteady (at + 1) after now2 waiting2) → OnOk r (IsInStep o s x (n + 1) after now2 waiting2)
 step_after after now2 waiting2 r step at_is is many rows ran machine count steady = grind (arith, rows_are)
 
 -- ---- the growth law, for members and ready structure
@@ -50,22 +50,22 @@ same_heard : (x y : Replica) (n : ℕ) → ((u : ℕ) → u < n → said x u ≡
 same_heard x y zero same = refl
 same_heard x y (suc n) same = grind (arith, same_heard x y n)
 
-module _ {o : Origin} {s : Settings} {held of : Replica} {tables : List Table} {decided : List (List Decided)} (plan : IsPlanOf o s held of tables decided) (is_of : IsOf s held) (whole : Untorn held) where
-  same_processors : of.processors ≡ held.processors
+module _ {o : Origin} {s : Settings} {replica of : Replica} {tables : List Table} {decided : List (List Decided)} (plan : IsPlanOf o s replica of tables decided) (is_of : IsOf s replica) (whole : Untorn replica) where
+  same_processors : of.processors ≡ replica.processors
   same_processors = plan.is_of.processors ∙ sym is_of.processors
 
-  alike : (u : ℕ) → u < length tables → said of u ≡ said held u
+  alike : (u : ℕ) → u < length tables → said of u ≡ said replica u
   alike u l = grind (arith, same_said, same_processors, below_agree, frontier_le)
 
-  past : history_from o s of (length tables) ≡ history_from o s held (length tables)
-  past = same_history o s (said of) (said held) (length tables) alike
+  past : history_from o s of (length tables) ≡ history_from o s replica (length tables)
+  past = same_history o s (said of) (said replica) (length tables) alike
 
   -- What was planned of a replica below is planned of this one,
-  pub plan_of_held : IsPlanOf o s held held tables decided
+  pub plan_of_held : IsPlanOf o s replica replica tables decided
   plan_of_held = grind (arith, past, map_same, among_below, one_table_from, below_agree, frontier_le, same_processors, same_history, alike)
 
   -- and members and ready structure are in step with it too.
-  pub step_of_held : {roster : Roster} {now : ℕ} {waiting : Queue} → IsInStep o s of (length tables) roster now waiting → IsInStep o s held (length tables) roster now waiting
+  pub step_of_held : {roster : Roster} {now : ℕ} {waiting : Queue} → IsInStep o s of (length tables) roster now waiting → IsInStep o s replica (length tables) roster now waiting
   step_of_held step = grind (arith, past, same_heard, alike)
 
 -- With the next slot planned.
@@ -78,9 +78,9 @@ plan_next_slot {o} {s} {x} {tables} {decided} plan early wanted =
 
 -- ---- the contents grow
 
-pub kept_above : {o : Origin} {s : Settings} {held more : Replica} {tables : List Table} {decided : List (List Decided)} {spent : Bool} {roster : Roster} {now : ℕ} {waiting : Queue}
-    → IsKept o s held tables decided spent roster now waiting → Below held more → more.processors ≡ held.processors → more.capacity ≡ held.capacity → IsKept o s more tables decided spent roster now waiting
-kept_above {held} {more} kept above same_p same_c = grind (arith, below_all)
+pub kept_above : {o : Origin} {s : Settings} {replica more : Replica} {tables : List Table} {decided : List (List Decided)} {spent : Bool} {roster : Roster} {now : ℕ} {waiting : Queue}
+    → IsKept o s replica tables decided spent roster now waiting → Below replica more → more.processors ≡ replica.processors → more.capacity ≡ replica.capacity → IsKept o s more tables decided spent roster now waiting
+kept_above {replica} {more} kept above same_p same_c = grind (arith, below_all)
 
 -- ---- how many announcements there are
 

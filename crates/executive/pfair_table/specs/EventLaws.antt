@@ -3,7 +3,7 @@ use Rattle.std.specs.Prelude.{ℕ, ◌≡◌, ◌≤◌, ◌<◌, List, Some, �
 use Rattle.std.specs.List.{AllByRecursion}
 use Rattle.pfair_lattice.specs.Held.{HeldBelow}
 use Rattle.pfair_lattice.specs.declared.flat.Flat.TheVariants.{One}
-use Rattle.pfair_replica.specs.HeldRows.{replica_of}
+use Rattle.pfair_replica.specs.ReplicaRows.{replica_of}
 use Rattle.pfair_replica.specs.Replica.{Replica, Below}
 use Rattle.pfair_table.specs.declared.event.Event.{Event}
 use Rattle.pfair_table.specs.declared.event.Event.TheVariants.{Take, Absorb, Plan}
@@ -20,6 +20,6 @@ IsBroughtBelow s capacity y Plan = ⊤
 abbrev pub EventsLeaveTheLeast : Type 0
 EventsLeaveTheLeast =
     (o : Origin) (s : Settings) (capacity : ℕ) (events : List Event)
-    → let x = (run s (begin_at o s capacity) events).held in
+    → let x = (run s (begin_at o s capacity) events).replica in
     AllByRecursion (IsBroughtBelow s capacity x) events
     × ((y : Replica) → AllByRecursion (IsBroughtBelow s capacity y) events → Below x y)

@@ -1,5 +1,5 @@
 -- What a list of events leaves.
-use Rattle.pfair_replica.specs.HeldRows.{replica_of}
+use Rattle.pfair_replica.specs.ReplicaRows.{replica_of}
 use Rattle.pfair_table.specs.declared.event.Event.{Event}
 use Rattle.pfair_table.specs.declared.event.Event.TheVariants.{Take, Absorb, Plan}
 use Rattle.std.specs.Prelude.{ℕ, Bool, not, ◌&&◌, nat_lt, List, [], ◌∷◌, None, ◌++◌, length, ⊤, if◌then◌else◌}
@@ -20,13 +20,13 @@ IsEvent Plan = ⊤
 -- where the run began, the contents, and what was planned: the table and the decisions of each slot so far
 pub record Course : Type 0 where
   pub origin : Origin
-  pub held : Replica
+  pub replica : Replica
   pub tables : List Table
   pub decided : List (List Decided)
 
 -- a run at its start: it holds nothing and has planned nothing
 abbrev pub begin_at : Origin → Settings → ℕ → Course
-begin_at o s capacity = record { origin = o; held = empty_replica s.processors capacity; tables = []; decided = [] }
+begin_at o s capacity = record { origin = o; replica = empty_replica s.processors capacity; tables = []; decided = [] }
 
 -- a first run
 abbrev pub start : Settings → ℕ → Course
@@ -40,12 +40,12 @@ is_plannable s x n = not (has_torn x) && (nat_lt n (frontier x) && nat_lt n s.sl
 abbrev pub with_next_slot : Settings → Course → Course
 with_next_slot s c =
     let t = length c.tables in
-    record { origin = c.origin; held = c.held; tables = c.tables ++ table_from c.origin s c.held t ∷ []; decided = c.decided ++ decisions_from c.origin s c.held t ∷ [] }
+    record { origin = c.origin; replica = c.replica; tables = c.tables ++ table_from c.origin s c.replica t ∷ []; decided = c.decided ++ decisions_from c.origin s c.replica t ∷ [] }
 
 abbrev pub happens : Settings → Course → Event → Course
-happens s c (Take k n e) = record c { held = taken c.held k n e }
-happens s c (Absorb y) = record c { held = absorbed c.held (replica_of y) }
-happens s c Plan = if is_plannable s c.held (length c.tables) then with_next_slot s c else c
+happens s c (Take k n e) = record c { replica = taken c.replica k n e }
+happens s c (Absorb y) = record c { replica = absorbed c.replica (replica_of y) }
+happens s c Plan = if is_plannable s c.replica (length c.tables) then with_next_slot s c else c
 
 -- what a list of events leaves
 abbrev pub run : Settings → Course → List Event → Course

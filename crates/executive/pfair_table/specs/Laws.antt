@@ -55,12 +55,12 @@ abbrev pub OneSchedule : Type 0
 OneSchedule =
     (o : Origin) (s : Settings) (m n : ℕ) (es fs : List Event) → AllByRecursion IsEvent es → AllByRecursion IsEvent fs
     → let c = run s (begin_at o s m) es in let d = run s (begin_at o s n) fs in
-    Agree c.held d.held → (t : ℕ) → t < length c.tables → t < length d.tables
-    → (slice_get c.tables t ≡ Some (table_from o s c.held t)) × (slice_get d.tables t ≡ Some (table_from o s c.held t))
-    × (slice_get c.decided t ≡ Some (decisions_from o s c.held t)) × (slice_get d.decided t ≡ Some (decisions_from o s c.held t))
+    Agree c.replica d.replica → (t : ℕ) → t < length c.tables → t < length d.tables
+    → (slice_get c.tables t ≡ Some (table_from o s c.replica t)) × (slice_get d.tables t ≡ Some (table_from o s c.replica t))
+    × (slice_get c.decided t ≡ Some (decisions_from o s c.replica t)) × (slice_get d.decided t ≡ Some (decisions_from o s c.replica t))
 
 -- While nothing is torn, what was planned is the beginning of the plan of the contents.
 abbrev pub PlanSoFar : Type 0
 PlanSoFar =
     (o : Origin) (s : Settings) (m : ℕ) (events : List Event) → AllByRecursion IsEvent events
-    → let c = run s (begin_at o s m) events in Untorn c.held → IsPrefixOf c.tables (plan_from o s c.held)
+    → let c = run s (begin_at o s m) events in Untorn c.replica → IsPrefixOf c.tables (plan_from o s c.replica)

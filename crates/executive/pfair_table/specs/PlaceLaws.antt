@@ -3,7 +3,7 @@ use Rattle.std.specs.Prelude.{ℕ, suc, ◌≡◌, ◌≤◌, ◌<◌, IsTrue, L
 use Rattle.std.specs.List.{AllByRecursion}
 use Rattle.pfair_ready.specs.Names.{NameValue as Name}
 use Rattle.pfair_replica.specs.Replica.{Agree}
-use Rattle.pfair_replica.specs.HeldRows.{replica_of}
+use Rattle.pfair_replica.specs.ReplicaRows.{replica_of}
 use Rattle.pfair_table.specs.declared.event.Event.{Event}
 use Rattle.pfair_table.specs.Events.{IsEvent, begin_at, run}
 use Rattle.pfair_table.specs.Limits.{IsOrigin}
@@ -37,10 +37,10 @@ abbrev pub OnePlacing : Type 0
 OnePlacing =
     (o : Origin) (s : Settings) (m n : ℕ) (es fs : List Event) → AllByRecursion IsEvent es → AllByRecursion IsEvent fs
     → let c = run s (begin_at o s m) es in let d = run s (begin_at o s n) fs in
-    Agree c.held d.held → (t : ℕ) → t < length c.tables → t < length d.tables → slice_get (places_in o c.tables) t ≡ slice_get (places_in o d.tables) t
+    Agree c.replica d.replica → (t : ℕ) → t < length c.tables → t < length d.tables → slice_get (places_in o c.tables) t ≡ slice_get (places_in o d.tables) t
 
 -- If settings and contents agree, and where the runs began, a slot that both dispatchers have planned has the same places.
 abbrev pub HavePlacedAlike : Dispatch → Dispatch → Type 0
 HavePlacedAlike c d =
-    c.settings ≡ d.settings → c.origin ≡ d.origin → Agree (replica_of c.held) (replica_of d.held) → (t : ℕ) → t < length c.tables → t < length d.tables
+    c.settings ≡ d.settings → c.origin ≡ d.origin → Agree (replica_of c.replica) (replica_of d.replica) → (t : ℕ) → t < length c.tables → t < length d.tables
     → slice_get (places_in c.origin c.tables) t ≡ slice_get (places_in d.origin d.tables) t

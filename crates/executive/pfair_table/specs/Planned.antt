@@ -1,7 +1,7 @@
 -- The tables, decisions and places of planned slots.
 use Rattle.std.specs.Prelude.{ℕ, ◌≡◌, ◌+◌, ◌<◌, ◌≤◌, Vec, List, [], ◌∷◌, ◌++◌, drop, length, map}
 use Rattle.std.specs.declared.alloc.Global.{Global}
-use Rattle.pfair_replica.specs.HeldRows.{HeldRows, replica_of}
+use Rattle.pfair_replica.specs.ReplicaRows.{ReplicaRows, replica_of}
 use Rattle.pfair_replica.specs.Replica.{numbers_below}
 use Rattle.pfair_table.specs.declared.pick.Pick.{Pick}
 use Rattle.pfair_table.specs.declared.pick.Decided.{Decided}
@@ -11,11 +11,11 @@ use Rattle.pfair_table.specs.Places.{places_in}
 use Rattle.pfair_table.specs.Table.{Settings, Table, Origin, history_from, table_from, decisions_from}
 
 -- the tables of slots 0 to n - 1 by the contents
-abbrev pub tables_to : Origin → Settings → HeldRows → ℕ → List Table
+abbrev pub tables_to : Origin → Settings → ReplicaRows → ℕ → List Table
 tables_to o s x n = (history_from o s (replica_of x) n).tables
 
 -- and what is decided at their boundaries
-abbrev pub decided_to : Origin → Settings → HeldRows → ℕ → List (List Decided)
+abbrev pub decided_to : Origin → Settings → ReplicaRows → ℕ → List (List Decided)
 decided_to o s x n = map (decisions_from o s (replica_of x)) (numbers_below n)
 
 -- a run's settings, where it began, the table of each slot from slot 0 on, what was decided at its boundary, and below which slot
@@ -29,7 +29,7 @@ pub record PlannedSlots : Type 0 where
 
 -- What is kept of the slots that are planned of a replica, from slot `first` on: none that isn't forgotten is missing, and the last
 -- one is there in any case.
-pub record AreKept (o : Origin) (s : Settings) (of : HeldRows) (first forgotten : ℕ) (slots : List PlannedSlot) : Type 0 where
+pub record AreKept (o : Origin) (s : Settings) (of : ReplicaRows) (first forgotten : ℕ) (slots : List PlannedSlot) : Type 0 where
   pub tables_are : map (λ p. p.plan.table.items) slots ≡ drop first (tables_to o s of (first + length slots))
   pub places_are : map (λ p. p.places.items) slots ≡ drop first (places_in o (tables_to o s of (first + length slots)))
   pub decided_are : map (λ p. p.plan.decided.items) slots ≡ drop first (decided_to o s of (first + length slots))
@@ -38,7 +38,7 @@ pub record AreKept (o : Origin) (s : Settings) (of : HeldRows) (first forgotten 
   pub few : first + length slots ≤ MAX_SLOTS
 
 -- the next slot by the contents, by which all slots before are too
-pub record IsNext (p : PlannedSlots) (x : HeldRows) (next : PlannedSlot) : Type 0 where
+pub record IsNext (p : PlannedSlots) (x : ReplicaRows) (next : PlannedSlot) : Type 0 where
   pub tables_are : p.tables ≡ tables_to p.origin p.settings x (length p.tables)
   pub decided_are : p.decided ≡ decided_to p.origin p.settings x (length p.tables)
   pub table_is : next.plan.table.items ≡ table_from p.origin p.settings (replica_of x) (length p.tables)
@@ -46,7 +46,7 @@ pub record IsNext (p : PlannedSlots) (x : HeldRows) (next : PlannedSlot) : Type 
   pub places_are : places_in p.origin (p.tables ++ next.plan.table.items ∷ []) ≡ places_in p.origin p.tables ++ next.places.items ∷ []
 
 -- with that
-abbrev pub with_next : PlannedSlots → HeldRows → PlannedSlots
+abbrev pub with_next : PlannedSlots → ReplicaRows → PlannedSlots
 with_next p x =
     let n = length p.tables in
     record p {

@@ -1,7 +1,7 @@
 -- The plan of one slot, and what it takes for granted.
 use Rattle.std.specs.Prelude.{ℕ, ◌≡◌, ◌≤◌, ◌<◌, List, map, length}
-use Rattle.pfair_entry.specs.Said.{Said}
-use Rattle.pfair_replica.specs.HeldRows.{HeldRows, replica_of}
+use Rattle.pfair_entry.specs.declared.said.Said.{Said}
+use Rattle.pfair_replica.specs.ReplicaRows.{ReplicaRows, replica_of}
 use Rattle.pfair_replica.specs.Replica.{Untorn}
 use Rattle.pfair_admission.specs.Admission.{boundary, boundary_decisions, announcements}
 use Rattle.pfair_admission.specs.Member.{Member}
@@ -19,7 +19,7 @@ use Rattle.pfair_table.specs.Refinement.{IsPlanOf}
 use Rattle.pfair_table.specs.Table.{Settings, Origin, Table, eligible, pick, table_from, decisions_from}
 
 -- A run can be planned by the contents: nothing is torn, and what was read is in them.
-pub record CanBePlanned (o : Origin) (s : Settings) (x : HeldRows) (readings : List Reading) : Type 0 where
+pub record CanBePlanned (o : Origin) (s : Settings) (x : ReplicaRows) (readings : List Reading) : Type 0 where
   pub began : IsOrigin o s
   pub is_of : IsOf s (replica_of x)
   pub whole : Untorn (replica_of x)
@@ -27,13 +27,13 @@ pub record CanBePlanned (o : Origin) (s : Settings) (x : HeldRows) (readings : L
   pub read : AreReadingsOf (replica_of x) readings
 
 -- the table and the decisions of slot n
-pub record IsPlanOfSlot (o : Origin) (s : Settings) (x : HeldRows) (n : ℕ) (plan : SlotPlan) : Type 0 where
+pub record IsPlanOfSlot (o : Origin) (s : Settings) (x : ReplicaRows) (n : ℕ) (plan : SlotPlan) : Type 0 where
   pub table_is : plan.table.items ≡ table_from o s (replica_of x) n
   pub decided_is : plan.decided.items ≡ decisions_from o s (replica_of x) n
   pub limits : IsSettings s
 
 -- the slots so far are those of the contents, and another one is wanted
-pub record IsPlannedOf (s : Settings) (x : HeldRows) (p : PlannedSlots) : Type 0 where
+pub record IsPlannedOf (s : Settings) (x : ReplicaRows) (p : PlannedSlots) : Type 0 where
   pub settings_are : p.settings ≡ s
   pub plan : IsPlanOf p.origin s (replica_of x) (replica_of x) p.tables p.decided
   pub wanted : length p.tables < s.slots

@@ -4,7 +4,7 @@ use Rattle.std.specs.Option.{ForSome}
 use Rattle.std.specs.List.{list_any}
 use Rattle.pfair_entry.specs.Same.{name_eq}
 use Rattle.pfair_entry.specs.Names.{name_of}
-use Rattle.pfair_entry.specs.Said.{Said}
+use Rattle.pfair_entry.specs.declared.said.Said.{Said}
 use Rattle.std.specs.FinMap as finmap
 use Rattle.pfair_weight.specs.Name.{NamesApart}
 use Rattle.pfair_weight.specs.declared.window.TheConstants.{MAX_INDEX}
@@ -39,7 +39,7 @@ keys_of first = map (λ (s : Seated). s.key) first
 
 -- some announcement is about the task
 abbrev pub is_said : Name → List Said → Bool
-is_said name announced = list_any (λ a. name_eq name (name_of a.2)) announced
+is_said name announced = list_any (λ a. name_eq name (name_of a.announcement)) announced
 
 -- some member has the name
 abbrev pub is_of_some : Name → List Member → Bool
@@ -65,9 +65,9 @@ IsQueueWithout keys members waiting =
     (name : Name) → finmap.get waiting name ≡ (if has_key_of name keys then None else queued (member_named members name))
 
 -- only the named task's entry is anew
-abbrev pub IsToldOf : Name → List Member → (before after : Queue) → Type 0
-IsToldOf told members before after =
-    (name : Name) → finmap.get after name ≡ (if name_eq name told then queued (member_named members told) else finmap.get before name)
+abbrev pub IsNotifiedOf : Name → List Member → (before after : Queue) → Type 0
+IsNotifiedOf notified members before after =
+    (name : Name) → finmap.get after name ≡ (if name_eq name notified then queued (member_named members notified) else finmap.get before name)
 
 -- a member with the key's name may run, and isn't at the last index of windows
 abbrev pub MayRun : List Member → Key → Type 0

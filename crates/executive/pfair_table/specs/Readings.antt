@@ -1,7 +1,7 @@
 -- What the sound beginnings say, as far as they were read.
 use Rattle.std.specs.Prelude.{ℕ, ◌≡◌, ◌≤◌, ◌<◌, List, [], sum_by, length, take, flat_map, Some, slice_get}
 use Rattle.pfair_entry.specs.Entry.{Logged}
-use Rattle.pfair_entry.specs.Said.{Said}
+use Rattle.pfair_entry.specs.declared.said.Said.{Said}
 use Rattle.pfair_replica.specs.Agenda.{said_at}
 use Rattle.pfair_replica.specs.Replica.{Replica, IsReplica, Untorn, sound_beginning, said_in}
 use Rattle.pfair_table.specs.declared.readings.Reading.{Reading}

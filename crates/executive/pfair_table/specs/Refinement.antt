@@ -1,6 +1,6 @@
 -- What a dispatcher is seen as, and what its parts have to do with the definitions.
 use Rattle.std.specs.Prelude.{ℕ, zero, suc, ◌+◌, ◌≡◌, ◌≤◌, ◌<◌, Bool, true, false, IsTrue, List, length, map, min, Some, slice_get}
-use Rattle.pfair_replica.specs.HeldRows.{HeldRows, replica_of}
+use Rattle.pfair_replica.specs.ReplicaRows.{ReplicaRows, replica_of}
 use Rattle.pfair_replica.specs.Replica.{Replica, Below, Untorn, Agree, frontier, has_torn, torn_keys, said, numbers_below}
 use Rattle.pfair_replica.specs.Faults.{IsTakeFaultOf, IsMergeFaultOf}
 use Rattle.pfair_replica.specs.declared.answer.TakeFault.TheVariants as take
@@ -27,14 +27,14 @@ use Rattle.pfair_table.specs.Queue.{IsSteady}
 pub record Dispatch : Type 0 where
   pub settings : Settings
   pub origin : Origin
-  pub held : HeldRows
+  pub replica : ReplicaRows
   pub tables : List Table
   pub decided : List (List Decided)
   pub forgotten : ℕ
   pub spent : Bool
 
 abbrev pub course_of : Dispatch → Course
-course_of d = record { origin = d.origin; held = replica_of d.held; tables = d.tables; decided = d.decided }
+course_of d = record { origin = d.origin; replica = replica_of d.replica; tables = d.tables; decided = d.decided }
 
 -- ---- answers
 
@@ -52,18 +52,18 @@ IsNoStep x spent Memory = ⊥
 
 -- what a plan answers if nothing is torn or spent
 abbrev pub IsStepOf : Dispatch → Step → Type 0
-IsStepOf d step = IsNextStep d.settings (replica_of d.held) (length d.tables) step
+IsStepOf d step = IsNextStep d.settings (replica_of d.replica) (length d.tables) step
 
 -- why a plan is refused
 abbrev pub IsPlanFault : Dispatch → PlanFault → Type 0
-IsPlanFault d (Torn proc number) = (has_torn (replica_of d.held) ≡ true) × (slice_get (torn_keys (replica_of d.held)) 0 ≡ Some (proc, number))
-IsPlanFault d Spent = (has_torn (replica_of d.held) ≡ false) × (d.spent ≡ true)
-IsPlanFault d Memory = (d.spent ≡ false) × IsTrue (is_plannable d.settings (replica_of d.held) (length d.tables))
+IsPlanFault d (Torn proc number) = (has_torn (replica_of d.replica) ≡ true) × (slice_get (torn_keys (replica_of d.replica)) 0 ≡ Some (proc, number))
+IsPlanFault d Spent = (has_torn (replica_of d.replica) ≡ false) × (d.spent ≡ true)
+IsPlanFault d Memory = (d.spent ≡ false) × IsTrue (is_plannable d.settings (replica_of d.replica) (length d.tables))
 
 -- at such an event an allocation can fail: it brings something for a key without contents, or a slot can be planned
 abbrev pub CanFail : Dispatch → Event → Type 0
-CanFail d (Take proc number entry) = IsTakeFaultOf d.held proc number take.Memory
-CanFail d (Absorb other) = IsMergeFaultOf d.held other merge.Memory
+CanFail d (Take proc number entry) = IsTakeFaultOf d.replica proc number take.Memory
+CanFail d (Absorb other) = IsMergeFaultOf d.replica other merge.Memory
 CanFail d Plan = IsPlanFault d Memory
 
 -- what stands after that
@@ -73,9 +73,9 @@ after_fault d _ = d
 
 -- why nothing is reopened
 abbrev pub IsReopenFault : Dispatch → PlanFault → Type 0
-IsReopenFault d (Torn proc number) = (has_torn (replica_of d.held) ≡ true) × (slice_get (torn_keys (replica_of d.held)) 0 ≡ Some (proc, number))
+IsReopenFault d (Torn proc number) = (has_torn (replica_of d.replica) ≡ true) × (slice_get (torn_keys (replica_of d.replica)) 0 ≡ Some (proc, number))
 IsReopenFault d Spent = ⊥
-IsReopenFault d Memory = has_torn (replica_of d.held) ≡ false
+IsReopenFault d Memory = has_torn (replica_of d.replica) ≡ false
 
 -- ---- where plans have come as far as they can
 
@@ -87,15 +87,15 @@ IsLast Done = Unit {0}
 
 -- the tables are the whole plan of the contents, and the decisions are those of its slots
 pub record IsWholePlan (d : Dispatch) : Type 0 where
-  pub tables_are : d.tables ≡ plan_from d.origin d.settings (replica_of d.held)
-  pub decided_are : d.decided ≡ map (decisions_from d.origin d.settings (replica_of d.held)) (numbers_below (min (frontier (replica_of d.held)) d.settings.slots))
+  pub tables_are : d.tables ≡ plan_from d.origin d.settings (replica_of d.replica)
+  pub decided_are : d.decided ≡ map (decisions_from d.origin d.settings (replica_of d.replica)) (numbers_below (min (frontier (replica_of d.replica)) d.settings.slots))
 
 -- ---- the refinement
 
 -- The tables and decisions so far are those of a replica that is still held: whole, and settled for as many slots.
-pub record IsPlanOf (o : Origin) (s : Settings) (held of : Replica) (tables : List Table) (decided : List (List Decided)) : Type 0 where
+pub record IsPlanOf (o : Origin) (s : Settings) (replica of : Replica) (tables : List Table) (decided : List (List Decided)) : Type 0 where
   pub is_of : IsOf s of
-  pub kept : Below of held
+  pub kept : Below of replica
   pub whole : Untorn of
   pub early : length tables ≤ frontier of
   pub wanted : length tables ≤ s.slots
@@ -109,7 +109,7 @@ members_after o s x n = (history_from o s x n).members
 -- the members after the tables so far, of a replica whose plan these are
 pub record AreMembersOf (d : Dispatch) (members : List Member) : Type 0 where
   pub of : Replica
-  pub plan : IsPlanOf d.origin d.settings (replica_of d.held) of d.tables d.decided
+  pub plan : IsPlanOf d.origin d.settings (replica_of d.replica) of d.tables d.decided
   pub members_are : members ≡ members_after d.origin d.settings of (length d.tables)
 
 -- how many announcements are said before slot n
@@ -125,13 +125,13 @@ pub record IsInStep (o : Origin) (s : Settings) (of : Replica) (n : ℕ) (roster
   pub steady : IsSteady (slot_of o n) roster now waiting
 
 -- All of this for one replica; if an allocation failed, members and ready structure say nothing.
-pub record IsKept (o : Origin) (s : Settings) (held : Replica) (tables : List Table) (decided : List (List Decided)) (spent : Bool) (roster : Roster) (now : ℕ) (waiting : Queue) : Type 0 where
+pub record IsKept (o : Origin) (s : Settings) (replica : Replica) (tables : List Table) (decided : List (List Decided)) (spent : Bool) (roster : Roster) (now : ℕ) (waiting : Queue) : Type 0 where
   pub began : IsOrigin o s
-  pub processors : held.processors ≡ s.processors
-  pub capacity : held.capacity ≤ LONGEST_LOG
+  pub processors : replica.processors ≡ s.processors
+  pub capacity : replica.capacity ≤ LONGEST_LOG
   pub of : Replica
   pub room : of.capacity ≤ LONGEST_LOG
-  pub plan : IsPlanOf o s held of tables decided
+  pub plan : IsPlanOf o s replica of tables decided
   pub step : spent ≡ false → IsInStep o s of (length tables) roster now waiting
 
 -- ---- two dispatchers
@@ -140,6 +140,6 @@ pub record IsKept (o : Origin) (s : Settings) (held : Replica) (tables : List Ta
 -- those of what either holds.
 abbrev pub HavePlannedAlike : Dispatch → Dispatch → Type 0
 HavePlannedAlike c d =
-    c.settings ≡ d.settings → c.origin ≡ d.origin → Agree (replica_of c.held) (replica_of d.held) → (t : ℕ) → t < length c.tables → t < length d.tables
-    → (slice_get c.tables t ≡ Some (table_from c.origin c.settings (replica_of c.held) t)) × (slice_get d.tables t ≡ Some (table_from c.origin c.settings (replica_of c.held) t))
-    × (slice_get c.decided t ≡ Some (decisions_from c.origin c.settings (replica_of c.held) t)) × (slice_get d.decided t ≡ Some (decisions_from c.origin c.settings (replica_of c.held) t))
+    c.settings ≡ d.settings → c.origin ≡ d.origin → Agree (replica_of c.replica) (replica_of d.replica) → (t : ℕ) → t < length c.tables → t < length d.tables
+    → (slice_get c.tables t ≡ Some (table_from c.origin c.settings (replica_of c.replica) t)) × (slice_get d.tables t ≡ Some (table_from c.origin c.settings (replica_of c.replica) t))
+    × (slice_get c.decided t ≡ Some (decisions_from c.origin c.settings (replica_of c.replica) t)) × (slice_get d.decided t ≡ Some (decisions_from c.origin c.settings (replica_of c.replica) t))

@@ -14,8 +14,8 @@ use Rattle.pfair_table.specs.Places.{table_before, places_before, places_in}
 use Rattle.pfair_table.specs.Planned.{last_or}
 
 -- each announced arrival says a weight, as the type of weights guarantees
-abbrev pub TellsWeights : Story → Type 0
-TellsWeights story = (t : ℕ) → AllByRecursion IsWeighed (announcements (story t))
+abbrev pub IsWeighedStory : Story → Type 0
+IsWeighedStory story = (t : ℕ) → AllByRecursion IsWeighed (announcements (story t))
 
 -- a member that has joined before a slot, and so has the job of its last subtask that ran
 pub record HasBegun (slot : ℕ) (m : Member) : Type 0 where
@@ -71,5 +71,5 @@ pub record IsSlotOf (o : Origin) (s : Settings) (first : Story) (n : ℕ) (secon
 
 -- So runs go on as one: whatever is said in them, each slot of a next run is one of the long run; and a next run can be followed by another.
 pub record RunsGoOn : Type 0 where
-  pub slots : (o : Origin) (s : Settings) (first second : Story) (n t : ℕ) → IsBegun o → TellsWeights first → TellsWeights second → IsSlotOf o s first n second t
-  pub again : (o : Origin) (s : Settings) (first : Story) (n : ℕ) → IsBegun o → TellsWeights first → IsBegun (Some (left_over o s first n))
+  pub slots : (o : Origin) (s : Settings) (first second : Story) (n t : ℕ) → IsBegun o → IsWeighedStory first → IsWeighedStory second → IsSlotOf o s first n second t
+  pub again : (o : Origin) (s : Settings) (first : Story) (n : ℕ) → IsBegun o → IsWeighedStory first → IsBegun (Some (left_over o s first n))

@@ -3,7 +3,7 @@ use Rattle.std.specs.Prelude.{◌≡◌, ◌<◌, ◌≤◌, false}
 use Rattle.pfair_replica.specs.Replica.{frontier, has_torn}
 use Rattle.pfair_table.specs.declared.run_fault.RunFault.{RunFault}
 use Rattle.pfair_table.specs.declared.run_fault.RunFault.TheVariants.{Memory, GateGaveUp, Astray, Stalled}
-use Rattle.pfair_replica.specs.HeldRows.{HeldRows, replica_of}
+use Rattle.pfair_replica.specs.ReplicaRows.{ReplicaRows, replica_of}
 use Rattle.pfair_table.specs.Refinement.{Dispatch}
 use Rattle.pfair_table.specs.Script.{LoggedRun, replica_of_logs}
 
@@ -15,7 +15,7 @@ IsScriptFaultOf r GateGaveUp = ⊥
 IsScriptFaultOf r Astray = ⊥
 
 -- all slots can be planned of a replica that stands elsewhere
-pub record IsBySlot (x : HeldRows) (d : Dispatch) : Type 0 where
-  pub held_is : d.held ≡ x
+pub record IsBySlot (x : ReplicaRows) (d : Dispatch) : Type 0 where
+  pub held_is : d.replica ≡ x
   pub whole : has_torn (replica_of x) ≡ false
   pub settled : d.settings.slots ≤ frontier (replica_of x)

@@ -1,6 +1,6 @@
 -- What plans slots of a replica that is handed in, and keeps none of them.
 use Rattle.std.specs.Prelude.{◌+◌, ◌≡◌, IsTrue, false, [], ◌∷◌, ◌++◌, length, Option, Some, None}
-use Rattle.pfair_replica.specs.HeldRows.{HeldRows, replica_of}
+use Rattle.pfair_replica.specs.ReplicaRows.{ReplicaRows, replica_of}
 use Rattle.pfair_table.specs.declared.settings.TheConstants.Settings.{MAX_PROCESSORS}
 use Rattle.pfair_table.specs.declared.slot.SlotPlan.{SlotPlan}
 use Rattle.pfair_table.specs.Table.{table_from, decisions_from}
@@ -9,17 +9,17 @@ use Rattle.pfair_table.specs.Refinement.{Dispatch}
 use Rattle.pfair_table.specs.Places.{IsFit}
 
 -- with this replica handed in
-abbrev pub seeing : Dispatch → HeldRows → Dispatch
-seeing d x = record d { held = x }
+abbrev pub seeing : Dispatch → ReplicaRows → Dispatch
+seeing d x = record d { replica = x }
 
 -- the next slot of the contents, whose table has no more rows than there may be processors, or none if it can't be planned
 abbrev pub IsNextPlan : Dispatch → Option SlotPlan → Type 0
 IsNextPlan d (Some next) =
-    IsTrue (is_plannable d.settings (replica_of d.held) (length d.tables))
-    × (next.table.items ≡ table_from d.origin d.settings (replica_of d.held) (length d.tables))
-    × (next.decided.items ≡ decisions_from d.origin d.settings (replica_of d.held) (length d.tables))
+    IsTrue (is_plannable d.settings (replica_of d.replica) (length d.tables))
+    × (next.table.items ≡ table_from d.origin d.settings (replica_of d.replica) (length d.tables))
+    × (next.decided.items ≡ decisions_from d.origin d.settings (replica_of d.replica) (length d.tables))
     × IsFit MAX_PROCESSORS next.table.items
-IsNextPlan d None = is_plannable d.settings (replica_of d.held) (length d.tables) ≡ false
+IsNextPlan d None = is_plannable d.settings (replica_of d.replica) (length d.tables) ≡ false
 
 -- with that planned
 abbrev pub after_plan : Dispatch → Option SlotPlan → Dispatch

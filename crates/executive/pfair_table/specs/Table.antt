@@ -8,7 +8,7 @@ use Rattle.pfair_order.specs.declared.Key.{Key}
 use Rattle.pfair_table.specs.Ranks.{first_by_rank}
 use Rattle.pfair_entry.specs.Same.{name_eq}
 use Rattle.pfair_replica.specs.Replica.{Replica, said, frontier, numbers_below}
-use Rattle.pfair_entry.specs.Said.{Said}
+use Rattle.pfair_entry.specs.declared.said.Said.{Said}
 use Rattle.pfair_admission.specs.Admission.{Machine, member_named, announcements, boundary, boundary_decisions, ran}
 use Rattle.pfair_admission.specs.Member.{Member, is_departing, eligible_from, next_key}
 use Rattle.pfair_admission.specs.declared.decision.Decision.{Decision}
@@ -112,7 +112,7 @@ slot_after s t announced h =
     record { members = all_ran rows members; tables = h.tables ++ rows ∷ [] }
 
 abbrev pub with_decision : Said × Decision → Decided
-with_decision p = record { proc = p.0.0; number = p.0.1; announcement = p.0.2; decision = p.1 }
+with_decision p = record { proc = p.0.proc; number = p.0.number; announcement = p.0.announcement; decision = p.1 }
 
 -- what was said, each with its decision
 abbrev pub with_decisions : List Said → List Decision → List Decided

@@ -3,7 +3,7 @@ ghost use Rattle.std.specs.Prelude.{◌≡◌, ◌≤◌, ◌<◌, true, false, 
 ghost use Rattle.std.specs.Option.{option_map};
 ghost use Rattle.pfair_replica.specs.Replica.{has_torn};
 ghost use Rattle.pfair_replica.specs.Offered.{taken, absorbed};
-ghost use Rattle.pfair_replica.specs.HeldRows.{IsShape, SameShape, held, replica_of};
+ghost use Rattle.pfair_replica.specs.ReplicaRows.{IsShape, SameShape, held, replica_of};
 ghost use Rattle.pfair_replica.specs.Faults.{IsKeyOf, IsTakenAs, IsTakeFaultOf, IsMergeFaultOf, IsPartlyMerged};
 ghost use Rattle.pfair_table.specs.declared.event.Event.TheVariants.{Plan as PlanEvent};
 ghost use Rattle.pfair_table.specs.Events.{start, happens};
@@ -41,7 +41,7 @@ pub struct Dispatcher<R: Ready> {
 
 impl<R: Ready> Model for Dispatcher<R> {
     ghost use Rattle.std.specs.Prelude.{◌≡◌};
-    ghost use Rattle.pfair_replica.specs.HeldRows.{replica_of};
+    ghost use Rattle.pfair_replica.specs.ReplicaRows.{replica_of};
     ghost use Rattle.pfair_table.specs.Readings.{AreReadingsOf};
     ghost use Rattle.pfair_table.specs.Refinement.{Dispatch, IsKept};
 
@@ -50,7 +50,7 @@ impl<R: Ready> Model for Dispatcher<R> {
     ghost view = { λ a. record {
       settings = a.planner.settings;
       origin = a.planned.origin;
-      held = a.replica;
+      replica = a.replica;
       tables = a.planned.tables;
       decided = a.planned.decided;
       forgotten = a.planned.forgotten;
@@ -85,12 +85,12 @@ impl<R: Ready> Dispatcher<R> {
     /// # Errors
     /// Those of [`Replica::take`]; nothing has then changed.
     pub fn take(&mut self, proc: u8, number: u32, entry: Entry) -> Result<Taken, TakeFault>
-        ensures answer { IfOk result (IsTakenAs (held self.old.held proc number) entry) }
-        ensures key { OnOk result (IsKeyOf self.old.held proc number) }
-        ensures fault { IfErr result (IsTakeFaultOf self.old.held proc number) }
+        ensures answer { IfOk result (IsTakenAs (held self.old.replica proc number) entry) }
+        ensures key { OnOk result (IsKeyOf self.old.replica proc number) }
+        ensures fault { IfErr result (IsTakeFaultOf self.old.replica proc number) }
         ensures unchanged { OnErr result (self.new ≡ self.old) }
-        ensures offered { (result ≡ Err TakeFault.Memory → ⊥) → replica_of self.new.held ≡ taken (replica_of self.old.held) proc number entry }
-        ensures rest { self.new ≡ record self.old { held = self.new.held } }
+        ensures offered { (result ≡ Err TakeFault.Memory → ⊥) → replica_of self.new.replica ≡ taken (replica_of self.old.replica) proc number entry }
+        ensures rest { self.new ≡ record self.old { replica = self.new.replica } }
     {
         self.replica.take(proc, number, entry)
     }
@@ -101,12 +101,12 @@ impl<R: Ready> Dispatcher<R> {
     /// Those of [`Replica::merge`]. After `OtherShape` nothing has changed; after `Memory` some of the
     /// other's entries have been added.
     pub fn absorb(&mut self, other: &Replica) -> Result<(), MergeFault>
-        ensures same_shape { OnOk result (SameShape self.old.held other.now) }
-        ensures fault { IfErr result (IsMergeFaultOf self.old.held other.now) }
+        ensures same_shape { OnOk result (SameShape self.old.replica other.now) }
+        ensures fault { IfErr result (IsMergeFaultOf self.old.replica other.now) }
         ensures unchanged { result ≡ Err MergeFault.OtherShape → self.new ≡ self.old }
-        ensures partly { OnErr result (IsPartlyMerged (replica_of self.old.held) (replica_of other.now) (replica_of self.new.held)) }
-        ensures offered { (result ≡ Err MergeFault.Memory → ⊥) → replica_of self.new.held ≡ absorbed (replica_of self.old.held) (replica_of other.now) }
-        ensures rest { self.new ≡ record self.old { held = self.new.held } }
+        ensures partly { OnErr result (IsPartlyMerged (replica_of self.old.replica) (replica_of other.now) (replica_of self.new.replica)) }
+        ensures offered { (result ≡ Err MergeFault.Memory → ⊥) → replica_of self.new.replica ≡ absorbed (replica_of self.old.replica) (replica_of other.now) }
+        ensures rest { self.new ≡ record self.old { replica = self.new.replica } }
     {
         self.replica.merge(other)
     }
@@ -120,7 +120,7 @@ impl<R: Ready> Dispatcher<R> {
 
     /// Returns the entries that the dispatcher holds.
     pub fn replica(&self) -> &Replica
-        ensures value { result.now ≡ self.now.held }
+        ensures value { result.now ≡ self.now.replica }
     {
         &self.replica
     }
@@ -213,9 +213,9 @@ impl<R: Ready> Dispatcher<R> {
         ensures none { IfNone result (self.now.spent ≡ true) }
         ensures some { IfSome result (λ members. self.now.spent ≡ false) }
         ensures members { IfSome result (λ members. AreMembersOf self.now members.now.members) }
-        ensures whole { IfSome result (λ members. has_torn (replica_of self.now.held) ≡ false
+        ensures whole { IfSome result (λ members. has_torn (replica_of self.now.replica) ≡ false
             → members.now.members
-            ≡ members_after self.now.origin self.now.settings (replica_of self.now.held) (length self.now.tables)) }
+            ≡ members_after self.now.origin self.now.settings (replica_of self.now.replica) (length self.now.tables)) }
     {
         if self.planner.spent {
             return None;
@@ -226,7 +226,7 @@ impl<R: Ready> Dispatcher<R> {
 
     /// Returns the entries that the dispatcher holds, without a copy.
     pub fn into_replica(self) -> Replica
-        ensures { result ≡ self.held }
+        ensures { result ≡ self.replica }
     {
         self.replica
     }
@@ -252,7 +252,7 @@ impl<R: Ready> Dispatcher<R> {
         ensures course { OnOk result (course_of self.new ≡ happens self.old.settings (course_of self.old) PlanEvent) }
         ensures rest { OnOk result (self.new ≡ record self.old { tables = self.new.tables; decided = self.new.decided }) }
         ensures step { IfOk result (IsStepOf self.old) }
-        ensures whole { OnOk result ((has_torn (replica_of self.old.held) ≡ false) × (self.old.spent ≡ false)) }
+        ensures whole { OnOk result ((has_torn (replica_of self.old.replica) ≡ false) × (self.old.spent ≡ false)) }
         ensures settled { IfOk result (λ step. IsLast step → IsWholePlan self.new) }
         ensures fault { IfErr result (IsPlanFault self.old) }
         ensures after { IfErr result (λ fault. self.new ≡ after_fault self.old fault) }
@@ -301,7 +301,7 @@ impl<R: Ready> Dispatcher<R> {
     /// [`PlanFault::Torn`] if an entry held is torn; nothing has then changed.
     /// [`PlanFault::Memory`] if an allocation fails; the dispatcher is then spent, and else as before.
     pub fn reopen(&mut self) -> Result<(), PlanFault>
-        ensures ok { OnOk result ((self.new ≡ record self.old { spent = false }) × (has_torn (replica_of self.old.held) ≡ false)) }
+        ensures ok { OnOk result ((self.new ≡ record self.old { spent = false }) × (has_torn (replica_of self.old.replica) ≡ false)) }
         ensures fault { IfErr result (IsReopenFault self.old) }
         ensures after { IfErr result (λ fault. self.new ≡ after_fault self.old fault) }
     {

@@ -2,7 +2,7 @@
 ghost use Rattle.std.specs.Prelude.{◌≡◌, ◌≤◌, ◌+◌, false, Some, IfOk, IfErr, OnOk};
 ghost use Rattle.std.specs.List.{AllByRecursion};
 ghost use Rattle.std.specs.Option.{option_map};
-ghost use Rattle.pfair_replica.specs.HeldRows.{IsShape};
+ghost use Rattle.pfair_replica.specs.ReplicaRows.{IsShape};
 ghost use Rattle.pfair_admission.specs.declared.members.TheConstants.Members.{LAST_SLOT};
 ghost use Rattle.pfair_admission.specs.Carried.{CanBeCarried};
 ghost use Rattle.pfair_table.specs.Events.{begin_at};

@@ -121,7 +121,8 @@ fn use_kept(kept: &[Option<u8>]) -> u64
 fn use_least(in_use: &mut u64) -> u8
     requires { in_use.old + 1 < 2 ^ 64 }
     ensures fits { in_use.new < 2 ^ 64 }
-    ensures least { (used : List ℕ) → AreInUse in_use.old used → length used < Settings.MAX_PROCESSORS → (result ≡ free_place used) × AreInUse in_use.new (free_place used ∷ used) }
+    ensures least { (used : List ℕ) → AreInUse in_use.old used → length used < Settings.MAX_PROCESSORS
+        → (result ≡ free_place used) × AreInUse in_use.new (free_place used ∷ used) }
 {
     let place = in_use.trailing_ones() as u8;
     *in_use |= 1 << place;

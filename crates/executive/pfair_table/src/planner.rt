@@ -1,7 +1,7 @@
 //! The state between slots, beside the replica and the tables: the members, the ready structure,
 //! and how far the replica was read.
 ghost use Rattle.std.specs.Prelude.{◌≡◌, ◌≤◌, ◌<◌, ◌+◌, false, if◌then◌else◌, is_err, is_ok, IfOk, IfErr, OnOk, length};
-ghost use Rattle.pfair_replica.specs.HeldRows.{replica_of};
+ghost use Rattle.pfair_replica.specs.ReplicaRows.{replica_of};
 ghost use Rattle.pfair_replica.specs.Replica.{Replica as Held, IsReplica, has_torn};
 ghost use Rattle.pfair_table.specs.Limits.{IsOrigin};
 ghost use Rattle.pfair_table.specs.Readings.{AreReadingsOf};
@@ -16,7 +16,7 @@ use crate::places::places_beside;
 use crate::planned::{Planned, PlannedSlot};
 use crate::readings::Readings;
 use crate::settings::Settings;
-use crate::slot::{SlotPlan, decide_all, give_quanta, ready_of, tell_ready};
+use crate::slot::{SlotPlan, decide_all, give_quanta, notify_ready, ready_of};
 use pfair_admission::Members;
 use pfair_ready::{Ready, Seated};
 use pfair_replica::Replica;
@@ -125,11 +125,11 @@ impl<R: Ready> Planner<R> {
         ensures spent { self.new.spent ≡ is_err result }
     {
         self.spent = true;
-        let announced = self.readings.heard(replica, slot)?;
+        let announced = self.readings.announced(replica, slot)?;
         let processors = self.settings.processors();
         let at = slot_of(origin, slot);
         let decided = decide_all(self.alloc, &mut self.members, at, &announced)?;
-        tell_ready(&mut self.ready, &self.members, &announced)?;
+        notify_ready(&mut self.ready, &self.members, &announced)?;
         let table = give_quanta(
             &mut self.ready,
             &mut self.members,

@@ -1,7 +1,7 @@
 //! The announcements of a replica's sound beginnings, by slot. Each entry is read once.
 ghost use Rattle.std.specs.Prelude.{◌≡◌, ◌≤◌, ℕ, [], IfOk, OnOk, length};
 ghost use Rattle.pfair_replica.specs.Agenda.{said_at};
-ghost use Rattle.pfair_replica.specs.HeldRows.{replica_of};
+ghost use Rattle.pfair_replica.specs.ReplicaRows.{replica_of};
 ghost use Rattle.pfair_replica.specs.Replica.{Replica as Held, IsReplica, Untorn, sound_beginning, said};
 ghost use Rattle.pfair_table.specs.Readings.{IsReadingOf, AreReadingsOf, AreWhole, AreSilentAfter, entries_read, said_by_all};
 
@@ -81,12 +81,16 @@ impl Readings {
 
     /// What a replica says at a slot. O(1) if the replica has no other sound entries than at the last
     /// call, and none for this slot or a later one.
-    pub(crate) fn heard(&mut self, replica: &Replica, slot: u64) -> Result<Vec<Said>, AllocError>
+    pub(crate) fn announced(
+        &mut self,
+        replica: &Replica,
+        slot: u64,
+    ) -> Result<Vec<Said>, AllocError>
         requires replica { IsReplica (replica_of replica.now) }
         requires untorn { Untorn (replica_of replica.now) }
         requires readings { AreReadingsOf (replica_of replica.now) self.old.by_processor.items }
         ensures readings { AreReadingsOf (replica_of replica.now) self.new.by_processor.items }
-        ensures heard { IfOk result (λ announced. announced.items ≡ said (replica_of replica.now) slot) }
+        ensures announced { IfOk result (λ announced. announced.items ≡ said (replica_of replica.now) slot) }
     {
         self.read_on(replica)?;
         if slot > self.last {

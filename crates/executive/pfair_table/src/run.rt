@@ -1,6 +1,6 @@
 //! What a list of events leaves.
 ghost use Rattle.std.specs.Prelude.{◌≡◌, false, IfOk, OnErr, OnOk};
-ghost use Rattle.pfair_replica.specs.HeldRows.{IsShape, replica_of};
+ghost use Rattle.pfair_replica.specs.ReplicaRows.{IsShape, replica_of};
 ghost use Rattle.pfair_replica.specs.Faults.{IsTakeFaultOf};
 ghost use Rattle.pfair_replica.specs.declared.answer.TakeFault.TheVariants.{Memory};
 ghost use Rattle.pfair_replica.specs.Offered.{taken};
@@ -84,9 +84,9 @@ pub(crate) fn offer<R: Ready>(
     number: u32,
     entry: Entry,
 ) -> Result<(), AllocError>
-    ensures held { OnOk result (replica_of dispatcher.new.held ≡ taken (replica_of dispatcher.old.held) processor number entry) }
-    ensures rest { dispatcher.new ≡ record dispatcher.old { held = dispatcher.new.held } }
-    ensures memory { OnErr result (IsTakeFaultOf dispatcher.old.held processor number Memory) }
+    ensures held { OnOk result (replica_of dispatcher.new.replica ≡ taken (replica_of dispatcher.old.replica) processor number entry) }
+    ensures rest { dispatcher.new ≡ record dispatcher.old { replica = dispatcher.new.replica } }
+    ensures memory { OnErr result (IsTakeFaultOf dispatcher.old.replica processor number Memory) }
 {
     match dispatcher.take(processor, number, entry) {
         Err(TakeFault::Memory) => Err(AllocError),

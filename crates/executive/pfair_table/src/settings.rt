@@ -44,7 +44,8 @@ impl Settings {
     /// [`Settings::MAX_FRAME`] slots, and 1 to [`Settings::MAX_SLOTS`] slots. `None` if one of them is
     /// out of its range, and only then.
     pub fn new(processors: u8, frame: u64, slots: u64) -> Option<Settings>
-        ensures { SomeIff result (IsSettings record { processors = processors; frame = frame; slots = slots }) record { processors = processors; frame = frame; slots = slots } }
+        ensures { SomeIff result (IsSettings record { processors = processors; frame = frame; slots = slots })
+            record { processors = processors; frame = frame; slots = slots } }
     {
         let is_in_range = (1..=Settings::MAX_PROCESSORS).contains(&processors)
             && (1..=Settings::MAX_FRAME).contains(&frame)

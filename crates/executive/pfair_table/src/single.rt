@@ -1,6 +1,6 @@
 //! A script's logs on one dispatcher.
 ghost use Rattle.std.specs.Prelude.{◌≡◌, ◌+◌, ◌<◌, ◌≤◌, List, [], IfOk, IfErr, OnOk, Some, None, false, slice_get, length, take};
-ghost use Rattle.pfair_replica.specs.HeldRows.{replica_of};
+ghost use Rattle.pfair_replica.specs.ReplicaRows.{replica_of};
 ghost use Rattle.pfair_table.specs.Script.{held_of, replica_of_logs};
 ghost use Rattle.pfair_table.specs.declared.run_fault.RunFault.TheVariants.{Stalled};
 ghost use Rattle.pfair_entry.specs.Entry.{Logged};
@@ -20,7 +20,7 @@ use std::alloc::{AllocError, Global};
 /// Returns [`AllocError`] if an allocation fails.
 pub fn take_script<R: Ready>(alloc: Global, script: &Script) -> Result<Dispatcher<R>, AllocError>
     ensures settings { IfOk result (λ d. d.settings ≡ script.now.settings) }
-    ensures held { IfOk result (λ d. replica_of d.held ≡ replica_of_logs script.now.logs) }
+    ensures held { IfOk result (λ d. replica_of d.replica ≡ replica_of_logs script.now.logs) }
     ensures first { IfOk result (λ d. d.origin ≡ None) }
     ensures nothing { IfOk result (λ d. d.tables ≡ []) }
     ensures undecided { IfOk result (λ d. d.decided ≡ []) }
@@ -52,10 +52,10 @@ fn take_log<R: Ready>(
     log: &[Entry],
 ) -> Result<(), AllocError>
     requires { length log.now ≤ Script.LONGEST_LOG }
-    ensures rest { dispatcher.new ≡ record dispatcher.old { held = dispatcher.new.held } }
+    ensures rest { dispatcher.new ≡ record dispatcher.old { replica = dispatcher.new.replica } }
     ensures held { OnOk result ((logs : List (List Logged)) → slice_get logs processor ≡ Some log.now
-        → replica_of dispatcher.old.held ≡ held_of logs (take processor logs)
-        → replica_of dispatcher.new.held ≡ held_of logs (take (processor + 1) logs)) }
+        → replica_of dispatcher.old.replica ≡ held_of logs (take processor logs)
+        → replica_of dispatcher.new.replica ≡ held_of logs (take (processor + 1) logs)) }
 {
     for (index, entry) in log.iter().enumerate() {
         offer(dispatcher, processor, index as u32 + 1, *entry)?;

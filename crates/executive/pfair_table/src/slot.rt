@@ -9,7 +9,7 @@ ghost use Rattle.pfair_entry.specs.Entry.{IsWithinLimits};
 ghost use Rattle.pfair_table.specs.Planning.{decisions_at, world_at, rows_at};
 ghost use Rattle.pfair_table.specs.Table.{with_decisions, pick, all_ran};
 ghost use Rattle.pfair_weight.specs.declared.window.TheConstants.{MAX_INDEX};
-ghost use Rattle.pfair_table.specs.Queue.{IsQueue, IsQueueBut, IsQueueWithout, IsToldOf, MayRun, keys_of};
+ghost use Rattle.pfair_table.specs.Queue.{IsQueue, IsQueueBut, IsQueueWithout, IsNotifiedOf, MayRun, keys_of};
 
 use crate::pick::{Decided, Pick};
 use crate::room::emptied;
@@ -39,7 +39,7 @@ pub(crate) fn decide_all(
     requires slot { slot ≤ Members.LAST_SLOT }
     requires order { ForSome members.old.last_slot (λ last. last ≤ slot) }
     requires heard { members.old.heard + length announced.now ≤ Members.MAX_HEARD }
-    requires limits { AllByRecursion (λ a. IsWithinLimits a.2) announced.now }
+    requires limits { AllByRecursion (λ a. IsWithinLimits a.announcement) announced.now }
     ensures decided { IfOk result (λ all. all.items ≡ with_decisions announced.now (decisions_at members.old slot announced.now)) }
     ensures members { OnOk result (members.new ≡ record members.old {
       members = world_at members.old slot announced.now;
@@ -56,21 +56,21 @@ pub(crate) fn decide_all(
         .iter()
         .zip(decisions.iter())
         .map(|(said, decision)| Decided {
-            proc: said.0,
-            number: said.1,
-            announcement: said.2,
+            proc: said.proc,
+            number: said.number,
+            announcement: said.announcement,
             decision: *decision,
         })
         .collect(alloc)
 }
 
 /// Notifies the ready structure of one task.
-pub(crate) fn tell_of<R: Ready>(
+pub(crate) fn notify_of<R: Ready>(
     ready: &mut R,
     members: &Members,
     name: &TaskName,
 ) -> Result<(), AllocError>
-    ensures told { OnOk result (IsToldOf name.now members.now.members (R.held ready.old) (R.held ready.new)) }
+    ensures notified { OnOk result (IsNotifiedOf name.now members.now.members (R.held ready.old) (R.held ready.new)) }
     ensures time { R.now ready.new ≡ R.now ready.old }
 {
     ready.remove(name);
@@ -86,7 +86,7 @@ pub(crate) fn tell_of<R: Ready>(
 }
 
 /// Updates the ready structure for each task that the slot's announcements name.
-pub(crate) fn tell_ready<R: Ready>(
+pub(crate) fn notify_ready<R: Ready>(
     ready: &mut R,
     members: &Members,
     announced: &[Said],
@@ -96,7 +96,7 @@ pub(crate) fn tell_ready<R: Ready>(
     ensures time { R.now ready.new ≡ R.now ready.old }
 {
     for said in announced {
-        tell_of(ready, members, &said.2.name())?;
+        notify_of(ready, members, &said.announcement.name())?;
     }
     Ok(())
 }
@@ -109,7 +109,7 @@ pub(crate) fn ready_of<R: Ready>(alloc: Global, members: &Members) -> Result<R, 
     let mut ready = R::new(alloc);
     for index in 0..members.len() {
         if let Some((name, _)) = members.at(index) {
-            tell_of(&mut ready, members, name)?;
+            notify_of(&mut ready, members, name)?;
         }
     }
     Ok(ready)

@@ -1,7 +1,7 @@
 //! What plans slot after slot of a replica that is held elsewhere.
 ghost use Rattle.std.specs.Prelude.{◌≡◌, ◌≤◌, ◌<◌, ◌+◌, [], false, IfOk, IfErr, OnOk, None, length};
 ghost use Rattle.pfair_replica.specs.Replica.{Below, has_torn};
-ghost use Rattle.pfair_replica.specs.HeldRows.{SameShape, replica_of};
+ghost use Rattle.pfair_replica.specs.ReplicaRows.{SameShape, replica_of};
 ghost use Rattle.pfair_table.specs.Script.{replica_of_logs};
 ghost use Rattle.pfair_table.specs.Readings.{AreReadingsOf};
 ghost use Rattle.pfair_table.specs.ScriptRun.{IsBySlot, IsScriptFaultOf};
@@ -38,7 +38,7 @@ pub struct SlotPlanner<R: Ready> {
 
 impl<R: Ready> Model for SlotPlanner<R> {
     ghost use Rattle.std.specs.Prelude.{None};
-    ghost use Rattle.pfair_replica.specs.HeldRows.{replica_of};
+    ghost use Rattle.pfair_replica.specs.ReplicaRows.{replica_of};
     ghost use Rattle.pfair_table.specs.Readings.{AreReadingsOf};
     ghost use Rattle.pfair_table.specs.Script.{replica_of_logs};
     ghost use Rattle.pfair_table.specs.ScriptRun.{IsBySlot, IsScriptFaultOf};
@@ -50,7 +50,7 @@ impl<R: Ready> Model for SlotPlanner<R> {
     ghost view = { λ a. record {
       settings = a.planner.settings;
       origin = None;
-      held = a.seen.value;
+      replica = a.seen.value;
       tables = tables_to None a.planner.settings a.of.value a.planned;
       decided = decided_to None a.planner.settings a.of.value a.planned;
       forgotten = a.planned;
@@ -75,7 +75,15 @@ impl<R: Ready> SlotPlanner<R> {
         replica: &Replica,
     ) -> Result<SlotPlanner<R>, AllocError>
         requires { replica.now.processors ≡ settings.processors }
-        ensures start { IfOk result (λ p. p ≡ record { settings = settings; origin = None; held = replica.now; tables = []; decided = []; forgotten = 0; spent = false }) }
+        ensures start { IfOk result (λ p. p ≡ record {
+          settings = settings;
+          origin = None;
+          replica = replica.now;
+          tables = [];
+          decided = [];
+          forgotten = 0;
+          spent = false;
+        }) }
     {
         // the logs of a replica have at most 4,096 entries
         prove!(replica.processors() >= 1);
@@ -147,8 +155,8 @@ impl<R: Ready> SlotPlanner<R> {
         replica: &Replica,
         room: Vec<Pick>,
     ) -> Result<Option<SlotPlan>, PlanFault>
-        requires shape { SameShape self.old.held replica.now }
-        requires above { Below (replica_of self.old.held) (replica_of replica.now) }
+        requires shape { SameShape self.old.replica replica.now }
+        requires above { Below (replica_of self.old.replica) (replica_of replica.now) }
         ensures next { IfOk result (λ next. self.new ≡ after_plan (seeing self.old replica.now) next) }
         ensures slot { IfOk result (IsNextPlan (seeing self.old replica.now)) }
         ensures whole { OnOk result ((has_torn (replica_of replica.now) ≡ false) × (self.old.spent ≡ false)) }
@@ -168,8 +176,8 @@ impl<R: Ready> SlotPlanner<R> {
 
     // From now on the caller hands in this replica, or one that holds more.
     fn see(&mut self, replica: &Replica)
-        requires shape { SameShape self.old.held replica.now }
-        requires above { Below (replica_of self.old.held) (replica_of replica.now) }
+        requires shape { SameShape self.old.replica replica.now }
+        requires above { Below (replica_of self.old.replica) (replica_of replica.now) }
         ensures { self.new ≡ seeing self.old replica.now }
     {
         self.seen = Snapshot::of(replica);

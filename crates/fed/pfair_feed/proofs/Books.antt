@@ -10,34 +10,34 @@ use Rattle.pfair_table.specs.Laws.{IsPrefixOf}
 use Rattle.pfair_table.specs.Table.{Origin, Table}
 use Rattle.pfair_table.specs.Refinement.{Dispatch}
 use Rattle.pfair_feed.specs.Follow.{IsGrown}
-use Rattle.pfair_output.specs.Told.{all_slots_told, book_rows, first_book, rows_told, slot_told}
-use Rattle.pfair_output.proofs.ToldFacts.{time-all_told}
+use Rattle.pfair_output.specs.Booked.{all_slots_booked, book_rows, first_book, rows_booked, slot_booked}
+use Rattle.pfair_output.proofs.BookedFacts.{time-all_booked}
 use Rattle.pfair_output.proofs.BookFacts.{first_time}
 use Rattle.pfair_feed.specs.declared.output.Output.TheVariants.{Lags}
 use Rattle.pfair_feed.specs.Rows.{IsBookIfAny, IsBookOf, book_before, rows_in}
 use Rattle.pfair_feed.proofs.Plans.{longer}
 
-pub told-append : (book : Book) (ds es : List (List Decided)) (ts us : List Table) → length ds ≡ length ts
-    → all_slots_told book (ds ++ es) (ts ++ us) ≡ all_slots_told (all_slots_told book ds ts) es us
-told-append book [] es [] us e = refl
-told-append book [] es (t ∷ ts) us e = absurd (omega arith)
-told-append book (d ∷ ds) es [] us e = absurd (omega arith)
-told-append book (d ∷ ds) es (t ∷ ts) us e = told-append (slot_told d t book) ds es ts us (omega arith)
+pub booked-append : (book : Book) (ds es : List (List Decided)) (ts us : List Table) → length ds ≡ length ts
+    → all_slots_booked book (ds ++ es) (ts ++ us) ≡ all_slots_booked (all_slots_booked book ds ts) es us
+booked-append book [] es [] us e = refl
+booked-append book [] es (t ∷ ts) us e = absurd (omega arith)
+booked-append book (d ∷ ds) es [] us e = absurd (omega arith)
+booked-append book (d ∷ ds) es (t ∷ ts) us e = booked-append (slot_booked d t book) ds es ts us (omega arith)
 
 pub rows-append : (book : Book) (ds es : List (List Decided)) (ts us : List Table) → length ds ≡ length ts
-    → rows_told book (ds ++ es) (ts ++ us) ≡ rows_told book ds ts ++ rows_told (all_slots_told book ds ts) es us
+    → rows_booked book (ds ++ es) (ts ++ us) ≡ rows_booked book ds ts ++ rows_booked (all_slots_booked book ds ts) es us
 rows-append book [] es [] us e = refl
 rows-append book [] es (t ∷ ts) us e = absurd (omega arith)
 rows-append book (d ∷ ds) es [] us e = absurd (omega arith)
 rows-append book (d ∷ ds) es (t ∷ ts) us e =
-    ap (λ rows. book_rows (slot_told d t book) ++ rows) (rows-append (slot_told d t book) ds es ts us (omega arith))
-    ∙ sym (append_assoc (book_rows (slot_told d t book)) (rows_told (slot_told d t book) ds ts) (rows_told (all_slots_told (slot_told d t book) ds ts) es us))
+    ap (λ rows. book_rows (slot_booked d t book) ++ rows) (rows-append (slot_booked d t book) ds es ts us (omega arith))
+    ∙ sym (append_assoc (book_rows (slot_booked d t book)) (rows_booked (slot_booked d t book) ds ts) (rows_booked (all_slots_booked (slot_booked d t book) ds ts) es us))
 
-time-told : (book : Book) (ds : List (List Decided)) (ts : List Table) → length ds ≡ length ts → (all_slots_told book ds ts).time ≡ book.time + length ds
-time-told book [] [] e = omega arith
-time-told book [] (t ∷ ts) e = absurd (omega arith)
-time-told book (d ∷ ds) [] e = absurd (omega arith)
-time-told book (d ∷ ds) (t ∷ ts) e = grind (arith, time-all_told, time-told (slot_told d t book) ds ts)
+time-booked : (book : Book) (ds : List (List Decided)) (ts : List Table) → length ds ≡ length ts → (all_slots_booked book ds ts).time ≡ book.time + length ds
+time-booked book [] [] e = omega arith
+time-booked book [] (t ∷ ts) e = absurd (omega arith)
+time-booked book (d ∷ ds) [] e = absurd (omega arith)
+time-booked book (d ∷ ds) (t ∷ ts) e = grind (arith, time-all_booked, time-booked (slot_booked d t book) ds ts)
 
 -- the first slots, and those from there up to a later one
 joined : {A : Type 0} (xs : List A) (early late : ℕ) → early ≤ late → take early xs ++ take (late - early) (drop early xs) ≡ take late xs
@@ -51,7 +51,7 @@ pub book_grown : (o : Origin) (slot : ℕ) (ts us : List Table) (ds es : List (L
 book_grown o slot ts us ds es book same more_ts more_ds b = grind (arith, take-append-le, longer)
 
 -- an entry was taken, and more is planned
-pub book_after_plans : (slot : ℕ) (d taken after : Dispatch) (book : Option Book) → length d.tables ≡ length d.decided → taken ≡ record d { held = taken.held } → IsGrown taken after
+pub book_after_plans : (slot : ℕ) (d taken after : Dispatch) (book : Option Book) → length d.tables ≡ length d.decided → taken ≡ record d { replica = taken.replica } → IsGrown taken after
     → IsBookIfAny d.origin slot d.tables d.decided book → IsBookIfAny after.origin slot after.tables after.decided book
 book_after_plans slot d taken after None same rest grown b = tt
 book_after_plans slot d taken after (Some book) same rest grown b =
@@ -68,35 +68,35 @@ book_first o slot ts ds book is =
     record {
       early = omega (arith, none);
       there = omega (arith, none);
-      told_is = is ∙ sym (ap (λ n. all_slots_told (first_book o) (take n ds) (take n ts)) none);
+      booked_is = is ∙ sym (ap (λ n. all_slots_booked (first_book o) (take n ds) (take n ts)) none);
     }
 
 module _ (o : Origin) (ds : List (List Decided)) (ts : List Table) (same : length ts ≡ length ds) where
   -- a book that catches up to a slot
-  pub caught_up : (slot : ℕ) (b0 b1 : Book) → IsBookOf o slot ts ds b0 → b1 ≡ all_slots_told b0 (take (slot - b0.time) (drop b0.time ds)) (take (slot - b0.time) (drop b0.time ts)) → b1 ≡ book_before o slot ts ds
-  caught_up slot b0 b1 b e = e ∙ ap (λ (book : Book). all_slots_told book (take (slot - b0.time) (drop b0.time ds)) (take (slot - b0.time) (drop b0.time ts))) b.told_is ∙ from b0.time b.early
+  pub caught_up : (slot : ℕ) (b0 b1 : Book) → IsBookOf o slot ts ds b0 → b1 ≡ all_slots_booked b0 (take (slot - b0.time) (drop b0.time ds)) (take (slot - b0.time) (drop b0.time ts)) → b1 ≡ book_before o slot ts ds
+  caught_up slot b0 b1 b e = e ∙ ap (λ (book : Book). all_slots_booked book (take (slot - b0.time) (drop b0.time ds)) (take (slot - b0.time) (drop b0.time ts))) b.booked_is ∙ from b0.time b.early
     where
-      from : (early : ℕ) → early ≤ slot → all_slots_told (book_before o early ts ds) (take (slot - early) (drop early ds)) (take (slot - early) (drop early ts)) ≡ book_before o slot ts ds
+      from : (early : ℕ) → early ≤ slot → all_slots_booked (book_before o early ts ds) (take (slot - early) (drop early ds)) (take (slot - early) (drop early ts)) ≡ book_before o slot ts ds
       from early h =
           let n = length-take early ds in
           let m = length-take early ts in
-          sym (told-append (first_book o) (take early ds) (take (slot - early) (drop early ds)) (take early ts) (take (slot - early) (drop early ts)) (omega arith))
-          ∙ (λ i. all_slots_told (first_book o) (joined ds early slot h i) (joined ts early slot h i))
+          sym (booked-append (first_book o) (take early ds) (take (slot - early) (drop early ds)) (take early ts) (take (slot - early) (drop early ts)) (omega arith))
+          ∙ (λ i. all_slots_booked (first_book o) (joined ds early slot h i) (joined ts early slot h i))
 
   time_before : (slot : ℕ) → (book_before o slot ts ds).time ≡ min slot (length ts)
-  time_before slot = grind (arith, length-take, time-told, first_time)
+  time_before slot = grind (arith, length-take, time-booked, first_time)
 
   -- the rows from there on
-  pub rows_on : (slot : ℕ) (b1 : Book) → b1 ≡ book_before o slot ts ds → rows_told b1 (drop b1.time ds) (drop b1.time ts) ≡ rows_in o Lags slot ts ds
+  pub rows_on : (slot : ℕ) (b1 : Book) → b1 ≡ book_before o slot ts ds → rows_booked b1 (drop b1.time ds) (drop b1.time ts) ≡ rows_in o Lags slot ts ds
   rows_on slot b1 e = grind (arith, e, time_before, left_at)
 
   -- the book after all slots
-  pub all_told_before : (slot : ℕ) → all_slots_told (book_before o slot ts ds) (drop slot ds) (drop slot ts) ≡ all_slots_told (first_book o) ds ts
-  all_told_before slot =
+  pub all_booked_before : (slot : ℕ) → all_slots_booked (book_before o slot ts ds) (drop slot ds) (drop slot ts) ≡ all_slots_booked (first_book o) ds ts
+  all_booked_before slot =
       let n = length-take slot ds in
       let m = length-take slot ts in
-      sym (told-append (first_book o) (take slot ds) (drop slot ds) (take slot ts) (drop slot ts) (omega arith))
-      ∙ (λ i. all_slots_told (first_book o) (take-append-drop slot ds i) (take-append-drop slot ts i))
+      sym (booked-append (first_book o) (take slot ds) (drop slot ds) (take slot ts) (drop slot ts) (omega arith))
+      ∙ (λ i. all_slots_booked (first_book o) (take-append-drop slot ds i) (take-append-drop slot ts i))
 
-  pub book_whole : (slot : ℕ) (b1 b2 : Book) → b1 ≡ book_before o slot ts ds → b2 ≡ all_slots_told b1 (drop b1.time ds) (drop b1.time ts) → IsBookOf o (max slot (length ts)) ts ds b2
-  book_whole slot b1 b2 e e' = grind (arith, e, time_before, left_at, all_told_before, time-told, first_time, take_all)
+  pub book_whole : (slot : ℕ) (b1 b2 : Book) → b1 ≡ book_before o slot ts ds → b2 ≡ all_slots_booked b1 (drop b1.time ds) (drop b1.time ts) → IsBookOf o (max slot (length ts)) ts ds b2
+  book_whole slot b1 b2 e e' = grind (arith, e, time_before, left_at, all_booked_before, time-booked, first_time, take_all)

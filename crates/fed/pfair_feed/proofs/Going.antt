@@ -33,20 +33,20 @@ stays f old new caught k = record {
   output_is = refl;
   grown = grown_same f.dispatch f.dispatch refl;
   caught_up = caught;
-  told_is = (let h = caught.all_told in omega (arith, h));
+  unwritten_is = (let h = caught.all_written in omega (arith, h));
   sound = λ none. none;
-  written = keeps_all old new (news f f) (ap lines_text (none_behind f.dispatch.origin f.output f.told f.dispatch.tables f.dispatch.decided (even f.dispatch caught.whole) caught.all_told)) k;
+  written = keeps_all old new (news f f) (ap lines_text (none_behind f.dispatch.origin f.output f.unwritten f.dispatch.tables f.dispatch.decided (even f.dispatch caught.whole) caught.all_written)) k;
 }
 
-news_more : (f g h : Follow) → g.output ≡ f.output → h.dispatch.origin ≡ g.dispatch.origin → g.told ≡ max f.told (length g.dispatch.tables) → length g.dispatch.tables ≡ length g.dispatch.decided
+news_more : (f g h : Follow) → g.output ≡ f.output → h.dispatch.origin ≡ g.dispatch.origin → g.unwritten ≡ max f.unwritten (length g.dispatch.tables) → length g.dispatch.tables ≡ length g.dispatch.decided
     → IsPrefixOf g.dispatch.tables h.dispatch.tables → IsPrefixOf g.dispatch.decided h.dispatch.decided → news f g ++ news g h ≡ news f h
-news_more f g h output origins told same p q = grind (arith, lines_text-append, rows_go_on)
+news_more f g h output origins unwritten same p q = grind (arith, lines_text-append, rows_go_on)
 
 -- one step more
 pub gone_trans : (f g h : Follow) (u v w : Option (List ℕ)) → HasGoneOn f g u v → HasGoneOn g h v w → HasGoneOn f h u w
 gone_trans f g h u v w a b =
     let long = longer g.dispatch.tables h.dispatch.tables b.grown.tables_go_on in
-    let told : h.told ≡ max f.told (length h.dispatch.tables) = (let s = a.told_is in let t = b.told_is in omega (arith, long, s, t)) in
+    let unwritten : h.unwritten ≡ max f.unwritten (length h.dispatch.tables) = (let s = a.unwritten_is in let t = b.unwritten_is in omega (arith, long, s, t)) in
     record {
       output_is = b.output_is ∙ a.output_is;
       grown = record {
@@ -57,9 +57,9 @@ gone_trans f g h u v w a b =
         decided_go_on = prefix_trans f.dispatch.decided g.dispatch.decided h.dispatch.decided a.grown.decided_go_on b.grown.decided_go_on;
       };
       caught_up = b.caught_up;
-      told_is = told;
+      unwritten_is = unwritten;
       sound = λ none. b.sound (a.sound none);
       written = subst (λ (text : List ℕ). Appends u w text)
-          (news_more f g h a.output_is b.grown.origin_is a.told_is (even g.dispatch a.caught_up.whole) b.grown.tables_go_on b.grown.decided_go_on)
+          (news_more f g h a.output_is b.grown.origin_is a.unwritten_is (even g.dispatch a.caught_up.whole) b.grown.tables_go_on b.grown.decided_go_on)
           (appends-more u v w (news f g) (news g h) a.written b.written);
     }

@@ -10,4 +10,4 @@ mod RowsGoOn
 mod RunsAlike
 mod Schedules
 mod ScriptRows
-mod Telling
+mod Writing

@@ -9,7 +9,7 @@ use Rattle.std.proofs.lemmas.Bool.{cases_lt}
 use Rattle.std.proofs.lemmas.Grind.{flat_map-append}
 use Rattle.std.proofs.lemmas.List.{append-nil, length-append, length-drop, length-take, take_all, take-append-le}
 use Rattle.pfair_entry_row.specs.Laws.{RowsAreShort}
-use Rattle.pfair_replica.specs.HeldRows.{SameShape, replica_of}
+use Rattle.pfair_replica.specs.ReplicaRows.{SameShape, replica_of}
 use Rattle.pfair_replica.specs.Replica.{Replica}
 use Rattle.pfair_feed.specs.Follow.{Follow, IsPlannedOut}
 use Rattle.pfair_file.specs.ProgramFaults.{is_refusal}
@@ -117,8 +117,8 @@ pub record IsFedBut (is_strict : Bool) (more : List ℕ) (given left : Option (L
   pub read : Consumes given left (bytes ++ more)
   pub kept_is : kept ≡ take 257 rest
   pub fed : AreFedBytes bytes before after old new rest
-  pub shape : SameShape before.dispatch.held after.dispatch.held
-  pub welcome : is_strict ≡ true → AllByRecursion (IsWelcome before.dispatch.held.processors before.dispatch.held.capacity) fed.lines
+  pub shape : SameShape before.dispatch.replica after.dispatch.replica
+  pub welcome : is_strict ≡ true → AllByRecursion (IsWelcome before.dispatch.replica.processors before.dispatch.replica.capacity) fed.lines
 
 module _ (s : Bool) (given : Option (List ℕ)) (before : Follow) (u : Option (List ℕ)) where
   -- at the start
@@ -165,7 +165,7 @@ module _ (s : Bool) (given : Option (List ℕ)) (before : Follow) (u : Option (L
 
       -- the end of a line
       pub fed_line : RowsAreShort → (byte : ℕ) (more line kept' : List ℕ) (g : Follow) (w : Option (List ℕ)) → byte ≡ 10 → line ≡ kept → kept' ≡ [] → IsFedBut s (byte ∷ more) given left kept before f u v
-          → IsFedLine line f g v w → SameShape f.dispatch.held g.dispatch.held → (s ≡ true → IsWelcome f.dispatch.held.processors f.dispatch.held.capacity line) → IsFedBut s more given left kept' before g u w
+          → IsFedLine line f g v w → SameShape f.dispatch.replica g.dispatch.replica → (s ≡ true → IsWelcome f.dispatch.replica.processors f.dispatch.replica.capacity line) → IsFedBut s more given left kept' before g u w
       fed_line short byte more line kept' g w end is none a fed shape welcome = record {
         bytes = a.bytes ++ 10 ∷ [];
         rest = [];
@@ -175,21 +175,21 @@ module _ (s : Bool) (given : Option (List ℕ)) (before : Follow) (u : Option (L
           lines = a.fed.lines ++ a.rest ∷ [];
           are_lines = lines_end a.bytes a.fed.lines a.rest a.fed.are_lines;
           fed = record {
-            held_is = taken_more a.fed.lines a.rest (replica_of before.dispatch.held) (replica_of f.dispatch.held) (replica_of g.dispatch.held) a.fed.fed.held_is
-                (taken_whole short a.rest (replica_of f.dispatch.held) (replica_of g.dispatch.held)
-                (subst (λ (l : List ℕ). IsTakenFrom l (replica_of f.dispatch.held) (replica_of g.dispatch.held)) (is ∙ a.kept_is) fed.held_is));
+            held_is = taken_more a.fed.lines a.rest (replica_of before.dispatch.replica) (replica_of f.dispatch.replica) (replica_of g.dispatch.replica) a.fed.fed.held_is
+                (taken_whole short a.rest (replica_of f.dispatch.replica) (replica_of g.dispatch.replica)
+                (subst (λ (l : List ℕ). IsTakenFrom l (replica_of f.dispatch.replica) (replica_of g.dispatch.replica)) (is ∙ a.kept_is) fed.held_is));
             gone_on = gone_trans before f g u v w a.fed.fed.gone_on fed.gone_on;
           };
         };
         shape = (a.shape.0 ∙ shape.0, a.shape.1 ∙ shape.1);
-        welcome = λ strict. all_more (IsWelcome before.dispatch.held.processors before.dispatch.held.capacity) a.fed.lines a.rest (a.welcome strict) (last (welcome strict));
+        welcome = λ strict. all_more (IsWelcome before.dispatch.replica.processors before.dispatch.replica.capacity) a.fed.lines a.rest (a.welcome strict) (last (welcome strict));
       }
         where
-          last : IsWelcome f.dispatch.held.processors f.dispatch.held.capacity line → IsWelcome before.dispatch.held.processors before.dispatch.held.capacity a.rest
+          last : IsWelcome f.dispatch.replica.processors f.dispatch.replica.capacity line → IsWelcome before.dispatch.replica.processors before.dispatch.replica.capacity a.rest
           last here =
-              welcome_whole short before.dispatch.held.processors before.dispatch.held.capacity a.rest
-              (subst (λ (l : List ℕ). IsWelcome before.dispatch.held.processors before.dispatch.held.capacity l) (is ∙ a.kept_is)
-              (subst (λ (n : ℕ). IsWelcome before.dispatch.held.processors n line) (sym a.shape.1) (subst (λ (n : ℕ). IsWelcome n f.dispatch.held.capacity line) (sym a.shape.0) here)))
+              welcome_whole short before.dispatch.replica.processors before.dispatch.replica.capacity a.rest
+              (subst (λ (l : List ℕ). IsWelcome before.dispatch.replica.processors before.dispatch.replica.capacity l) (is ∙ a.kept_is)
+              (subst (λ (n : ℕ). IsWelcome before.dispatch.replica.processors n line) (sym a.shape.1) (subst (λ (n : ℕ). IsWelcome n f.dispatch.replica.capacity line) (sym a.shape.0) here)))
 
       -- a fault
       pub stopped_at : (more : List ℕ) (e : ProgramFault) (g : Follow) (w : Option (List ℕ)) → IsFedBut s more given left kept before f u v → length more ≤ 4096 → (e ≡ ReadFailed → more ≡ [])
@@ -237,7 +237,7 @@ module _ (s : Bool) (given left : Option (List ℕ)) (before after : Follow) (u 
   to_its_end fed = (fed.bytes, fed.rest, read_all fed, (all_bytes fed).0, fed.fed)
 
   pub to_its_end_welcome : IsFedTo s false given left before after u w → s ≡ true
-      → (bytes : List ℕ) × (rest : List ℕ) × Consumes given left bytes × AreWelcome before.dispatch.held.processors before.dispatch.held.capacity bytes rest
+      → (bytes : List ℕ) × (rest : List ℕ) × Consumes given left bytes × AreWelcome before.dispatch.replica.processors before.dispatch.replica.capacity bytes rest
   to_its_end_welcome fed is = (fed.bytes, fed.rest, read_all fed, fed.welcome is)
 
 -- what has been fed, at its end

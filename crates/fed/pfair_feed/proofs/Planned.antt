@@ -1,7 +1,7 @@
 -- The slots of a whole plan.
 use Rattle.std.proofs.Common.{arith, ℕ, ◌≡◌, ap, ◌∙◌, List, None, length, map, min, zero, suc, refl, sym, [], ◌∷◌}
 use Rattle.std.proofs.lemmas.List.{length-map}
-use Rattle.pfair_replica.specs.HeldRows.{replica_of}
+use Rattle.pfair_replica.specs.ReplicaRows.{replica_of}
 use Rattle.pfair_replica.specs.Replica.{frontier, numbers_below, empty_replica, mark}
 use Rattle.pfair_table.specs.Refinement.{Dispatch, IsWholePlan, course_of}
 use Rattle.pfair_table.specs.Table.{Origin, table_from, plan, plan_from, decisions, decisions_from, Settings}
@@ -13,16 +13,16 @@ pub so_many : {A : Type 0} (f : ℕ → A) (n : ℕ) → length (map f (numbers_
 so_many f n = length-map (numbers_below n) f ∙ length_numbers n
 
 -- as many slots are planned as are settled
-pub planned : (d : Dispatch) → IsWholePlan d → length d.tables ≡ min (frontier (replica_of d.held)) d.settings.slots
+pub planned : (d : Dispatch) → IsWholePlan d → length d.tables ≡ min (frontier (replica_of d.replica)) d.settings.slots
 planned d whole = grind (arith, so_many)
 
 -- the tables and the decisions of a first run's whole plan
 module _ (d : Dispatch) (first : d.origin ≡ None) (whole : IsWholePlan d) where
-  pub tables_first : d.tables ≡ plan d.settings (replica_of d.held)
-  tables_first = whole.tables_are ∙ ap (λ (o : Origin). plan_from o d.settings (replica_of d.held)) first
+  pub tables_first : d.tables ≡ plan d.settings (replica_of d.replica)
+  tables_first = whole.tables_are ∙ ap (λ (o : Origin). plan_from o d.settings (replica_of d.replica)) first
 
-  pub decided_first : d.decided ≡ map (decisions d.settings (replica_of d.held)) (numbers_below (min (frontier (replica_of d.held)) d.settings.slots))
-  decided_first = whole.decided_are ∙ ap (λ (o : Origin). map (decisions_from o d.settings (replica_of d.held)) (numbers_below (min (frontier (replica_of d.held)) d.settings.slots))) first
+  pub decided_first : d.decided ≡ map (decisions d.settings (replica_of d.replica)) (numbers_below (min (frontier (replica_of d.replica)) d.settings.slots))
+  decided_first = whole.decided_are ∙ ap (λ (o : Origin). map (decisions_from o d.settings (replica_of d.replica)) (numbers_below (min (frontier (replica_of d.replica)) d.settings.slots))) first
 
 -- ---- a dispatcher that holds nothing has planned all that this settles: nothing
 
@@ -39,10 +39,10 @@ frontier_none processors capacity = least_none (mark (empty_replica processors c
 
 pub whole_start : (o : Origin) (d : Dispatch) (s : Settings) (capacity : ℕ) → course_of d ≡ begin_at o s capacity → IsWholePlan d
 whole_start o d s capacity course =
-    let held : replica_of d.held ≡ empty_replica s.processors capacity = ap (λ (c : Course). c.held) course in
-    let settled : frontier (replica_of d.held) ≡ 0 = ap frontier held ∙ frontier_none s.processors capacity in
-    let none : min (frontier (replica_of d.held)) d.settings.slots ≡ 0 = omega (arith, settled) in
+    let held : replica_of d.replica ≡ empty_replica s.processors capacity = ap (λ (c : Course). c.replica) course in
+    let settled : frontier (replica_of d.replica) ≡ 0 = ap frontier held ∙ frontier_none s.processors capacity in
+    let none : min (frontier (replica_of d.replica)) d.settings.slots ≡ 0 = omega (arith, settled) in
     record {
-      tables_are = ap (λ (c : Course). c.tables) course ∙ sym (ap (λ (n : ℕ). map (table_from d.origin d.settings (replica_of d.held)) (numbers_below n)) none);
-      decided_are = ap (λ (c : Course). c.decided) course ∙ sym (ap (λ (n : ℕ). map (decisions_from d.origin d.settings (replica_of d.held)) (numbers_below n)) none);
+      tables_are = ap (λ (c : Course). c.tables) course ∙ sym (ap (λ (n : ℕ). map (table_from d.origin d.settings (replica_of d.replica)) (numbers_below n)) none);
+      decided_are = ap (λ (c : Course). c.decided) course ∙ sym (ap (λ (n : ℕ). map (decisions_from d.origin d.settings (replica_of d.replica)) (numbers_below n)) none);
     }

@@ -6,7 +6,7 @@ use Rattle.pfair_text.specs.Output.{TakesPrefix}
 use Rattle.pfair_entry.specs.Entry.{Logged}
 use Rattle.pfair_entry_row.specs.Faults.{Reading}
 use Rattle.pfair_entry_row.specs.Row.{entry_row, IsEntryAt}
-use Rattle.pfair_replica.specs.HeldRows.{replica_of, held}
+use Rattle.pfair_replica.specs.ReplicaRows.{replica_of, held}
 use Rattle.pfair_replica.specs.Offered.{taken, has_key}
 use Rattle.pfair_replica.specs.Replica.{Replica, frontier, has_torn, only, with_entry}
 use Rattle.pfair_feed.specs.Follow.{Follow, IsSameRun, IsStopOf, news, IsGrown}
@@ -42,27 +42,27 @@ held_left : (line : List ℕ) (x y z : Replica) (e : ProgramFault) → (z ≡ y 
 held_left line x y z Memory t offered wanted = grind (arith, wanted, t)
 held_left line x y z fault t offered wanted = inr (t (offered (λ e. absurd (cc e))))
 
-stood_taken : (line : List ℕ) (f g : Follow) (p n : ℕ) (e : Logged) (fault : ProgramFault) → (replica_of g.dispatch.held ≡ taken (replica_of f.dispatch.held) p n e → IsTakenFrom line (replica_of f.dispatch.held) (replica_of g.dispatch.held))
-    → IsSameRun f g → g.told ≡ f.told → IsStopOf f g p n e fault → (fault ≢ Memory → replica_of g.dispatch.held ≡ taken (replica_of f.dispatch.held) p n e) → HasStood line f g
-stood_taken line f g p n e fault row run told stop offered = grind (arith, held_left)
+stood_taken : (line : List ℕ) (f g : Follow) (p n : ℕ) (e : Logged) (fault : ProgramFault) → (replica_of g.dispatch.replica ≡ taken (replica_of f.dispatch.replica) p n e → IsTakenFrom line (replica_of f.dispatch.replica) (replica_of g.dispatch.replica))
+    → IsSameRun f g → g.unwritten ≡ f.unwritten → IsStopOf f g p n e fault → (fault ≢ Memory → replica_of g.dispatch.replica ≡ taken (replica_of f.dispatch.replica) p n e) → HasStood line f g
+stood_taken line f g p n e fault row run unwritten stop offered = grind (arith, held_left)
 
 -- the follower stopped at the entry whose row the line is
 pub failed_at : (line : List ℕ) (f g : Follow) (v w : Option (List ℕ)) (p n : ℕ) (e : Logged) (r : Reading) (fault : ProgramFault) → r ≡ Ok (p, n, e)
     → ((q m : ℕ) (d : Logged) → IsEntryAt q m d → line ≡ entry_row q m d → r ≡ Ok (q, m, d)) → IsEntryAt p n e → line ≡ entry_row p n e
-    → IsSameRun f g → g.told ≡ f.told → IsStopOf f g p n e fault → (fault ≢ Memory → replica_of g.dispatch.held ≡ taken (replica_of f.dispatch.held) p n e)
+    → IsSameRun f g → g.unwritten ≡ f.unwritten → IsStopOf f g p n e fault → (fault ≢ Memory → replica_of g.dispatch.replica ≡ taken (replica_of f.dispatch.replica) p n e)
     → (fault ≢ WriteFailed → Keeps v w) → (fault ≡ WriteFailed → TakesPrefix v w (news f g)) → HasFailed line fault f g v w
-failed_at line f g v w p n e r fault ok back at row run told stop offered nothing cut =
-    let taken_so = taken_from_row line (replica_of f.dispatch.held) (replica_of g.dispatch.held) p n e r ok back at row in
+failed_at line f g v w p n e r fault ok back at row run unwritten stop offered nothing cut =
+    let taken_so = taken_from_row line (replica_of f.dispatch.replica) (replica_of g.dispatch.replica) p n e r ok back at row in
     record {
       cause = inr (record { processor = p; number = n; entry = e; is_entry = at; row_is = row; stop = stop });
       taken_is = λ other. taken_so (offered other);
-      stood = stood_taken line f g p n e fault taken_so run told stop offered;
+      stood = stood_taken line f g p n e fault taken_so run unwritten stop offered;
       nothing = nothing;
       cut = cut;
     }
 
 -- nothing changed
-pub fed_none : (line : List ℕ) (f g : Follow) (v w : Option (List ℕ)) → IsCaughtUp f → g ≡ f → Keeps v w → IsTakenFrom line (replica_of f.dispatch.held) (replica_of f.dispatch.held) → IsFedLine line f g v w
+pub fed_none : (line : List ℕ) (f g : Follow) (v w : Option (List ℕ)) → IsCaughtUp f → g ≡ f → Keeps v w → IsTakenFrom line (replica_of f.dispatch.replica) (replica_of f.dispatch.replica) → IsFedLine line f g v w
 fed_none line f g v w caught same k held =
     subst (λ (h : Follow). IsFedLine line f h v w) (sym same) (record { held_is = held; gone_on = stays f v w caught k })
 
@@ -82,12 +82,12 @@ not_writing fault e same = absurd (let h : false ≡ true = ap is_refusal (sym s
 
 pub refused_line : (line : List ℕ) (f g : Follow) (v w : Option (List ℕ)) (p n : ℕ) (e : Logged) (r : Reading) (fault : ProgramFault) → IsCaughtUp f → is_refusal fault ≡ true → r ≡ Ok (p, n, e)
     → ((q m : ℕ) (d : Logged) → IsEntryAt q m d → line ≡ entry_row q m d → r ≡ Ok (q, m, d)) → IsEntryAt p n e → line ≡ entry_row p n e
-    → IsStopOf f g p n e fault → (fault ≢ Memory → replica_of g.dispatch.held ≡ taken (replica_of f.dispatch.held) p n e) → (fault ≢ WriteFailed → Keeps v w)
+    → IsStopOf f g p n e fault → (fault ≢ Memory → replica_of g.dispatch.replica ≡ taken (replica_of f.dispatch.replica) p n e) → (fault ≢ WriteFailed → Keeps v w)
     → (g ≡ f) × IsFedLine line f g v w
 refused_line line f g v w p n e r fault caught refused ok back at row stop offered nothing =
     let stays_so : g ≡ f = unchanged f g p n e fault refused stop in
-    let held : replica_of f.dispatch.held ≡ taken (replica_of f.dispatch.held) p n e = ap (λ (h : Follow). replica_of h.dispatch.held) (sym stays_so) ∙ offered (not_memory fault refused) in
-    (stays_so, fed_none line f g v w caught stays_so (nothing (not_writing fault refused)) (taken_from_row line (replica_of f.dispatch.held) (replica_of f.dispatch.held) p n e r ok back at row held))
+    let held : replica_of f.dispatch.replica ≡ taken (replica_of f.dispatch.replica) p n e = ap (λ (h : Follow). replica_of h.dispatch.replica) (sym stays_so) ∙ offered (not_memory fault refused) in
+    (stays_so, fed_none line f g v w caught stays_so (nothing (not_writing fault refused)) (taken_from_row line (replica_of f.dispatch.replica) (replica_of f.dispatch.replica) p n e r ok back at row held))
 
 -- ---- the row of an entry that is held already
 
@@ -110,23 +110,23 @@ taken_known x k n e here = by (has_key x k n)
     by true = λ i. record { processors = x.processors; capacity = x.capacity; at = λ j m. each j m i }
 
 -- as many slots are planned as the contents settle, and no fewer afterwards
-as_before : (f g : Follow) (p n : ℕ) (e : Logged) → IsCaughtUp f → held f.dispatch.held p n ≡ Some (One e) → replica_of g.dispatch.held ≡ taken (replica_of f.dispatch.held) p n e
-    → IsGrown (record f.dispatch { held = g.dispatch.held }) g.dispatch
-    → (length f.dispatch.tables ≡ min (frontier (replica_of g.dispatch.held)) g.dispatch.settings.slots) × (length f.dispatch.tables ≤ length g.dispatch.tables)
+as_before : (f g : Follow) (p n : ℕ) (e : Logged) → IsCaughtUp f → held f.dispatch.replica p n ≡ Some (One e) → replica_of g.dispatch.replica ≡ taken (replica_of f.dispatch.replica) p n e
+    → IsGrown (record f.dispatch { replica = g.dispatch.replica }) g.dispatch
+    → (length f.dispatch.tables ≡ min (frontier (replica_of g.dispatch.replica)) g.dispatch.settings.slots) × (length f.dispatch.tables ≤ length g.dispatch.tables)
 as_before f g p n e caught here left grown =
-    let settled : frontier (replica_of g.dispatch.held) ≡ frontier (replica_of f.dispatch.held) = ap frontier (left ∙ taken_known (replica_of f.dispatch.held) p n e here) in
+    let settled : frontier (replica_of g.dispatch.replica) ≡ frontier (replica_of f.dispatch.replica) = ap frontier (left ∙ taken_known (replica_of f.dispatch.replica) p n e here) in
     let slots : g.dispatch.settings.slots ≡ f.dispatch.settings.slots = ap (λ (s : Settings). s.slots) grown.settings_are in
     let many = planned f.dispatch caught.whole in
     (omega (arith, many, settled, slots), longer f.dispatch.tables g.dispatch.tables grown.tables_go_on)
 
 -- no allocation is asked for
-no_memory : (f g : Follow) (p n : ℕ) (e : Logged) → IsCaughtUp f → held f.dispatch.held p n ≡ Some (One e) → IsGrown (record f.dispatch { held = g.dispatch.held }) g.dispatch
+no_memory : (f g : Follow) (p n : ℕ) (e : Logged) → IsCaughtUp f → held f.dispatch.replica p n ≡ Some (One e) → IsGrown (record f.dispatch { replica = g.dispatch.replica }) g.dispatch
     → IsStopOf f g p n e Memory → ⊥
 no_memory f g p n e caught here grown (key, inl (none, rest)) = absurd (let h : None ≡ Some (One e) = sym none ∙ here in cc h)
 no_memory f g p n e caught here grown (key, inr (left, able, inl stuck)) =
-    let parts = and_parts (not (has_torn (replica_of g.dispatch.held))) (nat_lt (length g.dispatch.tables) (frontier (replica_of g.dispatch.held)) && nat_lt (length g.dispatch.tables) g.dispatch.settings.slots) stuck.1 in
-    let more = and_parts (nat_lt (length g.dispatch.tables) (frontier (replica_of g.dispatch.held))) (nat_lt (length g.dispatch.tables) g.dispatch.settings.slots) parts.1 in
-    let a = ltb-true (length g.dispatch.tables) (frontier (replica_of g.dispatch.held)) more.0 in
+    let parts = and_parts (not (has_torn (replica_of g.dispatch.replica))) (nat_lt (length g.dispatch.tables) (frontier (replica_of g.dispatch.replica)) && nat_lt (length g.dispatch.tables) g.dispatch.settings.slots) stuck.1 in
+    let more = and_parts (nat_lt (length g.dispatch.tables) (frontier (replica_of g.dispatch.replica))) (nat_lt (length g.dispatch.tables) g.dispatch.settings.slots) parts.1 in
+    let a = ltb-true (length g.dispatch.tables) (frontier (replica_of g.dispatch.replica)) more.0 in
     let b = ltb-true (length g.dispatch.tables) g.dispatch.settings.slots more.1 in
     let was = as_before f g p n e caught here left grown in
     let settled = was.0 in
@@ -137,6 +137,6 @@ no_memory f g p n e caught here grown (key, inr (left, able, inr due)) = grind (
 -- the entry that was read is that of the row
 pub repeat_wants_none : (line : List ℕ) (f g : Follow) (p n : ℕ) (e : Logged) (r : Reading) (fault : ProgramFault) → IsCaughtUp f → r ≡ Ok (p, n, e)
     → ((q m : ℕ) (d : Logged) → IsEntryAt q m d → line ≡ entry_row q m d → r ≡ Ok (q, m, d))
-    → IsGrown (record f.dispatch { held = g.dispatch.held }) g.dispatch → IsStopOf f g p n e fault
-    → (q m : ℕ) (d : Logged) → IsEntryAt q m d → line ≡ entry_row q m d → held f.dispatch.held q m ≡ Some (One d) → fault ≡ Memory → ⊥
+    → IsGrown (record f.dispatch { replica = g.dispatch.replica }) g.dispatch → IsStopOf f g p n e fault
+    → (q m : ℕ) (d : Logged) → IsEntryAt q m d → line ≡ entry_row q m d → held f.dispatch.replica q m ≡ Some (One d) → fault ≡ Memory → ⊥
 repeat_wants_none line f g p n e r fault caught ok back grown stop q m d at row here memory = grind (arith, no_memory, back)

@@ -29,7 +29,7 @@ use Rattle.pfair_feed.specs.RowLaws.{WholeRows, text_of}
 use Rattle.pfair_feed.specs.Rows.{header_of}
 use Rattle.std.specs.Io.KnownBytes.{Appends}
 use Rattle.csv.proofs.WriteFacts.{appends-more}
-use Rattle.pfair_replica.specs.HeldRows.{replica_of}
+use Rattle.pfair_replica.specs.ReplicaRows.{replica_of}
 use Rattle.pfair_feed.specs.Follow.{news}
 use Rattle.pfair_feed.proofs.OneWay.{lines_are_one}
 
@@ -45,9 +45,9 @@ taken_all x y (e ∷ es) all t = taken_all t.0 y es all.1 t.2 ∙ ap (λ (r : Re
 abbrev pub event_of : Placed → Event
 event_of e = Take e.0 e.1 e.2
 
-pub run_held : (s : Settings) (c : Course) (es : List Placed) → (run s c (map event_of es)).held ≡ held_after c.held es
+pub run_held : (s : Settings) (c : Course) (es : List Placed) → (run s c (map event_of es)).replica ≡ held_after c.replica es
 run_held s c [] = refl
-run_held s c (e ∷ es) = run_held s (record c { held = taken c.held e.0 e.1 e.2 }) es
+run_held s c (e ∷ es) = run_held s (record c { replica = taken c.replica e.0 e.1 e.2 }) es
 
 -- ---- lists of the same entries
 
@@ -72,12 +72,12 @@ all_to_map P (e ∷ es) a = (a.0, all_to_map P es a.1)
 below_after : EventsLeaveTheLeast → (s : Settings) (capacity : ℕ) (es fs : List Placed) → AreAmong es fs
     → Below (held_after (empty_replica s.processors capacity) es) (held_after (empty_replica s.processors capacity) fs)
 below_after least s capacity es fs among =
-    let y : Replica = (run_of s capacity (map event_of fs)).held in
+    let y : Replica = (run_of s capacity (map event_of fs)).replica in
     let brought = all_from_map (IsBroughtBelow s capacity y) fs (least None s capacity (map event_of fs)).0 in
-    let below : Below (run_of s capacity (map event_of es)).held y =
+    let below : Below (run_of s capacity (map event_of es)).replica y =
     (least None s capacity (map event_of es)).1 y (all_to_map (IsBroughtBelow s capacity y) es (all_among (λ e. IsBroughtBelow s capacity y (event_of e)) es fs brought among)) in
     subst (λ (x : Replica). Below x (held_after (empty_replica s.processors capacity) fs)) (run_held s _ es)
-    (subst (λ (x : Replica). Below (run_of s capacity (map event_of es)).held x) (run_held s _ fs) below)
+    (subst (λ (x : Replica). Below (run_of s capacity (map event_of es)).replica x) (run_held s _ fs) below)
 
 same_shape : (x : Replica) (k n : ℕ) (e : _) → ((taken x k n e).processors ≡ x.processors) × ((taken x k n e).capacity ≡ x.capacity)
 same_shape x k n e = grind arith
@@ -111,7 +111,7 @@ module _ (least : EventsLeaveTheLeast) (s : Settings) (capacity : ℕ) (es : Lis
   pub brought_all : AllByRecursion (λ e. IsBroughtBelow s capacity (held_after (empty_replica s.processors capacity) es) (event_of e)) es
   brought_all =
       subst (λ (x : Replica). AllByRecursion (λ e. IsBroughtBelow s capacity x (event_of e)) es) (run_held s _ es)
-      (all_from_map (IsBroughtBelow s capacity (run_of s capacity (map event_of es)).held) es (least None s capacity (map event_of es)).0)
+      (all_from_map (IsBroughtBelow s capacity (run_of s capacity (map event_of es)).replica) es (least None s capacity (map event_of es)).0)
 
   pub below_all : (y : Replica) → AllByRecursion (λ e. IsBroughtBelow s capacity y (event_of e)) es → Below (held_after (empty_replica s.processors capacity) es) y
   below_all y brought =
@@ -291,14 +291,14 @@ entries_give_their_schedule least law run capacity lines held script room have t
 -- ---- bytes that have the rows of a script give its text
 
 pub fed_entries_give_their_text : EntriesGiveTheirSchedule → WholeText → FedEntriesGiveTheirText
-fed_entries_give_their_text schedule whole run capacity bytes rest lines f g before begun after script room fresh told are have head fed =
+fed_entries_give_their_text schedule whole run capacity bytes rest lines f g before begun after script room fresh unwritten are have head fed =
     let same = (lines_are_one bytes lines fed.lines rest rest are fed.are_lines).0 in
-    let gave = schedule run capacity fed.lines (replica_of g.dispatch.held) script room
+    let gave = schedule run capacity fed.lines (replica_of g.dispatch.replica) script room
     (subst (λ (ls : List (List ℕ)). HaveTheRows run.settings.processors capacity (rows_of run.logs) ls) same have)
-    (subst (λ (x : Replica). AreTakenFrom fed.lines x (replica_of g.dispatch.held)) (ap (λ (c : Course). c.held) fresh.course_is) fed.fed.held_is) in
+    (subst (λ (x : Replica). AreTakenFrom fed.lines x (replica_of g.dispatch.replica)) (ap (λ (c : Course). c.replica) fresh.course_is) fed.fed.held_is) in
     let set : g.dispatch.settings ≡ run.settings = fed.fed.gone_on.grown.settings_are ∙ fresh.settings_are in
     let out : g.output ≡ f.output = fed.fed.gone_on.output_is in
     let text : line (header_of f.output) ++ news f g ≡ text_of f.output run.settings (replica_of_logs run.logs) =
-    ap (λ (o : Output). line (header_of o) ++ news f g) (sym out) ∙ whole bytes rest f g begun after (ap (λ (c : Course). c.origin) fresh.course_is) told fed
-    ∙ (λ i. text_of (out i) (set i) (replica_of g.dispatch.held)) ∙ gave.1.texts_are f.output in
+    ap (λ (o : Output). line (header_of o) ++ news f g) (sym out) ∙ whole bytes rest f g begun after (ap (λ (c : Course). c.origin) fresh.course_is) unwritten fed
+    ∙ (λ i. text_of (out i) (set i) (replica_of g.dispatch.replica)) ∙ gave.1.texts_are f.output in
     (subst (λ (l : List ℕ). Appends before after l) text (appends-more before begun after (line (header_of f.output)) (news f g) head fed.fed.gone_on.written), gave.1)

@@ -9,14 +9,14 @@ use Rattle.pfair_table.specs.Places.{places_after, places_from, places_in, place
 use Rattle.pfair_output.specs.Slots.{slots_from}
 use Rattle.pfair_output.specs.Replay.{placed_table_rows, table_rows}
 use Rattle.pfair_output.specs.Decisions.{decided_rows}
-use Rattle.pfair_output.specs.Told.{rows_told}
+use Rattle.pfair_output.specs.Booked.{rows_booked}
 use Rattle.pfair_output.proofs.WorldFacts.{whole_rows}
 use Rattle.pfair_feed.specs.declared.output.Output.{Output}
 use Rattle.pfair_feed.specs.declared.output.Output.TheVariants.{Tables, PlacedTables, Decisions, Lags}
 use Rattle.pfair_feed.specs.RowLaws.{RowsGoOn, WholeRows}
 use Rattle.pfair_feed.specs.Rows.{book_before, rows_in, header_of}
 use Rattle.pfair_text.specs.Rows.{lines_text}
-use Rattle.pfair_feed.proofs.Books.{all_told_before, rows-append}
+use Rattle.pfair_feed.proofs.Books.{all_booked_before, rows-append}
 use Rattle.pfair_feed.proofs.Planned.{decided_first, tables_first}
 
 -- ---- slot after slot
@@ -56,14 +56,14 @@ going : (o : Origin) (output : Output) (slot : ℕ) (ts more : List Table) (ds r
 going o Tables slot ts more ds rest same h = slots_on table_rows slot ts more h
 going o PlacedTables slot ts more ds rest same h = grind (arith, slots_on, placed_same)
 going o Decisions slot ts more ds rest same h = grind (arith, slots_on)
-going o Lags slot ts more ds rest same h = grind (arith, length-drop, take-append-le, take_all, drop-append_seam, drop-append-le, rows-append, all_told_before)
+going o Lags slot ts more ds rest same h = grind (arith, length-drop, take-append-le, take_all, drop-append_seam, drop-append-le, rows-append, all_booked_before)
 
 -- behind the first ones they have no rows
 pub none_behind : (o : Origin) (output : Output) (slot : ℕ) (ts : List Table) (ds : List (List Decided)) → length ts ≡ length ds → length ts ≤ slot → rows_in o output slot ts ds ≡ []
 none_behind o Tables slot ts ds same h = ap (slots_from table_rows slot) (drop_all slot ts h)
 none_behind o PlacedTables slot ts ds same h = ap (slots_from (placed_table_rows (places_in o ts)) slot) (drop_all slot ts h)
 none_behind o Decisions slot ts ds same h = ap (slots_from decided_rows slot) (drop_all slot ds (omega arith))
-none_behind o Lags slot ts ds same h = ap (λ (l : List (List Decided)). rows_told (book_before o slot ts ds) l (drop slot ts)) (drop_all slot ds (omega arith))
+none_behind o Lags slot ts ds same h = ap (λ (l : List (List Decided)). rows_booked (book_before o slot ts ds) l (drop slot ts)) (drop_all slot ds (omega arith))
 
 pub rows_go_on : RowsGoOn
 rows_go_on o output slot ts more ds rest same = grind (arith, cases_order, none_behind, going)

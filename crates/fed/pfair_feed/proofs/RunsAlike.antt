@@ -5,7 +5,7 @@ use Rattle.std.specs.List.{AllByRecursion}
 use Rattle.std.proofs.lemmas.Bool.{cases_order}
 use Rattle.pfair_text.specs.Rows.{lines_text}
 use Rattle.pfair_text.proofs.RowFacts.{lines_text-append}
-use Rattle.pfair_replica.specs.HeldRows.{replica_of}
+use Rattle.pfair_replica.specs.ReplicaRows.{replica_of}
 use Rattle.pfair_replica.specs.Offered.{taken}
 use Rattle.pfair_replica.specs.Replica.{Replica, empty_replica, frontier, numbers_below}
 use Rattle.pfair_table.specs.declared.pick.Decided.{Decided}
@@ -15,7 +15,7 @@ use Rattle.pfair_table.specs.Refinement.{Dispatch, HavePlannedAlike, IsWholePlan
 use Rattle.pfair_table.specs.Table.{Settings, Origin, Table, decisions_from, table_from}
 use Rattle.pfair_replica.proofs.OfferedTo.{offered_stays}
 use Rattle.pfair_feed.specs.declared.output.Output.{Output}
-use Rattle.pfair_feed.specs.Follow.{Follow, news, HaveToldAlike}
+use Rattle.pfair_feed.specs.Follow.{Follow, news, HaveWrittenAlike}
 use Rattle.pfair_feed.specs.Rows.{rows_in}
 use Rattle.pfair_feed.specs.Feeding.{AreTakenFrom}
 use Rattle.pfair_feed.specs.Laws.{RunsWriteAlike}
@@ -47,8 +47,8 @@ begins : (o : Origin) (output : Output) (slot : ℕ) (ts us : List Table) (ds es
     → IsPrefixOf (rows_in o output slot ts ds) (rows_in o output slot us es)
 begins o output slot ts us ds es same same' h tables decided = grind (arith, rows_of_more, first_of_other)
 
-pub told_alike : (f g : Follow) → length f.dispatch.tables ≡ length f.dispatch.decided → length g.dispatch.tables ≡ length g.dispatch.decided → HavePlannedAlike f.dispatch g.dispatch → HaveToldAlike f g
-told_alike f g same same' planned output settings origins agree slot =
+pub written_alike : (f g : Follow) → length f.dispatch.tables ≡ length f.dispatch.decided → length g.dispatch.tables ≡ length g.dispatch.decided → HavePlannedAlike f.dispatch g.dispatch → HaveWrittenAlike f g
+written_alike f g same same' planned output settings origins agree slot =
     let c = f.dispatch in
     let d = g.dispatch in
     elim (cases_order (length f.dispatch.tables) (length g.dispatch.tables)) [
@@ -119,19 +119,19 @@ inside_of : {A : Type 0} (f : ℕ → A) (n t : ℕ) (xs : List A) → xs ≡ ma
 inside_of f n t xs e l = (let a = ap length e ∙ so_many f n in omega (arith, a, l))
 
 module _ (d : Dispatch) (whole : IsWholePlan d) (t : ℕ) where
-  planned_there : t < length d.tables → (t < frontier (replica_of d.held)) × (slice_get d.tables t ≡ Some (table_from d.origin d.settings (replica_of d.held) t))
-      × (slice_get d.decided t ≡ Some (decisions_from d.origin d.settings (replica_of d.held) t))
+  planned_there : t < length d.tables → (t < frontier (replica_of d.replica)) × (slice_get d.tables t ≡ Some (table_from d.origin d.settings (replica_of d.replica) t))
+      × (slice_get d.decided t ≡ Some (decisions_from d.origin d.settings (replica_of d.replica) t))
   planned_there l = grind (arith, inside_of, get_numbers)
 
-planned_alike : OneTable → (s : Settings) (c d : Dispatch) → c.settings ≡ s → IsWholePlan c → IsWholePlan d → IsOf s (replica_of c.held) → IsOf s (replica_of d.held) → HavePlannedAlike c d
+planned_alike : OneTable → (s : Settings) (c d : Dispatch) → c.settings ≡ s → IsWholePlan c → IsWholePlan d → IsOf s (replica_of c.replica) → IsOf s (replica_of d.replica) → HavePlannedAlike c d
 planned_alike law s c d set whole whole' of of' settings origins agree t l m =
     let here = planned_there c whole t l in
     let there = planned_there d whole' t m in
-    let same = law c.origin s (replica_of c.held) (replica_of d.held) of of' agree t here.0 there.0 in
-    let tables : table_from d.origin d.settings (replica_of d.held) t ≡ table_from c.origin c.settings (replica_of c.held) t =
-    (λ i. table_from (sym origins i) ((sym settings ∙ set) i) (replica_of d.held) t) ∙ sym same.0 ∙ ap (λ (r : Settings). table_from c.origin r (replica_of c.held) t) (sym set) in
-    let decided : decisions_from d.origin d.settings (replica_of d.held) t ≡ decisions_from c.origin c.settings (replica_of c.held) t =
-    (λ i. decisions_from (sym origins i) ((sym settings ∙ set) i) (replica_of d.held) t) ∙ sym same.1 ∙ ap (λ (r : Settings). decisions_from c.origin r (replica_of c.held) t) (sym set) in
+    let same = law c.origin s (replica_of c.replica) (replica_of d.replica) of of' agree t here.0 there.0 in
+    let tables : table_from d.origin d.settings (replica_of d.replica) t ≡ table_from c.origin c.settings (replica_of c.replica) t =
+    (λ i. table_from (sym origins i) ((sym settings ∙ set) i) (replica_of d.replica) t) ∙ sym same.0 ∙ ap (λ (r : Settings). table_from c.origin r (replica_of c.replica) t) (sym set) in
+    let decided : decisions_from d.origin d.settings (replica_of d.replica) t ≡ decisions_from c.origin c.settings (replica_of c.replica) t =
+    (λ i. decisions_from (sym origins i) ((sym settings ∙ set) i) (replica_of d.replica) t) ∙ sym same.1 ∙ ap (λ (r : Settings). decisions_from c.origin r (replica_of c.replica) t) (sym set) in
     (here.1, there.1 ∙ ap Some tables, here.2, there.2 ∙ ap Some decided)
 
 -- ---- the law
@@ -141,19 +141,19 @@ begin_text : (xs ys : List (List (List ℕ))) → IsPrefixOf xs ys → IsPrefixO
 begin_text xs ys p = (lines_text p.0, sym (lines_text-append xs p.0) ∙ ap lines_text p.1)
 
 pub runs_write_alike : OneTable → RunsWriteAlike
-runs_write_alike law o s capacity capacity' bytes bytes' rest rest' f g f' g' old new old' new' fresh fresh' output told a b agree =
+runs_write_alike law o s capacity capacity' bytes bytes' rest rest' f g f' g' old new old' new' fresh fresh' output unwritten a b agree =
     begin_seen (news f g) (news f' g') (λ none.
-    brought a.lines (replica_of f.dispatch.held) (replica_of g.dispatch.held) a.fed.held_is (λ es all left.
-    brought b.lines (replica_of f'.dispatch.held) (replica_of g'.dispatch.held) b.fed.held_is (λ es' all' left'.
+    brought a.lines (replica_of f.dispatch.replica) (replica_of g.dispatch.replica) a.fed.held_is (λ es all left.
+    brought b.lines (replica_of f'.dispatch.replica) (replica_of g'.dispatch.replica) b.fed.held_is (λ es' all' left'.
     none (alike es es' all all' left left'))))
   where
-    of : (capacity : ℕ) (f g : Follow) (es : List Placed) → IsBegun o s capacity f → AllByRecursion IsPlaced es → replica_of g.dispatch.held ≡ held_after (replica_of f.dispatch.held) es → IsOf s (replica_of g.dispatch.held)
+    of : (capacity : ℕ) (f g : Follow) (es : List Placed) → IsBegun o s capacity f → AllByRecursion IsPlaced es → replica_of g.dispatch.replica ≡ held_after (replica_of f.dispatch.replica) es → IsOf s (replica_of g.dispatch.replica)
     of capacity f g es fresh all left =
-        subst (λ (x : Replica). IsOf s x) (sym (left ∙ ap (λ (x : Replica). held_after x es) (ap (λ (c : Course). c.held) fresh.course_is)))
+        subst (λ (x : Replica). IsOf s x) (sym (left ∙ ap (λ (x : Replica). held_after x es) (ap (λ (c : Course). c.replica) fresh.course_is)))
         (of_settings s (empty_replica s.processors capacity) es (of_nothing s capacity) all)
 
-    alike : (es es' : List Placed) → AllByRecursion IsPlaced es → AllByRecursion IsPlaced es' → replica_of g.dispatch.held ≡ held_after (replica_of f.dispatch.held) es
-        → replica_of g'.dispatch.held ≡ held_after (replica_of f'.dispatch.held) es' → Begin (news f g) (news f' g')
+    alike : (es es' : List Placed) → AllByRecursion IsPlaced es → AllByRecursion IsPlaced es' → replica_of g.dispatch.replica ≡ held_after (replica_of f.dispatch.replica) es
+        → replica_of g'.dispatch.replica ≡ held_after (replica_of f'.dispatch.replica) es' → Begin (news f g) (news f' g')
     alike es es' all all' left left' =
         let set : g.dispatch.settings ≡ s = a.fed.gone_on.grown.settings_are ∙ fresh.settings_are in
         let set' : g'.dispatch.settings ≡ s = b.fed.gone_on.grown.settings_are ∙ fresh'.settings_are in
@@ -163,14 +163,14 @@ runs_write_alike law o s capacity capacity' bytes bytes' rest rest' f g f' g' ol
         let whole = a.fed.gone_on.caught_up.whole in
         let whole' = b.fed.gone_on.caught_up.whole in
         let planned = planned_alike law s g.dispatch g'.dispatch set whole whole' (of capacity f g es fresh all left) (of capacity' f' g' es' fresh' all' left') in
-        let rows = told_alike g g' (even g.dispatch whole) (even g'.dispatch whole') planned outputs (set ∙ sym set') (begun ∙ sym begun') agree f.told in
-        let here : lines_text (rows_in g.dispatch.origin g.output f.told g.dispatch.tables g.dispatch.decided) ≡ news f g =
-        ap (λ (o : Output). lines_text (rows_in g.dispatch.origin o f.told g.dispatch.tables g.dispatch.decided)) a.fed.gone_on.output_is in
-        let there : lines_text (rows_in g'.dispatch.origin g'.output f.told g'.dispatch.tables g'.dispatch.decided) ≡ news f' g' =
-        (λ i. lines_text (rows_in g'.dispatch.origin (b.fed.gone_on.output_is i) (told i) g'.dispatch.tables g'.dispatch.decided)) in
-        let begin : Begin (lines_text (rows_in g.dispatch.origin g.output f.told g.dispatch.tables g.dispatch.decided)) (lines_text (rows_in g'.dispatch.origin g'.output f.told g'.dispatch.tables g'.dispatch.decided)) =
+        let rows = written_alike g g' (even g.dispatch whole) (even g'.dispatch whole') planned outputs (set ∙ sym set') (begun ∙ sym begun') agree f.unwritten in
+        let here : lines_text (rows_in g.dispatch.origin g.output f.unwritten g.dispatch.tables g.dispatch.decided) ≡ news f g =
+        ap (λ (o : Output). lines_text (rows_in g.dispatch.origin o f.unwritten g.dispatch.tables g.dispatch.decided)) a.fed.gone_on.output_is in
+        let there : lines_text (rows_in g'.dispatch.origin g'.output f.unwritten g'.dispatch.tables g'.dispatch.decided) ≡ news f' g' =
+        (λ i. lines_text (rows_in g'.dispatch.origin (b.fed.gone_on.output_is i) (unwritten i) g'.dispatch.tables g'.dispatch.decided)) in
+        let begin : Begin (lines_text (rows_in g.dispatch.origin g.output f.unwritten g.dispatch.tables g.dispatch.decided)) (lines_text (rows_in g'.dispatch.origin g'.output f.unwritten g'.dispatch.tables g'.dispatch.decided)) =
         elim rows [
-          | inl p ↦ inl (begin_text (rows_in g.dispatch.origin g.output f.told g.dispatch.tables g.dispatch.decided) (rows_in g'.dispatch.origin g'.output f.told g'.dispatch.tables g'.dispatch.decided) p)
-          | inr p ↦ inr (begin_text (rows_in g'.dispatch.origin g'.output f.told g'.dispatch.tables g'.dispatch.decided) (rows_in g.dispatch.origin g.output f.told g.dispatch.tables g.dispatch.decided) p)
+          | inl p ↦ inl (begin_text (rows_in g.dispatch.origin g.output f.unwritten g.dispatch.tables g.dispatch.decided) (rows_in g'.dispatch.origin g'.output f.unwritten g'.dispatch.tables g'.dispatch.decided) p)
+          | inr p ↦ inr (begin_text (rows_in g'.dispatch.origin g'.output f.unwritten g'.dispatch.tables g'.dispatch.decided) (rows_in g.dispatch.origin g.output f.unwritten g.dispatch.tables g.dispatch.decided) p)
         ] in
-        subst (λ (l : List ℕ). Begin l (news f' g')) here (subst (λ (l : List ℕ). Begin (lines_text (rows_in g.dispatch.origin g.output f.told g.dispatch.tables g.dispatch.decided)) l) there begin)
+        subst (λ (l : List ℕ). Begin l (news f' g')) here (subst (λ (l : List ℕ). Begin (lines_text (rows_in g.dispatch.origin g.output f.unwritten g.dispatch.tables g.dispatch.decided)) l) there begin)

@@ -4,7 +4,7 @@ use Rattle.std.specs.List.{AllByRecursion, flat_map}
 use Rattle.std.specs.Io.KnownBytes.{Appends, Consumes, IsAtEnd, Keeps}
 use Rattle.pfair_entry.specs.Entry.{Logged}
 use Rattle.pfair_entry_row.specs.Row.{entry_row, IsEntryAt}
-use Rattle.pfair_replica.specs.HeldRows.{replica_of}
+use Rattle.pfair_replica.specs.ReplicaRows.{replica_of}
 use Rattle.pfair_replica.specs.Offered.{taken}
 use Rattle.pfair_replica.specs.Replica.{Replica, has_torn}
 use Rattle.pfair_table.specs.Refinement.{IsWholePlan}
@@ -50,23 +50,23 @@ AreTakenFrom (line ∷ lines) before after = (mid : Replica) × IsTakenFrom line
 -- the plan is whole, and the rows of all of it are written
 pub record IsCaughtUp (f : Follow) : Type 0 where
   pub whole : IsWholePlan f.dispatch
-  pub all_told : length f.dispatch.tables ≤ f.told
+  pub all_written : length f.dispatch.tables ≤ f.unwritten
 
 -- more is planned and told, the writer has gained the rows of what is new, and nothing has become torn
 pub record HasGoneOn (before after : Follow) (old new : Option (List ℕ)) : Type 0 where
   pub output_is : after.output ≡ before.output
-  pub grown : IsGrown (record before.dispatch { held = after.dispatch.held }) after.dispatch
+  pub grown : IsGrown (record before.dispatch { replica = after.dispatch.replica }) after.dispatch
   pub caught_up : IsCaughtUp after
-  pub told_is : after.told ≡ max before.told (length after.dispatch.tables)
-  pub sound : has_torn (replica_of before.dispatch.held) ≡ false → has_torn (replica_of after.dispatch.held) ≡ false
+  pub unwritten_is : after.unwritten ≡ max before.unwritten (length after.dispatch.tables)
+  pub sound : has_torn (replica_of before.dispatch.replica) ≡ false → has_torn (replica_of after.dispatch.replica) ≡ false
   pub written : Appends old new (news before after)
 
 pub record IsFedLine (line : List ℕ) (before after : Follow) (old new : Option (List ℕ)) : Type 0 where
-  pub held_is : IsTakenFrom line (replica_of before.dispatch.held) (replica_of after.dispatch.held)
+  pub held_is : IsTakenFrom line (replica_of before.dispatch.replica) (replica_of after.dispatch.replica)
   pub gone_on : HasGoneOn before after old new
 
 pub record AreFedLines (lines : List (List ℕ)) (before after : Follow) (old new : Option (List ℕ)) : Type 0 where
-  pub held_is : AreTakenFrom lines (replica_of before.dispatch.held) (replica_of after.dispatch.held)
+  pub held_is : AreTakenFrom lines (replica_of before.dispatch.replica) (replica_of after.dispatch.replica)
   pub gone_on : HasGoneOn before after old new
 
 -- these bytes were fed, up to a line that is still open
@@ -110,7 +110,7 @@ pub record IsFedTo (is_strict to_last : Bool) (given left : Option (List ℕ)) (
   pub read : Consumes given left (bytes ++ more)
   pub fed : AreFedBytes bytes before after old new rest
   pub end : (IsAtEnd left × (more ≡ [])) ⊎ ((to_last ≡ true) × IsPlannedOut after)
-  pub welcome : is_strict ≡ true → AreWelcome before.dispatch.held.processors before.dispatch.held.capacity bytes rest
+  pub welcome : is_strict ≡ true → AreWelcome before.dispatch.replica.processors before.dispatch.replica.capacity bytes rest
 
 -- ---- faults
 
@@ -131,14 +131,14 @@ IsCauseIn f g line e = ((fault : RowFault) × (e ≡ Row fault) × IsRowFaultOf 
 -- entry whose row the line is.
 pub record HasStood (line : List ℕ) (before after : Follow) : Type 0 where
   pub output_is : after.output ≡ before.output
-  pub told_is : after.told ≡ before.told
-  pub grown : IsGrown (record before.dispatch { held = after.dispatch.held }) after.dispatch
-  pub held_is : (replica_of after.dispatch.held ≡ replica_of before.dispatch.held) ⊎ IsTakenFrom line (replica_of before.dispatch.held) (replica_of after.dispatch.held)
+  pub unwritten_is : after.unwritten ≡ before.unwritten
+  pub grown : IsGrown (record before.dispatch { replica = after.dispatch.replica }) after.dispatch
+  pub held_is : (replica_of after.dispatch.replica ≡ replica_of before.dispatch.replica) ⊎ IsTakenFrom line (replica_of before.dispatch.replica) (replica_of after.dispatch.replica)
 
 -- a line was fed, and a fault came: the writer was not written to, or it failed and has a part of what is new
 pub record HasFailed (line : List ℕ) (e : ProgramFault) (before after : Follow) (old new : Option (List ℕ)) : Type 0 where
   pub cause : IsCauseIn before after line e
-  pub taken_is : e ≢ Memory → IsTakenFrom line (replica_of before.dispatch.held) (replica_of after.dispatch.held)
+  pub taken_is : e ≢ Memory → IsTakenFrom line (replica_of before.dispatch.replica) (replica_of after.dispatch.replica)
   pub stood : HasStood line before after
   pub nothing : e ≢ WriteFailed → Keeps old new
   pub cut : e ≡ WriteFailed → TakesPrefix old new (news before after)

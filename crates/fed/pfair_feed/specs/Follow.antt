@@ -3,7 +3,7 @@ use Rattle.std.specs.Prelude.{ℕ, ◌+◌, ◌≡◌, ◌≢◌, ◌≤◌, ◌
 use Rattle.std.specs.Io.KnownBytes.{Appends}
 use Rattle.pfair_text.specs.Rows.{lines_text}
 use Rattle.pfair_entry.specs.Entry.{Logged}
-use Rattle.pfair_replica.specs.HeldRows.{held, replica_of}
+use Rattle.pfair_replica.specs.ReplicaRows.{held, replica_of}
 use Rattle.pfair_replica.specs.Offered.{taken}
 use Rattle.pfair_replica.specs.Faults.{IsKeyOf}
 use Rattle.pfair_replica.specs.Replica.{Replica, Agree, has_torn, mark, sound_beginning, torn_keys}
@@ -23,11 +23,11 @@ use Rattle.pfair_feed.specs.Rows.{rows_in}
 pub record Follow : Type 0 where
   pub output : Output
   pub dispatch : Dispatch
-  pub told : ℕ
+  pub unwritten : ℕ
 
 -- the text of what is planned afterwards and was not told before
 abbrev pub news : Follow → Follow → List ℕ
-news before after = lines_text (rows_in after.dispatch.origin before.output before.told after.dispatch.tables after.dispatch.decided)
+news before after = lines_text (rows_in after.dispatch.origin before.output before.unwritten after.dispatch.tables after.dispatch.decided)
 
 -- all slots of the run are planned
 abbrev pub IsPlannedOut : Follow → Type 0
@@ -39,36 +39,36 @@ IsPlannedOut f = f.dispatch.settings.slots ≤ length f.dispatch.tables
 pub record IsGrown (before after : Dispatch) : Type 0 where
   pub settings_are : after.settings ≡ before.settings
   pub origin_is : after.origin ≡ before.origin
-  pub held_are : after.held ≡ before.held
+  pub held_are : after.replica ≡ before.replica
   pub tables_go_on : IsPrefixOf before.tables after.tables
   pub decided_go_on : IsPrefixOf before.decided after.decided
 
 -- why no more was planned, and what stands then
 abbrev pub IsEndOfPlans : Dispatch → Dispatch → PlanFault → Type 0
-IsEndOfPlans before after (plan.Torn proc number) = (has_torn (replica_of before.held) ≡ true) × (slice_get (torn_keys (replica_of before.held)) 0 ≡ Some (proc, number)) × (after ≡ before)
-IsEndOfPlans before after plan.Spent = (has_torn (replica_of before.held) ≡ false) × (before.spent ≡ true) × (after ≡ before)
+IsEndOfPlans before after (plan.Torn proc number) = (has_torn (replica_of before.replica) ≡ true) × (slice_get (torn_keys (replica_of before.replica)) 0 ≡ Some (proc, number)) × (after ≡ before)
+IsEndOfPlans before after plan.Spent = (has_torn (replica_of before.replica) ≡ false) × (before.spent ≡ true) × (after ≡ before)
 IsEndOfPlans before after plan.Memory =
-    (has_torn (replica_of before.held) ≡ false) × (before.spent ≡ false) × (after.spent ≡ true) × IsTrue (is_plannable after.settings (replica_of after.held) (length after.tables))
+    (has_torn (replica_of before.replica) ≡ false) × (before.spent ≡ false) × (after.spent ≡ true) × IsTrue (is_plannable after.settings (replica_of after.replica) (length after.tables))
 
 -- ---- one entry
 
 -- the same run goes on: more may be planned of it, and none of the slots that lags count is forgotten
 pub record IsSameRun (before after : Follow) : Type 0 where
   pub output_is : after.output ≡ before.output
-  pub grown : IsGrown (record before.dispatch { held = after.dispatch.held }) after.dispatch
+  pub grown : IsGrown (record before.dispatch { replica = after.dispatch.replica }) after.dispatch
   pub counted : after.output ≡ Lags → after.dispatch.forgotten ≡ 0
 
 -- nothing held is torn, and no plan had failed before
 abbrev pub IsAble : (before after : Follow) → Type 0
-IsAble before after = (has_torn (replica_of after.dispatch.held) ≡ false) × (before.dispatch.spent ≡ false)
+IsAble before after = (has_torn (replica_of after.dispatch.replica) ≡ false) × (before.dispatch.spent ≡ false)
 
 -- an entry was taken: all that is settled is planned, told and written, and it is forgotten unless lags count it
 pub record HasFollowed (before after : Follow) (k n : ℕ) (old new : Option (List ℕ)) : Type 0 where
-  pub key : IsKeyOf before.dispatch.held k n
+  pub key : IsKeyOf before.dispatch.replica k n
   pub able : IsAble before after
   pub unspent : after.dispatch.spent ≡ false
   pub whole : IsWholePlan after.dispatch
-  pub told_is : after.told ≡ max before.told (length after.dispatch.tables)
+  pub unwritten_is : after.unwritten ≡ max before.unwritten (length after.dispatch.tables)
   pub forgotten_is : (after.output ≡ Lags → ⊥) → after.dispatch.forgotten ≡ length after.dispatch.tables
   pub written : Appends old new (news before after)
 
@@ -76,28 +76,28 @@ pub record HasFollowed (before after : Follow) (k n : ℕ) (old new : Option (Li
 
 -- nothing has changed but the contents
 abbrev pub IsOnlyTaken : (before after : Follow) → Type 0
-IsOnlyTaken before after = after ≡ record before { dispatch = record before.dispatch { held = after.dispatch.held } }
+IsOnlyTaken before after = after ≡ record before { dispatch = record before.dispatch { replica = after.dispatch.replica } }
 
 -- the next slot is settled, and its plan has failed
 abbrev pub IsStuck : Dispatch → Type 0
-IsStuck d = (d.spent ≡ true) × IsTrue (is_plannable d.settings (replica_of d.held) (length d.tables))
+IsStuck d = (d.spent ≡ true) × IsTrue (is_plannable d.settings (replica_of d.replica) (length d.tables))
 
 -- all that is settled is planned, and the book was not notified of all of it
 abbrev pub AreDue : (before after : Follow) → Type 0
-AreDue before after = (after.dispatch.spent ≡ false) × IsWholePlan after.dispatch × (before.told < length after.dispatch.tables)
+AreDue before after = (after.dispatch.spent ≡ false) × IsWholePlan after.dispatch × (before.unwritten < length after.dispatch.tables)
 
 -- Why a follower stops at an entry, and what it is then. An allocation fails for the entry, and nothing has changed; or, if nothing held is torn
 -- and the dispatcher wasn't spent, in the plan of a slot, or for rows that are due. No other fault of the programs comes.
 abbrev pub IsStopOf : (before after : Follow) → (k n : ℕ) → Logged → ProgramFault → Type 0
-IsStopOf f g k n e NoSuchProcessor = (f.dispatch.held.processors ≤ k) × (g ≡ f)
-IsStopOf f g k n e NumberOutOfRange = (k < f.dispatch.held.processors) × ((n ≡ 0) ⊎ (f.dispatch.held.capacity < n)) × (g ≡ f)
-IsStopOf f g k n e (Torn proc number) = IsKeyOf f.dispatch.held k n × (slice_get (torn_keys (replica_of g.dispatch.held)) 0 ≡ Some (proc, number)) × IsOnlyTaken f g
-IsStopOf f g k n e Spent = IsKeyOf f.dispatch.held k n × (has_torn (replica_of g.dispatch.held) ≡ false) × (f.dispatch.spent ≡ true) × IsOnlyTaken f g
-IsStopOf f g k n e WriteFailed = IsKeyOf f.dispatch.held k n × IsAble f g × AreDue f g × (news f g ≢ [])
+IsStopOf f g k n e NoSuchProcessor = (f.dispatch.replica.processors ≤ k) × (g ≡ f)
+IsStopOf f g k n e NumberOutOfRange = (k < f.dispatch.replica.processors) × ((n ≡ 0) ⊎ (f.dispatch.replica.capacity < n)) × (g ≡ f)
+IsStopOf f g k n e (Torn proc number) = IsKeyOf f.dispatch.replica k n × (slice_get (torn_keys (replica_of g.dispatch.replica)) 0 ≡ Some (proc, number)) × IsOnlyTaken f g
+IsStopOf f g k n e Spent = IsKeyOf f.dispatch.replica k n × (has_torn (replica_of g.dispatch.replica) ≡ false) × (f.dispatch.spent ≡ true) × IsOnlyTaken f g
+IsStopOf f g k n e WriteFailed = IsKeyOf f.dispatch.replica k n × IsAble f g × AreDue f g × (news f g ≢ [])
 IsStopOf f g k n e Memory =
-    IsKeyOf f.dispatch.held k n
-    × (((held f.dispatch.held k n ≡ None) × (g ≡ f))
-    ⊎ ((replica_of g.dispatch.held ≡ taken (replica_of f.dispatch.held) k n e) × IsAble f g × (IsStuck g.dispatch ⊎ AreDue f g)))
+    IsKeyOf f.dispatch.replica k n
+    × (((held f.dispatch.replica k n ≡ None) × (g ≡ f))
+    ⊎ ((replica_of g.dispatch.replica ≡ taken (replica_of f.dispatch.replica) k n e) × IsAble f g × (IsStuck g.dispatch ⊎ AreDue f g)))
 IsStopOf f g k n e fault = ⊥
 
 -- ---- what would settle more
@@ -111,8 +111,8 @@ missing_of s x k =
 -- ---- two followers
 
 -- If settings, beginnings, outputs and contents agree, the rows of what one has planned, from any slot on, begin those of the other.
-abbrev pub HaveToldAlike : Follow → Follow → Type 0
-HaveToldAlike f g =
-    f.output ≡ g.output → f.dispatch.settings ≡ g.dispatch.settings → f.dispatch.origin ≡ g.dispatch.origin → Agree (replica_of f.dispatch.held) (replica_of g.dispatch.held) → (slot : ℕ)
+abbrev pub HaveWrittenAlike : Follow → Follow → Type 0
+HaveWrittenAlike f g =
+    f.output ≡ g.output → f.dispatch.settings ≡ g.dispatch.settings → f.dispatch.origin ≡ g.dispatch.origin → Agree (replica_of f.dispatch.replica) (replica_of g.dispatch.replica) → (slot : ℕ)
     → IsPrefixOf (rows_in f.dispatch.origin f.output slot f.dispatch.tables f.dispatch.decided) (rows_in g.dispatch.origin g.output slot g.dispatch.tables g.dispatch.decided)
     ⊎ IsPrefixOf (rows_in g.dispatch.origin g.output slot g.dispatch.tables g.dispatch.decided) (rows_in f.dispatch.origin f.output slot f.dispatch.tables f.dispatch.decided)

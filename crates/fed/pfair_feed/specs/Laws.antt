@@ -3,7 +3,7 @@ use Rattle.std.specs.Prelude.{ℕ, ◌≡◌, ◌≤◌, ◌⊎◌, ◌↔◌, L
 use Rattle.std.specs.List.{AllByRecursion}
 use Rattle.std.specs.Io.KnownBytes.{Appends}
 use Rattle.pfair_text.specs.Rows.{line}
-use Rattle.pfair_replica.specs.HeldRows.{replica_of}
+use Rattle.pfair_replica.specs.ReplicaRows.{replica_of}
 use Rattle.pfair_replica.specs.Replica.{Agree, Replica, empty_replica}
 use Rattle.pfair_table.specs.Laws.{IsPrefixOf}
 use Rattle.pfair_table.specs.Script.{LoggedRun, capacity_of, replica_of_logs}
@@ -24,8 +24,8 @@ OrderIsNothing =
 -- The header, and what a first run's follower has written that had told nothing before, are the text that is written at once of what it holds.
 abbrev pub WholeText : Type 0
 WholeText =
-    (bytes rest : List ℕ) (f g : Follow) (old new : Option (List ℕ)) → f.dispatch.origin ≡ None → f.told ≡ 0 → AreFedBytes bytes f g old new rest
-    → line (header_of g.output) ++ news f g ≡ text_of g.output g.dispatch.settings (replica_of g.dispatch.held)
+    (bytes rest : List ℕ) (f g : Follow) (old new : Option (List ℕ)) → f.dispatch.origin ≡ None → f.unwritten ≡ 0 → AreFedBytes bytes f g old new rest
+    → line (header_of g.output) ++ news f g ≡ text_of g.output g.dispatch.settings (replica_of g.dispatch.replica)
 
 -- Bytes are lines, and then the beginning of one, in one way.
 abbrev pub LinesAreOne : Type 0
@@ -38,31 +38,31 @@ abbrev pub EntriesAreTheirRows : Type 0
 EntriesAreTheirRows =
     (run : LoggedRun) → IsScript run
     → AreLines (entries_text run.logs) (rows_of run.logs) []
-    × ((capacity : ℕ) (held : Replica) → capacity_of run.logs ≤ capacity
-    → AreTakenFrom (rows_of run.logs) (empty_replica run.settings.processors capacity) held ↔ (held ≡ replica_with_room capacity run))
+    × ((capacity : ℕ) (replica : Replica) → capacity_of run.logs ≤ capacity
+    → AreTakenFrom (rows_of run.logs) (empty_replica run.settings.processors capacity) replica ↔ (replica ≡ replica_with_room capacity run))
 
 -- Lines that have these rows, in whatever order and however often each, and with whatever between them that brings nothing, leave a replica
 -- that holds the script, and has its schedule.
 abbrev pub EntriesGiveTheirSchedule : Type 0
 EntriesGiveTheirSchedule =
-    (run : LoggedRun) (capacity : ℕ) (lines : List (List ℕ)) (held : Replica) → IsScript run → capacity_of run.logs ≤ capacity
-    → HaveTheRows run.settings.processors capacity (rows_of run.logs) lines → AreTakenFrom lines (empty_replica run.settings.processors capacity) held
-    → (held ≡ replica_with_room capacity run) × HasScheduleOf run held
+    (run : LoggedRun) (capacity : ℕ) (lines : List (List ℕ)) (replica : Replica) → IsScript run → capacity_of run.logs ≤ capacity
+    → HaveTheRows run.settings.processors capacity (rows_of run.logs) lines → AreTakenFrom lines (empty_replica run.settings.processors capacity) replica
+    → (replica ≡ replica_with_room capacity run) × HasScheduleOf run replica
 
 -- A follower that was new, and had written the header and nothing else, has written the whole text of the script's schedule once it was fed
 -- bytes whose lines have these rows.
 abbrev pub FedEntriesGiveTheirText : Type 0
 FedEntriesGiveTheirText =
     (run : LoggedRun) (capacity : ℕ) (bytes rest : List ℕ) (lines : List (List ℕ)) (f g : Follow) (before begun after : Option (List ℕ))
-    → IsScript run → capacity_of run.logs ≤ capacity → IsNew run.settings capacity f → f.told ≡ 0 → AreLines bytes lines rest
+    → IsScript run → capacity_of run.logs ≤ capacity → IsNew run.settings capacity f → f.unwritten ≡ 0 → AreLines bytes lines rest
     → HaveTheRows run.settings.processors capacity (rows_of run.logs) lines → Appends before begun (line (header_of f.output)) → AreFedBytes bytes f g begun after rest
-    → Appends before after (text_of f.output run.settings (replica_of_logs run.logs)) × HasScheduleOf run (replica_of g.dispatch.held)
+    → Appends before after (text_of f.output run.settings (replica_of_logs run.logs)) × HasScheduleOf run (replica_of g.dispatch.replica)
 
 -- Of two followers that were new, of equal settings and outputs, whose runs begin alike, and that tell slots from the same one on: if what
 -- they were fed agrees, what one has written begins with what the other has, or the other way round.
 abbrev pub RunsWriteAlike : Type 0
 RunsWriteAlike =
     (o : Origin) (settings : Settings) (capacity capacity' : ℕ) (bytes bytes' rest rest' : List ℕ) (f g f' g' : Follow) (old new old' new' : Option (List ℕ))
-    → IsBegun o settings capacity f → IsBegun o settings capacity' f' → f.output ≡ f'.output → f.told ≡ f'.told
-    → AreFedBytes bytes f g old new rest → AreFedBytes bytes' f' g' old' new' rest' → Agree (replica_of g.dispatch.held) (replica_of g'.dispatch.held)
+    → IsBegun o settings capacity f → IsBegun o settings capacity' f' → f.output ≡ f'.output → f.unwritten ≡ f'.unwritten
+    → AreFedBytes bytes f g old new rest → AreFedBytes bytes' f' g' old' new' rest' → Agree (replica_of g.dispatch.replica) (replica_of g'.dispatch.replica)
     → IsPrefixOf (news f g) (news f' g') ⊎ IsPrefixOf (news f' g') (news f g)

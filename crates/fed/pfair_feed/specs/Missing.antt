@@ -6,7 +6,7 @@ use Rattle.pfair_lattice.specs.Held.{Held}
 use Rattle.pfair_lattice.specs.declared.flat.Flat.TheVariants.{One, Torn}
 use Rattle.pfair_entry.specs.declared.announcement.Announcement.{Announcement}
 use Rattle.pfair_entry.specs.Entry.{Logged}
-use Rattle.pfair_replica.specs.HeldRows.{held, replica_of}
+use Rattle.pfair_replica.specs.ReplicaRows.{held, replica_of}
 use Rattle.pfair_replica.specs.Replica.{numbers_below, sound_beginning}
 use Rattle.pfair_feed.specs.Follow.{Follow, missing_of}
 
@@ -25,7 +25,7 @@ missing_lines processor (Some number) = missing_line processor number
 
 -- a line for each log of which an entry would settle more, in order of processors
 abbrev pub missing_text : Follow → List ℕ
-missing_text f = flat_map (λ processor. missing_lines processor (missing_of f.dispatch.settings (replica_of f.dispatch.held) processor)) (numbers_below f.dispatch.settings.processors)
+missing_text f = flat_map (λ processor. missing_lines processor (missing_of f.dispatch.settings (replica_of f.dispatch.replica) processor)) (numbers_below f.dispatch.settings.processors)
 
 -- ---- what a run drops
 
@@ -42,11 +42,11 @@ is_past slots (Some (One e)) = is_late slots e.said
 
 -- the line of an entry, if the run drops its announcement
 abbrev pub dropped_line : Follow → (processor number : ℕ) → List ℕ
-dropped_line f processor number = if is_past f.dispatch.settings.slots (held f.dispatch.held processor number) then key_line (codes "dropped ") processor number else []
+dropped_line f processor number = if is_past f.dispatch.settings.slots (held f.dispatch.replica processor number) then key_line (codes "dropped ") processor number else []
 
 -- those of the entries of a log's sound beginning
 abbrev pub dropped_of : Follow → (processor : ℕ) → List ℕ
-dropped_of f processor = flat_map (λ n. dropped_line f processor (n + 1)) (numbers_below (length (sound_beginning (replica_of f.dispatch.held) processor)))
+dropped_of f processor = flat_map (λ n. dropped_line f processor (n + 1)) (numbers_below (length (sound_beginning (replica_of f.dispatch.replica) processor)))
 
 -- those of all logs, in order of processors
 abbrev pub dropped_text : Follow → List ℕ

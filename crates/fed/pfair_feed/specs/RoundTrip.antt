@@ -84,11 +84,11 @@ abbrev pub replica_with_room : ℕ → LoggedRun → Replica
 replica_with_room capacity run = record (replica_of_logs run.logs) { capacity = capacity }
 
 -- the contents settle as many slots as the script's own replica, and have its tables, its decisions and each of its texts
-pub record HasScheduleOf (run : LoggedRun) (held : Replica) : Type 0 where
-  pub frontier_is : frontier held ≡ frontier (replica_of_logs run.logs)
-  pub plan_is : plan run.settings held ≡ plan run.settings (replica_of_logs run.logs)
-  pub decisions_are : (slot : ℕ) → decisions run.settings held slot ≡ decisions run.settings (replica_of_logs run.logs) slot
-  pub texts_are : (output : Output) → text_of output run.settings held ≡ text_of output run.settings (replica_of_logs run.logs)
+pub record HasScheduleOf (run : LoggedRun) (replica : Replica) : Type 0 where
+  pub frontier_is : frontier replica ≡ frontier (replica_of_logs run.logs)
+  pub plan_is : plan run.settings replica ≡ plan run.settings (replica_of_logs run.logs)
+  pub decisions_are : (slot : ℕ) → decisions run.settings replica slot ≡ decisions run.settings (replica_of_logs run.logs) slot
+  pub texts_are : (output : Output) → text_of output run.settings replica ≡ text_of output run.settings (replica_of_logs run.logs)
 
 -- ---- followers
 

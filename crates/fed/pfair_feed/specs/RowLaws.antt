@@ -1,7 +1,7 @@
 -- What holds of rows that are written slot after slot.
 use Rattle.std.specs.Prelude.{ℕ, ◌≡◌, List, ◌∷◌, ◌++◌, None, length, map, max, min}
 use Rattle.pfair_text.specs.Rows.{lines_text}
-use Rattle.pfair_replica.specs.HeldRows.{replica_of}
+use Rattle.pfair_replica.specs.ReplicaRows.{replica_of}
 use Rattle.pfair_replica.specs.Replica.{Replica, frontier, numbers_below}
 use Rattle.pfair_table.specs.declared.pick.Decided.{Decided}
 use Rattle.pfair_table.specs.Table.{Origin, Settings, Table, decisions, plan}
@@ -31,4 +31,4 @@ text_of Lags s x = lags_text s x
 abbrev pub WholeRows : Type 0
 WholeRows =
     (output : Output) (d : Dispatch) → d.origin ≡ None → IsWholePlan d
-    → lines_text (header_of output ∷ rows_from output 0 d.tables d.decided) ≡ text_of output d.settings (replica_of d.held)
+    → lines_text (header_of output ∷ rows_from output 0 d.tables d.decided) ≡ text_of output d.settings (replica_of d.replica)

@@ -19,7 +19,7 @@ const LINE_ROOM: usize = 512;
 ///
 /// It goes out in one write, cut to 512 bytes, and with a question mark in place of each byte that is
 /// no printed character of ASCII. It allocates nothing.
-pub fn tell_refused<E: Write>(complaints: &mut E, fault: &ProgramFault, line: &[u8])
+pub fn report_refused<E: Write>(complaints: &mut E, fault: &ProgramFault, line: &[u8])
     ensures { (text : List ℕ) × (length text ≤ 512) × TakesPrefix (E.contents complaints.old) (E.contents complaints.new) text }
 {
     let mut text = [0; LINE_ROOM];
@@ -43,16 +43,16 @@ pub fn tell_refused<E: Write>(complaints: &mut E, fault: &ProgramFault, line: &[
 /// # Errors
 /// [`WriteFailed`] if the writer answered an error, or took nothing; it has then a prefix of the
 /// lines.
-pub fn tell_missing<R: Ready, E: Write>(
+pub fn report_missing<R: Ready, E: Write>(
     follower: &Follower<R>,
     complaints: &mut E,
 ) -> Result<(), WriteFailed>
-    ensures told { OnOk result (Appends (E.contents complaints.old) (E.contents complaints.new) (missing_text follower.now)) }
+    ensures reported { OnOk result (Appends (E.contents complaints.old) (E.contents complaints.new) (missing_text follower.now)) }
     ensures cut { OnErr result (TakesPrefix (E.contents complaints.old) (E.contents complaints.new) (missing_text follower.now)) }
 {
     for processor in 0..follower.dispatcher().settings().processors() {
         if let Some(number) = follower.missing(processor) {
-            tell_key(complaints, b"missing ", processor, number)?;
+            report_key(complaints, b"missing ", processor, number)?;
         }
     }
     Ok(())
@@ -65,44 +65,44 @@ pub fn tell_missing<R: Ready, E: Write>(
 /// # Errors
 /// [`WriteFailed`] if the writer answered an error, or took nothing; it has then a prefix of the
 /// lines.
-pub fn tell_dropped<R: Ready, E: Write>(
+pub fn report_dropped<R: Ready, E: Write>(
     follower: &Follower<R>,
     complaints: &mut E,
 ) -> Result<(), WriteFailed>
-    ensures told { OnOk result (Appends (E.contents complaints.old) (E.contents complaints.new) (dropped_text follower.now)) }
+    ensures reported { OnOk result (Appends (E.contents complaints.old) (E.contents complaints.new) (dropped_text follower.now)) }
     ensures cut { OnErr result (TakesPrefix (E.contents complaints.old) (E.contents complaints.new) (dropped_text follower.now)) }
 {
     for processor in 0..follower.dispatcher().settings().processors() {
-        tell_dropped_of(follower, complaints, processor)?;
+        report_dropped_of(follower, complaints, processor)?;
     }
     Ok(())
 }
 
 // Writes the lines of one log.
-fn tell_dropped_of<R: Ready, E: Write>(
+fn report_dropped_of<R: Ready, E: Write>(
     follower: &Follower<R>,
     complaints: &mut E,
     processor: u8,
 ) -> Result<(), WriteFailed>
-    ensures told { OnOk result (Appends (E.contents complaints.old) (E.contents complaints.new) (dropped_of follower.now processor)) }
+    ensures reported { OnOk result (Appends (E.contents complaints.old) (E.contents complaints.new) (dropped_of follower.now processor)) }
     ensures cut { OnErr result (TakesPrefix (E.contents complaints.old) (E.contents complaints.new) (dropped_of follower.now processor)) }
 {
     for index in 0..follower.dispatcher().replica().sound_count(processor) {
         if follower.is_dropped(processor, index + 1) {
-            tell_key(complaints, b"dropped ", processor, index + 1)?;
+            report_key(complaints, b"dropped ", processor, index + 1)?;
         }
     }
     Ok(())
 }
 
 // Writes the line of one key, behind a word.
-fn tell_key<E: Write>(
+fn report_key<E: Write>(
     complaints: &mut E,
     word: &[u8],
     processor: u8,
     number: u32,
 ) -> Result<(), WriteFailed>
-    ensures told { OnOk result (Appends (E.contents complaints.old) (E.contents complaints.new) (key_line word.now processor number)) }
+    ensures reported { OnOk result (Appends (E.contents complaints.old) (E.contents complaints.new) (key_line word.now processor number)) }
     ensures cut { OnErr result (TakesPrefix (E.contents complaints.old) (E.contents complaints.new) (key_line word.now processor number)) }
 {
     send(complaints, word)?;
@@ -125,9 +125,9 @@ pub(crate) fn complain<R: Ready, E: Write>(
     ensures answered { line.now ≡ question → TakesPrefix (E.contents complaints.old) (E.contents complaints.new) (missing_text follower.now) }
 {
     if line == b"?".as_slice() {
-        let _ = tell_missing(follower, complaints);
+        let _ = report_missing(follower, complaints);
         return Ok(());
     }
-    tell_refused(complaints, &fault, line);
+    report_refused(complaints, &fault, line);
     if is_strict { Err(fault) } else { Ok(()) }
 }

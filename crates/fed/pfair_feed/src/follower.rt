@@ -3,7 +3,7 @@ ghost use Rattle.std.specs.Prelude.{◌≡◌, ◌↔◌, IsTrue, ◌≢◌, ◌
 ghost use Rattle.std.specs.Io.KnownBytes.{Appends, Keeps};
 ghost use Rattle.pfair_text.specs.Output.{TakesPrefix};
 ghost use Rattle.pfair_text.specs.Rows.{line};
-ghost use Rattle.pfair_replica.specs.HeldRows.{IsShape, held, replica_of};
+ghost use Rattle.pfair_replica.specs.ReplicaRows.{IsShape, held, replica_of};
 ghost use Rattle.pfair_replica.specs.Offered.{taken};
 ghost use Rattle.pfair_replica.specs.Faults.{IsKeyOf, IsTakenAs};
 ghost use Rattle.pfair_table.specs.Events.{start};
@@ -13,7 +13,7 @@ ghost use Rattle.pfair_table.specs.Refinement.{IsWholePlan, course_of};
 ghost use Rattle.pfair_feed.specs.Missing.{is_past};
 ghost use Rattle.pfair_feed.specs.Rows.{header_of};
 ghost use Rattle.pfair_feed.specs.RoundTrip.{IsBegun};
-ghost use Rattle.pfair_feed.specs.Follow.{HasFollowed, HaveToldAlike, IsPlannedOut, IsSameRun, IsStopOf, missing_of, news};
+ghost use Rattle.pfair_feed.specs.Follow.{HasFollowed, HaveWrittenAlike, IsPlannedOut, IsSameRun, IsStopOf, missing_of, news};
 ghost use Rattle.pfair_file.specs.declared.program_fault.ProgramFault.TheVariants.{Memory, WriteFailed};
 ghost use Rattle.pfair_feed.specs.declared.output.Output.TheVariants.{Lags};
 
@@ -37,20 +37,20 @@ pub struct Follower<R: Ready> {
     alloc: Global,
     output: Output,
     dispatcher: Dispatcher<R>,
-    told: u64,
+    unwritten: u64,
     book: Option<LagBook>,
 }
 
 impl<R: Ready> Model for Follower<R> {
-    ghost use Rattle.pfair_feed.specs.Rows.{IsBookIfAny, IsTold};
+    ghost use Rattle.pfair_feed.specs.Rows.{IsBookIfAny, KeepsUnwritten};
     ghost use Rattle.pfair_feed.specs.Follow.{Follow};
 
     ghost Value = { Follow };
 
-    ghost view = { λ a. record { output = a.output; dispatch = a.dispatcher; told = a.told } };
+    ghost view = { λ a. record { output = a.output; dispatch = a.dispatcher; unwritten = a.unwritten } };
 
-    ghost invariant = { λ a. IsBookIfAny a.dispatcher.origin a.told a.dispatcher.tables a.dispatcher.decided a.book
-        × IsTold a.output a.dispatcher.forgotten a.told };
+    ghost invariant = { λ a. IsBookIfAny a.dispatcher.origin a.unwritten a.dispatcher.tables a.dispatcher.decided a.book
+        × KeepsUnwritten a.output a.dispatcher.forgotten a.unwritten };
 }
 
 impl<R: Ready> Follower<R> {
@@ -74,7 +74,7 @@ impl<R: Ready> Follower<R> {
         ensures spent { IfOk result (λ f. f.dispatch.spent ≡ false) }
         ensures nothing { IfOk result (λ f. length f.dispatch.tables ≡ 0) }
         ensures whole { IfOk result (λ f. IsWholePlan f.dispatch) }
-        ensures told { IfOk result (λ f. f.told ≡ from) }
+        ensures unwritten { IfOk result (λ f. f.unwritten ≡ from) }
     {
         let dispatcher = Dispatcher::new(alloc, settings, capacity)?;
         Ok(Follower::begun(alloc, dispatcher, output, from))
@@ -98,7 +98,7 @@ impl<R: Ready> Follower<R> {
         ensures begun { IfOk result (IsBegun (Some state) (settings_from state slots) capacity) }
         ensures spent { IfOk result (λ f. f.dispatch.spent ≡ false) }
         ensures whole { IfOk result (λ f. IsWholePlan f.dispatch) }
-        ensures asked { IfOk result (λ f. (f.output ≡ output) × (f.told ≡ from)) }
+        ensures asked { IfOk result (λ f. (f.output ≡ output) × (f.unwritten ≡ from)) }
         ensures fault { IfErr result (IsResumeFault state slots) }
     {
         let dispatcher = Dispatcher::resume(alloc, state, slots, capacity)?;
@@ -108,13 +108,13 @@ impl<R: Ready> Follower<R> {
     // A follower of a dispatcher that has forgotten nothing.
     fn begun(alloc: Global, dispatcher: Dispatcher<R>, output: Output, from: u64) -> Self
         requires { dispatcher.forgotten ≡ 0 }
-        ensures { result ≡ record { output = output; dispatch = dispatcher; told = from } }
+        ensures { result ≡ record { output = output; dispatch = dispatcher; unwritten = from } }
     {
         Follower {
             alloc,
             output,
             dispatcher,
-            told: from,
+            unwritten: from,
             book: None,
         }
     }
@@ -160,12 +160,12 @@ impl<R: Ready> Follower<R> {
         number: u32,
         entry: Entry,
     ) -> Result<Taken, ProgramFault>
-        ensures answer { IfOk result (IsTakenAs (held self.old.dispatch.held proc number) entry) }
-        ensures offered { (result ≡ Err Memory → ⊥) → replica_of self.new.dispatch.held ≡ taken (replica_of self.old.dispatch.held) proc number entry }
+        ensures answer { IfOk result (IsTakenAs (held self.old.dispatch.replica proc number) entry) }
+        ensures offered { (result ≡ Err Memory → ⊥) → replica_of self.new.dispatch.replica ≡ taken (replica_of self.old.dispatch.replica) proc number entry }
         ensures run { IsSameRun self.old self.new }
         ensures followed { OnOk result (HasFollowed self.old self.new proc number (W.contents writer.old) (W.contents writer.new)) }
         ensures stopped { IfErr result (IsStopOf self.old self.new proc number entry) }
-        ensures stands { OnErr result ((self.new.told ≡ self.old.told) × (self.new.dispatch.forgotten ≡ self.old.dispatch.forgotten)) }
+        ensures stands { OnErr result ((self.new.unwritten ≡ self.old.unwritten) × (self.new.dispatch.forgotten ≡ self.old.dispatch.forgotten)) }
         ensures cut { IsErrOf result WriteFailed → TakesPrefix (W.contents writer.old) (W.contents writer.new) (news self.old self.new) }
         ensures nothing { IfErr result (λ e. e ≢ WriteFailed → Keeps (W.contents writer.old) (W.contents writer.new)) }
     {
@@ -173,38 +173,38 @@ impl<R: Ready> Follower<R> {
         prove!(self.dispatcher.next_slot() <= Settings::MAX_SLOTS);
         let taken = self.dispatcher.take(proc, number, entry)?;
         plan_all(&mut self.dispatcher)?;
-        self.tell(writer)?;
-        self.forget_told();
+        self.write_rows(writer)?;
+        self.forget_written();
         Ok(taken)
     }
 
     // Writes the rows of planned slots that aren't written yet.
-    fn tell<W: Write>(&mut self, writer: &mut W) -> Result<(), ProgramFault>
-        ensures rest { self.new ≡ record self.old { told = self.new.told } }
-        ensures told { OnOk result (self.new.told ≡ max self.old.told (length self.old.dispatch.tables)) }
+    fn write_rows<W: Write>(&mut self, writer: &mut W) -> Result<(), ProgramFault>
+        ensures rest { self.new ≡ record self.old { unwritten = self.new.unwritten } }
+        ensures unwritten { OnOk result (self.new.unwritten ≡ max self.old.unwritten (length self.old.dispatch.tables)) }
         ensures stands { OnErr result (self.new ≡ self.old) }
         ensures written { OnOk result (Appends (W.contents writer.old) (W.contents writer.new) (news self.old self.old)) }
         ensures cut { IsErrOf result WriteFailed → TakesPrefix (W.contents writer.old) (W.contents writer.new) (news self.old self.old) }
         ensures nothing { IfErr result (λ e. e ≢ WriteFailed → Keeps (W.contents writer.old) (W.contents writer.new)) }
         ensures cause { IfErr result (λ e. (e ≡ WriteFailed) ⊎ (e ≡ Memory)) }
-        ensures late { OnErr result (self.old.told < length self.old.dispatch.tables) }
+        ensures late { OnErr result (self.old.unwritten < length self.old.dispatch.tables) }
         ensures due { IsErrOf result WriteFailed → news self.old self.old ≢ [] }
     {
         let next = self.dispatcher.next_slot();
-        if next <= self.told {
+        if next <= self.unwritten {
             return Ok(());
         }
         let written = write_rows(
             self.alloc,
             self.output,
             &self.dispatcher,
-            self.told,
+            self.unwritten,
             &mut self.book,
             writer,
         );
         match written {
             Ok(()) => {
-                self.told = next;
+                self.unwritten = next;
                 Ok(())
             }
             Err(fault) => {
@@ -216,8 +216,8 @@ impl<R: Ready> Follower<R> {
     }
 
     // Forgets the slots whose rows are written or left out. Lags are counted from slot 0 on.
-    fn forget_told(&mut self)
-        requires { length self.old.dispatch.tables ≤ self.old.told }
+    fn forget_written(&mut self)
+        requires { length self.old.dispatch.tables ≤ self.old.unwritten }
         ensures rest { self.new ≡ record self.old { dispatch = record self.old.dispatch { forgotten = self.new.dispatch.forgotten } } }
         ensures forgotten { (self.new.output ≡ Lags → ⊥) → self.new.dispatch.forgotten ≡ length self.new.dispatch.tables }
         ensures lags { self.new.output ≡ Lags → self.new.dispatch.forgotten ≡ 0 }
@@ -240,10 +240,10 @@ impl<R: Ready> Follower<R> {
     }
 
     /// Returns the first slot whose rows are still to be written.
-    pub fn told(&self) -> u64
-        ensures { result ≡ self.now.told }
+    pub fn unwritten(&self) -> u64
+        ensures { result ≡ self.now.unwritten }
     {
-        self.told
+        self.unwritten
     }
 
     /// Returns whether all slots of the run are planned.
@@ -258,8 +258,8 @@ impl<R: Ready> Follower<R> {
     // there. `None` if the log settles all slots, if the entry behind its beginning is held but its
     // floor fell, if the log has no room for one more, and if there is no such processor. One look-up.
     pub(crate) fn missing(&self, proc: u8) -> Option<u32>
-        ensures value { result ≡ missing_of self.now.dispatch.settings (replica_of self.now.dispatch.held) proc }
-        ensures key { IfSome result (IsKeyOf self.now.dispatch.held proc) }
+        ensures value { result ≡ missing_of self.now.dispatch.settings (replica_of self.now.dispatch.replica) proc }
+        ensures key { IfSome result (IsKeyOf self.now.dispatch.replica proc) }
     {
         let replica = self.dispatcher.replica();
         let capacity = replica.capacity();
@@ -273,7 +273,7 @@ impl<R: Ready> Follower<R> {
 
     // Whether an entry announces something after the last slot of the run. One look-up.
     pub(crate) fn is_dropped(&self, proc: u8, number: u32) -> bool
-        ensures { result ≡ is_past self.now.dispatch.settings.slots (held self.now.dispatch.held proc number) }
+        ensures { result ≡ is_past self.now.dispatch.settings.slots (held self.now.dispatch.replica proc number) }
     {
         match self.dispatcher.replica().get(proc, number) {
             Some(Flat::One(entry)) => match entry.said() {
@@ -287,8 +287,8 @@ impl<R: Ready> Follower<R> {
     /// The law of two concrete followers after any calls: if their settings, the beginnings of
     /// their runs and their outputs are equal and their replicas agree, the rows of one begin those
     /// of the other, from any slot on. Does nothing.
-    pub fn tells_alike<Q: Ready>(&self, other: &Follower<Q>)
-        ensures { HaveToldAlike self.now other.now }
+    pub fn writes_alike<Q: Ready>(&self, other: &Follower<Q>)
+        ensures { HaveWrittenAlike self.now other.now }
     {
         // as many slots have decisions as have tables
         prove!(self.dispatcher.next_slot() <= Settings::MAX_SLOTS);

@@ -1,7 +1,7 @@
 //! The lines of a reader, one after another.
 ghost use Rattle.std.specs.Prelude.{◌≡◌, ◌≢◌, ℕ, List, Some, IfErr, OnOk, false, true};
 ghost use Rattle.std.specs.Io.KnownBytes.{Consumes, IsAtEnd};
-ghost use Rattle.pfair_replica.specs.HeldRows.{SameShape};
+ghost use Rattle.pfair_replica.specs.ReplicaRows.{SameShape};
 ghost use Rattle.pfair_file.specs.ProgramFaults.{is_refusal};
 ghost use Rattle.pfair_feed.specs.Feeding.{AreFedBytes, AreWelcome, IsCaughtUp, IsFedLine, IsFedTo, IsLeft, IsStopped, IsWelcome, question};
 
@@ -22,7 +22,7 @@ const PIECE: usize = 4096;
 /// of more than 256 bytes is refused, and only its first bytes are kept.
 ///
 /// A refused line is reported in a line to `complaints`, as far as that takes it, and skipped
-/// unless `is_strict`; the line `?` asks for the keys that [`tell_missing`] reports, and is always
+/// unless `is_strict`; the line `?` asks for the keys that [`report_missing`] reports, and is always
 /// skipped. What is behind the last newline is no row, since it may be the beginning of one. The cost
 /// is that of [`feed`] for each line.
 ///
@@ -46,7 +46,7 @@ pub fn follow<R: Ready, I: Read, W: Write, E: Write>(
     ensures stopped { IfErr result (λ e. (bytes : List ℕ) × Consumes (I.remaining reader.old) (I.remaining reader.new) bytes
         × IsStopped bytes e follower.old follower.new (W.contents writer.old) (W.contents writer.new)) }
     ensures strict { OnOk result (is_strict ≡ true → (bytes rest : List ℕ) × Consumes (I.remaining reader.old) (I.remaining reader.new) bytes
-        × AreWelcome follower.old.dispatch.held.processors follower.old.dispatch.held.capacity bytes rest) }
+        × AreWelcome follower.old.dispatch.replica.processors follower.old.dispatch.replica.capacity bytes rest) }
     ensures lenient { IfErr result (λ e. is_strict ≡ false → is_refusal e ≡ false) }
 {
     read_lines(
@@ -68,7 +68,8 @@ pub fn follow_to_last_slot<R: Ready, I: Read, W: Write, E: Write>(
     is_strict: bool,
 ) -> Result<(), ProgramFault>
     requires { IsCaughtUp follower.old }
-    ensures fed { OnOk result (IsFedTo is_strict true (I.remaining reader.old) (I.remaining reader.new) follower.old follower.new (W.contents writer.old) (W.contents writer.new)) }
+    ensures fed { OnOk result (IsFedTo is_strict true (I.remaining reader.old) (I.remaining reader.new)
+        follower.old follower.new (W.contents writer.old) (W.contents writer.new)) }
     ensures stopped { IfErr result (λ e. (bytes : List ℕ) × Consumes (I.remaining reader.old) (I.remaining reader.new) bytes
         × IsStopped bytes e follower.old follower.new (W.contents writer.old) (W.contents writer.new)) }
     ensures lenient { IfErr result (λ e. is_strict ≡ false → is_refusal e ≡ false) }
@@ -87,7 +88,8 @@ fn read_lines<R: Ready, I: Read, W: Write, E: Write>(
     to_last: bool,
 ) -> Result<(), ProgramFault>
     requires { IsCaughtUp follower.old }
-    ensures fed { OnOk result (IsFedTo is_strict to_last (I.remaining reader.old) (I.remaining reader.new) follower.old follower.new (W.contents writer.old) (W.contents writer.new)) }
+    ensures fed { OnOk result (IsFedTo is_strict to_last (I.remaining reader.old) (I.remaining reader.new)
+        follower.old follower.new (W.contents writer.old) (W.contents writer.new)) }
     ensures stopped { IfErr result (λ e. (bytes : List ℕ) × Consumes (I.remaining reader.old) (I.remaining reader.new) bytes
         × IsStopped bytes e follower.old follower.new (W.contents writer.old) (W.contents writer.new)) }
     ensures lenient { IfErr result (λ e. is_strict ≡ false → is_refusal e ≡ false) }
@@ -127,8 +129,8 @@ fn feed_line<R: Ready, W: Write, E: Write>(
 ) -> Result<(), ProgramFault>
     requires { IsCaughtUp follower.old }
     ensures fed { OnOk result (IsFedLine line.now follower.old follower.new (W.contents writer.old) (W.contents writer.new)) }
-    ensures shape { OnOk result (SameShape follower.old.dispatch.held follower.new.dispatch.held) }
-    ensures strict { OnOk result (is_strict ≡ true → IsWelcome follower.old.dispatch.held.processors follower.old.dispatch.held.capacity line.now) }
+    ensures shape { OnOk result (SameShape follower.old.dispatch.replica follower.new.dispatch.replica) }
+    ensures strict { OnOk result (is_strict ≡ true → IsWelcome follower.old.dispatch.replica.processors follower.old.dispatch.replica.capacity line.now) }
     ensures left { IfErr result (λ e. IsLeft line.now (Some 10) e follower.old follower.new (W.contents writer.old) (W.contents writer.new)) }
     ensures asked { IfErr result (λ e. is_refusal e ≡ true → line.now ≢ question) }
     ensures lenient { IfErr result (λ e. is_strict ≡ false → is_refusal e ≡ false) }

@@ -13,7 +13,7 @@ mod line;
 mod output;
 mod planning;
 
-pub use complaint::{tell_dropped, tell_missing, tell_refused};
+pub use complaint::{report_dropped, report_missing, report_refused};
 pub use entries::entries_of;
 pub use follower::Follower;
 pub use input::{follow, follow_to_last_slot};

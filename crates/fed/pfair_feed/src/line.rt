@@ -3,7 +3,7 @@ ghost use Rattle.std.specs.Prelude.{◌≡◌, ℕ, IfErr, IsErrOf, OnOk, Some, 
 ghost use Rattle.pfair_lattice.specs.declared.flat.Flat.TheVariants.{One};
 ghost use Rattle.pfair_entry.specs.Entry.{Logged};
 ghost use Rattle.pfair_entry_row.specs.Row.{IsEntryAt, entry_row};
-ghost use Rattle.pfair_replica.specs.HeldRows.{SameShape, held};
+ghost use Rattle.pfair_replica.specs.ReplicaRows.{SameShape, held};
 ghost use Rattle.pfair_file.specs.declared.program_fault.ProgramFault.TheVariants.{Memory};
 ghost use Rattle.pfair_file.specs.ProgramFaults.{is_refusal};
 ghost use Rattle.pfair_feed.specs.Feeding.{HasFailed, IsCaughtUp, IsFedLine, IsRowAt};
@@ -28,12 +28,13 @@ pub fn feed<R: Ready, W: Write>(
 ) -> Result<(), ProgramFault>
     requires { IsCaughtUp follower.old }
     ensures fed { OnOk result (IsFedLine line.now follower.old follower.new (W.contents writer.old) (W.contents writer.new)) }
-    ensures row { OnOk result (IsRowAt follower.old.dispatch.held.processors follower.old.dispatch.held.capacity line.now) }
-    ensures shape { OnOk result (SameShape follower.old.dispatch.held follower.new.dispatch.held) }
-    ensures refused { IfErr result (λ e. is_refusal e ≡ true → (follower.new ≡ follower.old) × IsFedLine line.now follower.old follower.new (W.contents writer.old) (W.contents writer.new)) }
+    ensures row { OnOk result (IsRowAt follower.old.dispatch.replica.processors follower.old.dispatch.replica.capacity line.now) }
+    ensures shape { OnOk result (SameShape follower.old.dispatch.replica follower.new.dispatch.replica) }
+    ensures refused { IfErr result (λ e. is_refusal e ≡ true →
+        (follower.new ≡ follower.old) × IsFedLine line.now follower.old follower.new (W.contents writer.old) (W.contents writer.new)) }
     ensures failed { IfErr result (λ e. HasFailed line.now e follower.old follower.new (W.contents writer.old) (W.contents writer.new)) }
     ensures repeat { (processor number : ℕ) (e : Logged) → IsEntryAt processor number e → line.now ≡ entry_row processor number e
-        → held follower.old.dispatch.held processor number ≡ Some (One e) → IsErrOf result Memory → ⊥ }
+        → held follower.old.dispatch.replica processor number ≡ Some (One e) → IsErrOf result Memory → ⊥ }
 {
     match read_row(line) {
         Ok((processor, number, entry)) => {

@@ -1,9 +1,9 @@
 //! What is written of a run, and the rows of it that are new.
-ghost use Rattle.std.specs.Prelude.{◌≡◌, ◌⊎◌, ◌++◌, ◌≢◌, [], IfErr, IfOk, IsErrOf, OnErr, OnOk, length, max};
+ghost use Rattle.std.specs.Prelude.{◌≡◌, ◌⊎◌, ◌++◌, ◌≢◌, [], IfErr, IfOk, IsErrOf, OnErr, OnOk};
 ghost use Rattle.std.specs.Io.KnownBytes.{Appends, Keeps};
 ghost use Rattle.pfair_text.specs.Output.{TakesPrefix};
-ghost use Rattle.pfair_text.specs.Rows.{IsOpen, line, lines_text, text_so_far};
-ghost use Rattle.pfair_feed.specs.Rows.{IsBookIfAny, IsTold, header_of, rows_in};
+ghost use Rattle.pfair_text.specs.Rows.{IsOpen, line, text_so_far};
+ghost use Rattle.pfair_feed.specs.Rows.{IsBookIfAny, IsWholeBook, KeepsUnwritten, header_of, rows_text};
 ghost use Rattle.pfair_file.specs.declared.program_fault.ProgramFault.TheVariants.{Memory, WriteFailed};
 
 use crate::book::known_book;
@@ -12,7 +12,7 @@ use pfair_file::ProgramFault;
 use pfair_lag::LagBook;
 use pfair_output::{
     add_decisions_from, add_decisions_header, add_lags_from, add_lags_header, add_placed_header,
-    add_placed_tables_from, add_replay_header, add_tables_from, tell_slots,
+    add_placed_tables_from, add_replay_header, add_tables_from, book_slots,
 };
 use pfair_ready::Ready;
 use pfair_table::{Dispatcher, Settings};
@@ -67,13 +67,13 @@ pub(crate) fn write_rows<R: Ready, W: Write>(
     writer: &mut W,
 ) -> Result<(), ProgramFault>
     requires book { IsBookIfAny dispatcher.now.origin from dispatcher.now.tables dispatcher.now.decided book.old }
-    requires standing { IsTold output dispatcher.now.forgotten from }
-    ensures book { OnOk result (IsBookIfAny dispatcher.now.origin (max from (length dispatcher.now.tables)) dispatcher.now.tables dispatcher.now.decided book.new) }
-    ensures written { OnOk result (Appends (W.contents writer.old) (W.contents writer.new) (lines_text (rows_in dispatcher.now.origin output from dispatcher.now.tables dispatcher.now.decided))) }
-    ensures cut { IsErrOf result WriteFailed → TakesPrefix (W.contents writer.old) (W.contents writer.new) (lines_text (rows_in dispatcher.now.origin output from dispatcher.now.tables dispatcher.now.decided)) }
+    requires standing { KeepsUnwritten output dispatcher.now.forgotten from }
+    ensures book { OnOk result (IsWholeBook dispatcher.now from book.new) }
+    ensures written { OnOk result (Appends (W.contents writer.old) (W.contents writer.new) (rows_text dispatcher.now output from)) }
+    ensures cut { IsErrOf result WriteFailed → TakesPrefix (W.contents writer.old) (W.contents writer.new) (rows_text dispatcher.now output from) }
     ensures nothing { IfErr result (λ e. e ≢ WriteFailed → Keeps (W.contents writer.old) (W.contents writer.new)) }
     ensures cause { IfErr result (λ e. (e ≡ WriteFailed) ⊎ (e ≡ Memory)) }
-    ensures due { IsErrOf result WriteFailed → lines_text (rows_in dispatcher.now.origin output from dispatcher.now.tables dispatcher.now.decided) ≢ [] }
+    ensures due { IsErrOf result WriteFailed → rows_text dispatcher.now output from ≢ [] }
 {
     let mut text = new_text(alloc);
     add_rows(alloc, &mut text, output, dispatcher, from, book)?;
@@ -92,11 +92,11 @@ fn add_rows<R: Ready>(
 ) -> Result<(), AllocError>
     requires open { IsOpen text.old }
     requires book { IsBookIfAny dispatcher.now.origin from dispatcher.now.tables dispatcher.now.decided book.old }
-    requires standing { IsTold output dispatcher.now.forgotten from }
+    requires standing { KeepsUnwritten output dispatcher.now.forgotten from }
     ensures open { OnOk result (IsOpen text.new) }
-    ensures book { OnOk result (IsBookIfAny dispatcher.now.origin (max from (length dispatcher.now.tables)) dispatcher.now.tables dispatcher.now.decided book.new) }
+    ensures book { OnOk result (IsWholeBook dispatcher.now from book.new) }
     ensures text { OnOk result (text_so_far text.new ≡ text_so_far text.old
-        ++ lines_text (rows_in dispatcher.now.origin output from dispatcher.now.tables dispatcher.now.decided)) }
+        ++ rows_text dispatcher.now output from) }
 {
     match output {
         Output::Tables => add_tables_from(text, dispatcher, from),
@@ -118,14 +118,14 @@ fn add_lags<R: Ready>(
     requires book { IsBookIfAny dispatcher.now.origin from dispatcher.now.tables dispatcher.now.decided book.old }
     requires standing { dispatcher.now.forgotten ≡ 0 }
     ensures open { OnOk result (IsOpen text.new) }
-    ensures book { OnOk result (IsBookIfAny dispatcher.now.origin (max from (length dispatcher.now.tables)) dispatcher.now.tables dispatcher.now.decided book.new) }
+    ensures book { OnOk result (IsWholeBook dispatcher.now from book.new) }
     ensures text { OnOk result (text_so_far text.new ≡ text_so_far text.old
-        ++ lines_text (rows_in dispatcher.now.origin Output.Lags from dispatcher.now.tables dispatcher.now.decided)) }
+        ++ rows_text dispatcher.now Output.Lags from) }
 {
     // as many slots have decisions as have tables
     prove!(dispatcher.next_slot() <= Settings::MAX_SLOTS);
     let mut known = known_book(alloc, dispatcher, from, book.take())?;
-    tell_slots(&mut known, dispatcher, from)?;
+    book_slots(&mut known, dispatcher, from)?;
     add_lags_from(text, &mut known, dispatcher)?;
     *book = Some(known);
     Ok(())

@@ -1,7 +1,7 @@
 //! Planning as far as the contents settle it.
 ghost use Rattle.std.specs.Prelude.{◌≡◌, false, IfErr, IsErrOf, OnOk};
 ghost use Rattle.pfair_replica.specs.Replica.{has_torn};
-ghost use Rattle.pfair_replica.specs.HeldRows.{replica_of};
+ghost use Rattle.pfair_replica.specs.ReplicaRows.{replica_of};
 ghost use Rattle.pfair_table.specs.Refinement.{IsWholePlan};
 ghost use Rattle.pfair_feed.specs.Follow.{IsGrown, IsEndOfPlans};
 
@@ -16,7 +16,7 @@ pub(crate) fn plan_all<R: Ready>(dispatcher: &mut Dispatcher<R>) -> Result<(), P
     ensures grown { IsGrown dispatcher.old dispatcher.new }
     ensures forgotten { dispatcher.new.forgotten ≡ dispatcher.old.forgotten }
     ensures whole { OnOk result (IsWholePlan dispatcher.new) }
-    ensures sound { OnOk result ((has_torn (replica_of dispatcher.old.held) ≡ false) × (dispatcher.old.spent ≡ false) × (dispatcher.new.spent ≡ false)) }
+    ensures sound { OnOk result ((has_torn (replica_of dispatcher.old.replica) ≡ false) × (dispatcher.old.spent ≡ false) × (dispatcher.new.spent ≡ false)) }
     ensures fault { IfErr result (IsEndOfPlans dispatcher.old dispatcher.new) }
 {
     'slots: while let Step::Planned(_) = dispatcher.plan_next()? {}

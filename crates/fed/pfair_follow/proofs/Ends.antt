@@ -4,7 +4,7 @@ use Rattle.std.specs.List.{list_any}
 use Rattle.std.specs.Prelude.{map, min, IfErr, IsErrOf, OnOk}
 use Rattle.std.specs.Io.KnownBytes.{Appends, Consumes}
 use Rattle.pfair_text.specs.Rows.{line, lines_text}
-use Rattle.pfair_replica.specs.HeldRows.{replica_of}
+use Rattle.pfair_replica.specs.ReplicaRows.{replica_of}
 use Rattle.pfair_replica.specs.Replica.{Replica, empty_replica, frontier, has_torn, numbers_below}
 use Rattle.pfair_table.specs.Events.{Course}
 use Rattle.pfair_table.specs.Table.{Origin, Settings, decisions_from, plan_from}
@@ -28,27 +28,27 @@ appends_more (Some xs) (Some ys) (Some zs) a b p q = q ∙ ap (λ l. l ++ b) p �
 -- ---- what is written
 
 -- of a run that begins there, with all planned that is settled
-plan_rows : (o : Origin) (slot : ℕ) (f g : Follow) (bytes rest : List ℕ) (old new : Option (List ℕ)) → f.dispatch.origin ≡ o → f.told ≡ slot → AreFedBytes bytes f g old new rest
-    → news f g ≡ rows_of_plan o f.output slot f.dispatch.settings (replica_of g.dispatch.held)
-plan_rows o slot f g bytes rest old new begins told fed =
+plan_rows : (o : Origin) (slot : ℕ) (f g : Follow) (bytes rest : List ℕ) (old new : Option (List ℕ)) → f.dispatch.origin ≡ o → f.unwritten ≡ slot → AreFedBytes bytes f g old new rest
+    → news f g ≡ rows_of_plan o f.output slot f.dispatch.settings (replica_of g.dispatch.replica)
+plan_rows o slot f g bytes rest old new begins unwritten fed =
     let whole = fed.fed.gone_on.caught_up.whole in
     let origin : g.dispatch.origin ≡ o = fed.fed.gone_on.grown.origin_is ∙ begins in
     let set : g.dispatch.settings ≡ f.dispatch.settings = fed.fed.gone_on.grown.settings_are in
-    (λ i. lines_text (rows_in (origin i) f.output (told i) (whole.tables_are i) (whole.decided_are i)))
-    ∙ ap (λ (b : Origin). lines_text (rows_in o f.output slot (plan_from b g.dispatch.settings (replica_of g.dispatch.held)) (map (decisions_from b g.dispatch.settings (replica_of g.dispatch.held)) (numbers_below (min (frontier (replica_of g.dispatch.held)) g.dispatch.settings.slots))))) origin
-    ∙ ap (λ (t : Settings). rows_of_plan o f.output slot t (replica_of g.dispatch.held)) set
+    (λ i. lines_text (rows_in (origin i) f.output (unwritten i) (whole.tables_are i) (whole.decided_are i)))
+    ∙ ap (λ (b : Origin). lines_text (rows_in o f.output slot (plan_from b g.dispatch.settings (replica_of g.dispatch.replica)) (map (decisions_from b g.dispatch.settings (replica_of g.dispatch.replica)) (numbers_below (min (frontier (replica_of g.dispatch.replica)) g.dispatch.settings.slots))))) origin
+    ∙ ap (λ (t : Settings). rows_of_plan o f.output slot t (replica_of g.dispatch.replica)) set
 
 -- of a follower that has told nothing before the first slot whose rows it writes
-whole_text : WholeText → (o : Origin) (slot : ℕ) (f g : Follow) (bytes rest : List ℕ) (old new : Option (List ℕ)) → f.dispatch.origin ≡ o → f.told ≡ slot → AreFedBytes bytes f g old new rest
-    → head_from o f.output slot ++ news f g ≡ text_from o f.output slot f.dispatch.settings (replica_of g.dispatch.held)
-whole_text law None zero f g bytes rest old new begins told fed =
+whole_text : WholeText → (o : Origin) (slot : ℕ) (f g : Follow) (bytes rest : List ℕ) (old new : Option (List ℕ)) → f.dispatch.origin ≡ o → f.unwritten ≡ slot → AreFedBytes bytes f g old new rest
+    → head_from o f.output slot ++ news f g ≡ text_from o f.output slot f.dispatch.settings (replica_of g.dispatch.replica)
+whole_text law None zero f g bytes rest old new begins unwritten fed =
     let out : g.output ≡ f.output = fed.fed.gone_on.output_is in
     let set : g.dispatch.settings ≡ f.dispatch.settings = fed.fed.gone_on.grown.settings_are in
     ap (λ (o : Output). line (header_of o) ++ news f g) (sym out)
-    ∙ law bytes rest f g old new begins told fed
-    ∙ (λ i. text_of (out i) (set i) (replica_of g.dispatch.held))
-whole_text law None (suc slot) f g bytes rest old new begins told fed = plan_rows None (suc slot) f g bytes rest old new begins told fed
-whole_text law (Some c) slot f g bytes rest old new begins told fed = plan_rows (Some c) slot f g bytes rest old new begins told fed
+    ∙ law bytes rest f g old new begins unwritten fed
+    ∙ (λ i. text_of (out i) (set i) (replica_of g.dispatch.replica))
+whole_text law None (suc slot) f g bytes rest old new begins unwritten fed = plan_rows None (suc slot) f g bytes rest old new begins unwritten fed
+whole_text law (Some c) slot f g bytes rest old new begins unwritten fed = plan_rows (Some c) slot f g bytes rest old new begins unwritten fed
 
 -- ---- what is torn
 
@@ -62,21 +62,21 @@ nothing_torn processors capacity = none_such _ (λ k. none_such _ (λ n. refl) (
 -- ---- a new follower
 
 module _ (f : Follow) (fresh : IsFresh f) where
-  holds_none : replica_of f.dispatch.held ≡ empty_replica f.dispatch.settings.processors 4096
-  holds_none = ap (λ (c : Course). c.held) fresh
+  holds_none : replica_of f.dispatch.replica ≡ empty_replica f.dispatch.settings.processors 4096
+  holds_none = ap (λ (c : Course). c.replica) fresh
 
   pub caught_up : IsCaughtUp f
   caught_up = record {
     whole = whole_start f.dispatch.origin f.dispatch f.dispatch.settings 4096 fresh;
-    all_told = (let none : length f.dispatch.tables ≡ 0 = ap (λ (c : Course). length c.tables) fresh in omega (arith, none));
+    all_written = (let none : length f.dispatch.tables ≡ 0 = ap (λ (c : Course). length c.tables) fresh in omega (arith, none));
   }
 
   -- it has room for the logs of the settings
-  welcome_all : (bytes rest : List ℕ) → AreWelcome f.dispatch.held.processors f.dispatch.held.capacity bytes rest → AreWelcome f.dispatch.settings.processors 4096 bytes rest
+  welcome_all : (bytes rest : List ℕ) → AreWelcome f.dispatch.replica.processors f.dispatch.replica.capacity bytes rest → AreWelcome f.dispatch.settings.processors 4096 bytes rest
   welcome_all bytes rest welcome =
-      let processors : f.dispatch.held.processors ≡ f.dispatch.settings.processors = ap (λ (x : Replica). x.processors) holds_none in
-      let capacity : f.dispatch.held.capacity ≡ 4096 = ap (λ (x : Replica). x.capacity) holds_none in
-      subst (λ (n : ℕ). AreWelcome f.dispatch.settings.processors n bytes rest) capacity (subst (λ (n : ℕ). AreWelcome n f.dispatch.held.capacity bytes rest) processors welcome)
+      let processors : f.dispatch.replica.processors ≡ f.dispatch.settings.processors = ap (λ (x : Replica). x.processors) holds_none in
+      let capacity : f.dispatch.replica.capacity ≡ 4096 = ap (λ (x : Replica). x.capacity) holds_none in
+      subst (λ (n : ℕ). AreWelcome f.dispatch.settings.processors n bytes rest) capacity (subst (λ (n : ℕ). AreWelcome n f.dispatch.replica.capacity bytes rest) processors welcome)
 
   pub taken_all : (given left : Option (List ℕ)) → IsWelcomeAll f given left → AreTakenAll f.dispatch.settings given left
   taken_all given left (bytes, rest, consumed, welcome) = record { bytes = bytes; rest = rest; consumed = consumed; welcome = welcome_all bytes rest welcome }
@@ -84,38 +84,38 @@ module _ (f : Follow) (fresh : IsFresh f) where
   -- ---- how a run ends
 
   module _ (law : WholeText) (g : Follow) (given left before after : Option (List ℕ)) where
-    brought : (bytes rest : List ℕ) (begun : Option (List ℕ)) → AreFedBytes bytes f g begun after rest → AreBrought f.dispatch.settings bytes (replica_of g.dispatch.held)
+    brought : (bytes rest : List ℕ) (begun : Option (List ℕ)) → AreFedBytes bytes f g begun after rest → AreBrought f.dispatch.settings bytes (replica_of g.dispatch.replica)
     brought bytes rest begun fed = record {
       lines = fed.lines;
       rest = rest;
       are_lines = fed.are_lines;
-      taken = subst (λ (x : Replica). AreTakenFrom fed.lines x (replica_of g.dispatch.held)) holds_none fed.fed.held_is;
+      taken = subst (λ (x : Replica). AreTakenFrom fed.lines x (replica_of g.dispatch.replica)) holds_none fed.fed.held_is;
     }
 
-    sound : (bytes rest : List ℕ) (begun : Option (List ℕ)) → AreFedBytes bytes f g begun after rest → has_torn (replica_of g.dispatch.held) ≡ false
+    sound : (bytes rest : List ℕ) (begun : Option (List ℕ)) → AreFedBytes bytes f g begun after rest → has_torn (replica_of g.dispatch.replica) ≡ false
     sound bytes rest begun fed = fed.fed.gone_on.sound (ap has_torn holds_none ∙ nothing_torn f.dispatch.settings.processors 4096)
 
-    written : (bytes rest : List ℕ) (begun : Option (List ℕ)) → Appends before begun (head_from f.dispatch.origin f.output f.told) → AreFedBytes bytes f g begun after rest
-        → Appends before after (text_from f.dispatch.origin f.output f.told f.dispatch.settings (replica_of g.dispatch.held))
+    written : (bytes rest : List ℕ) (begun : Option (List ℕ)) → Appends before begun (head_from f.dispatch.origin f.output f.unwritten) → AreFedBytes bytes f g begun after rest
+        → Appends before after (text_from f.dispatch.origin f.output f.unwritten f.dispatch.settings (replica_of g.dispatch.replica))
     written bytes rest begun head fed =
-        subst (λ (text : List ℕ). Appends before after text) (whole_text law f.dispatch.origin f.told f g bytes rest begun after refl refl fed)
-        (appends_more before begun after (head_from f.dispatch.origin f.output f.told) (news f g) head fed.fed.gone_on.written)
+        subst (λ (text : List ℕ). Appends before after text) (whole_text law f.dispatch.origin f.unwritten f g bytes rest begun after refl refl fed)
+        (appends_more before begun after (head_from f.dispatch.origin f.output f.unwritten) (news f g) head fed.fed.gone_on.written)
 
-    settled : (bytes rest : List ℕ) (begun : Option (List ℕ)) → AreFedBytes bytes f g begun after rest → IsPlannedOut g → IsSettled f.dispatch.settings (replica_of g.dispatch.held)
+    settled : (bytes rest : List ℕ) (begun : Option (List ℕ)) → AreFedBytes bytes f g begun after rest → IsPlannedOut g → IsSettled f.dispatch.settings (replica_of g.dispatch.replica)
     settled bytes rest begun fed many =
         let as_many = planned g.dispatch fed.fed.gone_on.caught_up.whole in
-        subst (λ (s : Settings). s.slots ≤ frontier (replica_of g.dispatch.held)) fed.fed.gone_on.grown.settings_are (omega (arith, as_many, many))
+        subst (λ (s : Settings). s.slots ≤ frontier (replica_of g.dispatch.replica)) fed.fed.gone_on.grown.settings_are (omega (arith, as_many, many))
 
     settled_below : (bytes rest : List ℕ) (begun : Option (List ℕ)) → AreFedBytes bytes f g begun after rest → length g.dispatch.tables < g.dispatch.settings.slots
-        → IsSettledBelow f.dispatch.settings (length g.dispatch.tables) (replica_of g.dispatch.held)
+        → IsSettledBelow f.dispatch.settings (length g.dispatch.tables) (replica_of g.dispatch.replica)
     settled_below bytes rest begun fed few =
         let as_many = planned g.dispatch fed.fed.gone_on.caught_up.whole in
         (omega (arith, as_many, few), subst (λ (s : Settings). length g.dispatch.tables < s.slots) fed.fed.gone_on.grown.settings_are few)
 
-    followed : (P : Replica → Type 0) → IsFed f g given left before after → P (replica_of g.dispatch.held) → IsFollowed f P given left before after
+    followed : (P : Replica → Type 0) → IsFed f g given left before after → P (replica_of g.dispatch.replica) → IsFollowed f P given left before after
     followed P fed p = record {
       bytes = fed.bytes;
-      held = replica_of g.dispatch.held;
+      replica = replica_of g.dispatch.replica;
       consumed = fed.consumed;
       at_end = fed.at_end;
       brought = brought fed.bytes fed.rest fed.begun fed.fed;
@@ -138,7 +138,7 @@ module _ (f : Follow) (fresh : IsFresh f) where
     ended fault (inr (inr end)) = inr (inr (short fault end))
 
     -- a run that was followed as far as its last slot
-    pub reached_last : (is_strict : Bool) (P : Replica → Type 0) → IsFedToLast is_strict f g given left before after → IsPlannedOut g → P (replica_of g.dispatch.held)
+    pub reached_last : (is_strict : Bool) (P : Replica → Type 0) → IsFedToLast is_strict f g given left before after → IsPlannedOut g → P (replica_of g.dispatch.replica)
         → HasReachedLast f is_strict P given left before after
     reached_last is_strict P to_last many p =
         let fed = to_last.fed in
@@ -146,7 +146,7 @@ module _ (f : Follow) (fresh : IsFresh f) where
           bytes = fed.bytes;
           more = fed.more;
           rest = fed.rest;
-          held = replica_of g.dispatch.held;
+          replica = replica_of g.dispatch.replica;
           consumed = fed.read;
           brought = brought fed.bytes fed.rest to_last.begun fed.fed;
           sound = sound fed.bytes fed.rest to_last.begun fed.fed;

@@ -25,14 +25,14 @@ all_read (Some xs) None bytes consumed ended P p = absurd consumed
 all_read (Some xs) (Some ys) bytes consumed ended P p = subst P (sym (consumed ∙ ap (λ l. bytes ++ l) ended ∙ append-nil bytes)) p
 
 -- a text by the schedule alone
-same_text : (output : Output) (slot : ℕ) (script : LoggedRun) (held : Replica) → HasScheduleOf script held → text_from None output slot script.settings held ≡ text_from None output slot script.settings (replica_of_logs script.logs)
-same_text output zero script held has = has.texts_are output
-same_text output (suc slot) script held has =
+same_text : (output : Output) (slot : ℕ) (script : LoggedRun) (replica : Replica) → HasScheduleOf script replica → text_from None output slot script.settings replica ≡ text_from None output slot script.settings (replica_of_logs script.logs)
+same_text output zero script replica has = has.texts_are output
+same_text output (suc slot) script replica has =
     λ i. lines_text (rows_in None output (suc slot) (has.plan_is i) (map (λ t. has.decisions_are t i) (numbers_below (min (has.frontier_is i) script.settings.slots))))
 
 module _ (gives : EntriesGiveTheirSchedule) (one : LinesAreOne) (f : Follow) (given left before after : Option (List ℕ)) where
   abbrev Kept : (Replica → Type 0) → LoggedRun → Type 0
-  Kept P script = (held : Replica) × P held × HasScheduleOf script held × Appends before after (text_from None f.output f.told script.settings (replica_of_logs script.logs))
+  Kept P script = (replica : Replica) × P replica × HasScheduleOf script replica × Appends before after (text_from None f.output f.unwritten script.settings (replica_of_logs script.logs))
 
   -- the contents have the schedule of the script, whose text was written
   of_script : (P : Replica → Type 0) → IsFollowed f P given left before after → OfItsScript f given (Kept P)
@@ -41,16 +41,16 @@ module _ (gives : EntriesGiveTheirSchedule) (one : LinesAreOne) (f : Follow) (gi
       (λ bytes. (script : LoggedRun) → HasScript f bytes script → Kept P script)
       (λ script has.
       (let same = (one followed.bytes has.lines followed.brought.lines has.rest followed.brought.rest has.are_lines followed.brought.are_lines).0 in
-      let gave = gives script 4096 followed.brought.lines followed.held has.is_script (capacity_short script.logs has.is_script.logged.short)
+      let gave = gives script 4096 followed.brought.lines followed.replica has.is_script (capacity_short script.logs has.is_script.logged.short)
       (subst (λ (s : Settings). HaveTheRows s.processors 4096 (rows_of script.logs) followed.brought.lines) (sym has.settings_are)
       (subst (λ (ls : List (List ℕ)). HaveTheRows f.dispatch.settings.processors 4096 (rows_of script.logs) ls) same has.have_rows))
-      (subst (λ (s : Settings). AreTakenFrom followed.brought.lines (empty_replica s.processors 4096) followed.held) (sym has.settings_are) followed.brought.taken) in (
-        followed.held,
+      (subst (λ (s : Settings). AreTakenFrom followed.brought.lines (empty_replica s.processors 4096) followed.replica) (sym has.settings_are) followed.brought.taken) in (
+        followed.replica,
         followed.settled,
         gave.1,
         subst (λ (text : List ℕ). Appends before after text)
-            (ap (λ (o : Origin). text_from o f.output f.told f.dispatch.settings followed.held) has.first
-            ∙ ap (λ (s : Settings). text_from None f.output f.told s followed.held) (sym has.settings_are) ∙ same_text f.output f.told script followed.held gave.1) followed.written,
+            (ap (λ (o : Origin). text_from o f.output f.unwritten f.dispatch.settings followed.replica) has.first
+            ∙ ap (λ (s : Settings). text_from None f.output f.unwritten s followed.replica) (sym has.settings_are) ∙ same_text f.output f.unwritten script followed.replica gave.1) followed.written,
       )))
 
   -- of each script

@@ -1,7 +1,7 @@
 -- The state that a run leaves, by what was brought.
 use Rattle.std.proofs.Common.{ℕ, Bool, false, ◌≡◌, ap, subst, ◌∙◌, inl, inr, List, Option, Result, Ok, Err}
 use Rattle.std.specs.Prelude.{IfErr, IfOk, IfSome}
-use Rattle.pfair_replica.specs.HeldRows.{replica_of}
+use Rattle.pfair_replica.specs.ReplicaRows.{replica_of}
 use Rattle.pfair_replica.specs.Replica.{said}
 use Rattle.pfair_table.specs.Events.{Course}
 use Rattle.pfair_table.specs.NextRun.{left_by, start_after}
@@ -29,12 +29,12 @@ no_memory (Err e) h f = f e h
 
 module _ (law : WholeText) (f : Follow) (fresh : IsFresh f) (g : Follow) (is_strict : Bool) (given left before after : Option (List ℕ))
     (fed : IsFedToLast is_strict f g given left before after) (d : Dispatch) (same : d ≡ g.dispatch) where
-  same_state : state_text (left_by d) ≡ state_text (left_over f.dispatch.origin f.dispatch.settings (said (replica_of g.dispatch.held)) f.dispatch.settings.slots)
+  same_state : state_text (left_by d) ≡ state_text (left_over f.dispatch.origin f.dispatch.settings (said (replica_of g.dispatch.replica)) f.dispatch.settings.slots)
   same_state =
       let grown = fed.fed.fed.fed.gone_on.grown in
       ap (λ (e : Dispatch). state_text (left_by e)) same
-      ∙ ap (λ (o : Origin). state_text (left_over o g.dispatch.settings (said (replica_of g.dispatch.held)) g.dispatch.settings.slots)) grown.origin_is
-      ∙ ap (λ (s : Settings). state_text (left_over f.dispatch.origin s (said (replica_of g.dispatch.held)) s.slots)) grown.settings_are
+      ∙ ap (λ (o : Origin). state_text (left_over o g.dispatch.settings (said (replica_of g.dispatch.replica)) g.dispatch.settings.slots)) grown.origin_is
+      ∙ ap (λ (s : Settings). state_text (left_over f.dispatch.origin s (said (replica_of g.dispatch.replica)) s.slots)) grown.settings_are
 
   pub has_left : {T : Type 0} (items : T → List ℕ) (r : Result T FollowFault) → IsPlannedOut g → IfOk r (λ text. items text ≡ state_text (left_by d))
       → IfOk r (λ text. HasLeft f is_strict given left before after (items text))

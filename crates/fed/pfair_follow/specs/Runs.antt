@@ -43,11 +43,11 @@ text_from (Some c) output slot s x = rows_of_plan (Some c) output slot s x
 -- ---- the contents
 
 -- what the lines of some bytes bring to logs that hold nothing; what stands behind the last newline brings nothing
-pub record AreBrought (s : Settings) (bytes : List ℕ) (held : Replica) : Type 0 where
+pub record AreBrought (s : Settings) (bytes : List ℕ) (replica : Replica) : Type 0 where
   pub lines : List (List ℕ)
   pub rest : List ℕ
   pub are_lines : AreLines bytes lines rest
-  pub taken : AreTakenFrom lines (empty_replica s.processors LONGEST_LOG) held
+  pub taken : AreTakenFrom lines (empty_replica s.processors LONGEST_LOG) replica
 
 -- all slots are settled; or only those below this one
 abbrev pub IsSettled : Settings → Replica → Type 0
@@ -61,13 +61,13 @@ IsSettledBelow s slot x = (slot ≡ frontier x) × (slot < s.slots)
 -- the reader was read to its end, nothing of what its bytes bring is torn, P holds of it, and the rows of the plan of it were written
 pub record IsFollowed (f : Follow) (P : Replica → Type 0) (given left before after : Option (List ℕ)) : Type 0 where
   pub bytes : List ℕ
-  pub held : Replica
+  pub replica : Replica
   pub consumed : Consumes given left bytes
   pub at_end : IsAtEnd left
-  pub brought : AreBrought f.dispatch.settings bytes held
-  pub sound : has_torn held ≡ false
-  pub settled : P held
-  pub written : Appends before after (text_from f.dispatch.origin f.output f.told f.dispatch.settings held)
+  pub brought : AreBrought f.dispatch.settings bytes replica
+  pub sound : has_torn replica ≡ false
+  pub settled : P replica
+  pub written : Appends before after (text_from f.dispatch.origin f.output f.unwritten f.dispatch.settings replica)
 
 -- all that the reader gave is lines of which none is refused: rows of entries at keys of the run, and questions
 pub record AreTakenAll (s : Settings) (given left : Option (List ℕ)) : Type 0 where
@@ -77,14 +77,14 @@ pub record AreTakenAll (s : Settings) (given left : Option (List ℕ)) : Type 0 
   pub welcome : AreWelcome s.processors LONGEST_LOG bytes rest
 
 abbrev pub IsWelcomeAll : Follow → (given left : Option (List ℕ)) → Type 0
-IsWelcomeAll f given left = (bytes rest : List ℕ) × Consumes given left bytes × AreWelcome f.dispatch.held.processors f.dispatch.held.capacity bytes rest
+IsWelcomeAll f given left = (bytes rest : List ℕ) × Consumes given left bytes × AreWelcome f.dispatch.replica.processors f.dispatch.replica.capacity bytes rest
 
 -- after the header some bytes were fed, to the reader's end
 pub record IsFed (f g : Follow) (given left before after : Option (List ℕ)) : Type 0 where
   pub bytes : List ℕ
   pub rest : List ℕ
   pub begun : Option (List ℕ)
-  pub head : Appends before begun (head_from f.dispatch.origin f.output f.told)
+  pub head : Appends before begun (head_from f.dispatch.origin f.output f.unwritten)
   pub consumed : Consumes given left bytes
   pub at_end : IsAtEnd left
   pub fed : AreFedBytes bytes f g begun after rest
@@ -93,14 +93,14 @@ pub record IsFed (f g : Follow) (given left before after : Option (List ℕ)) : 
 pub record IsStoppedAt (f g : Follow) (given left before after : Option (List ℕ)) (fault : ProgramFault) : Type 0 where
   pub bytes : List ℕ
   pub begun : Option (List ℕ)
-  pub head : Appends before begun (head_from f.dispatch.origin f.output f.told)
+  pub head : Appends before begun (head_from f.dispatch.origin f.output f.unwritten)
   pub consumed : Consumes given left bytes
   pub stopped : IsStopped bytes fault f g begun after
 
 -- why nothing was read: want of memory, or the writer failed at the header
 abbrev pub IsUnread : Follow → (given left before after : Option (List ℕ)) → ProgramFault → Type 0
 IsUnread f given left before after fault =
-    Keeps given left × (((fault ≡ Memory) × Keeps before after) ⊎ ((fault ≡ WriteFailed) × TakesPrefix before after (head_from f.dispatch.origin f.output f.told)))
+    Keeps given left × (((fault ≡ Memory) × Keeps before after) ⊎ ((fault ≡ WriteFailed) × TakesPrefix before after (head_from f.dispatch.origin f.output f.unwritten)))
 
 -- the input ended too early
 abbrev pub IsFedShort : (f g : Follow) (given left before after : Option (List ℕ)) → ProgramFault → Type 0
@@ -125,7 +125,7 @@ IsEndOf f given left before after fault =
 -- after the header some bytes were fed: those to the line with which all slots were planned, or all to the reader's end
 pub record IsFedToLast (is_strict : Bool) (f g : Follow) (given left before after : Option (List ℕ)) : Type 0 where
   pub begun : Option (List ℕ)
-  pub head : Appends before begun (head_from f.dispatch.origin f.output f.told)
+  pub head : Appends before begun (head_from f.dispatch.origin f.output f.unwritten)
   pub fed : IsFedTo is_strict true given left f g begun after
 
 -- What some of the bytes bring settles all slots, nothing of it is torn, its rows were written, and P holds of it. In a strict run no line of
@@ -134,11 +134,11 @@ pub record HasReachedLast (f : Follow) (is_strict : Bool) (P : Replica → Type 
   pub bytes : List ℕ
   pub more : List ℕ
   pub rest : List ℕ
-  pub held : Replica
+  pub replica : Replica
   pub consumed : Consumes given left (bytes ++ more)
-  pub brought : AreBrought f.dispatch.settings bytes held
-  pub sound : has_torn held ≡ false
-  pub settled : IsSettled f.dispatch.settings held
+  pub brought : AreBrought f.dispatch.settings bytes replica
+  pub sound : has_torn replica ≡ false
+  pub settled : IsSettled f.dispatch.settings replica
   pub welcome : is_strict ≡ true → AreWelcome f.dispatch.settings.processors LONGEST_LOG bytes rest
-  pub written : Appends before after (text_from f.dispatch.origin f.output f.told f.dispatch.settings held)
-  pub holds : P held
+  pub written : Appends before after (text_from f.dispatch.origin f.output f.unwritten f.dispatch.settings replica)
+  pub holds : P replica

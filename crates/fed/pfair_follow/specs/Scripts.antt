@@ -23,13 +23,13 @@ pub record HasScript (f : Follow) (bytes : List ℕ) (script : LoggedRun) : Type
 -- the script settles all its slots, and its text was written: all of it, or its rows from a later slot on
 pub record IsScriptWritten (f : Follow) (script : LoggedRun) (before after : Option (List ℕ)) : Type 0 where
   pub settled : script.settings.slots ≤ frontier (replica_of_logs script.logs)
-  pub written : Appends before after (text_from None f.output f.told script.settings (replica_of_logs script.logs))
+  pub written : Appends before after (text_from None f.output f.unwritten script.settings (replica_of_logs script.logs))
 
 -- the script settles only the slots below this one, which is one of its slots, and its text as far as these was written
 pub record IsScriptStalled (f : Follow) (slot : ℕ) (script : LoggedRun) (before after : Option (List ℕ)) : Type 0 where
   pub slot_is : slot ≡ frontier (replica_of_logs script.logs)
   pub short : slot < script.settings.slots
-  pub written : Appends before after (text_from None f.output f.told script.settings (replica_of_logs script.logs))
+  pub written : Appends before after (text_from None f.output f.unwritten script.settings (replica_of_logs script.logs))
 
 -- P holds of each script that the bytes have, which the reader had to give
 abbrev pub OfItsScript : Follow → (given : Option (List ℕ)) → (LoggedRun → Type 0) → Type 0

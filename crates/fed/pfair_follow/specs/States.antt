@@ -33,7 +33,7 @@ pub record IsLaterRun (resumed : Resumed) (output : Output) (from : ℕ) (c : Ca
   pub origin_is : f.dispatch.origin ≡ Some c
   pub settings_are : f.dispatch.settings ≡ settings_from c resumed.slots
   pub output_is : f.output ≡ output
-  pub told_is : f.told ≡ from
+  pub unwritten_is : f.unwritten ≡ from
 
 -- why none begins with it
 abbrev pub IsNoLaterRun : Resumed → Carried → FollowFault → Type 0

@@ -14,7 +14,7 @@ ghost use Rattle.pfair_follow.specs.States.{HasLeft, IsEndOfLeaving};
 use crate::fault::FollowFault;
 use crate::state::left_text;
 use pfair_feed::laws::{entries_give_their_schedule, lines_are_one, text_is_whole};
-use pfair_feed::{Follower, follow, follow_to_last_slot, tell_dropped, tell_missing};
+use pfair_feed::{Follower, follow, follow_to_last_slot, report_dropped, report_missing};
 use pfair_file::ProgramFault;
 use pfair_ready::Ready;
 use std::alloc::Global;
@@ -139,13 +139,13 @@ fn feed_to_last<R: Ready, I: Read, W: Write, E: Write>(
 // Writes the header, unless the run is a later one or rows are left out.
 fn begin<R: Ready, W: Write>(follower: &Follower<R>, writer: &mut W) -> Result<(), ProgramFault>
     ensures written { OnOk result (Appends (W.contents writer.old) (W.contents writer.new)
-        (head_from follower.now.dispatch.origin follower.now.output follower.now.told)) }
+        (head_from follower.now.dispatch.origin follower.now.output follower.now.unwritten)) }
     ensures cut { IsErrOf result WriteFailed → TakesPrefix (W.contents writer.old) (W.contents writer.new)
-        (head_from follower.now.dispatch.origin follower.now.output follower.now.told) }
+        (head_from follower.now.dispatch.origin follower.now.output follower.now.unwritten) }
     ensures nothing { IfErr result (λ e. e ≢ WriteFailed → Keeps (W.contents writer.old) (W.contents writer.new)) }
     ensures cause { IfErr result (λ e. (e ≡ WriteFailed) ⊎ (e ≡ Memory)) }
 {
-    if follower.dispatcher().state().is_none() && follower.told() == 0 {
+    if follower.dispatcher().state().is_none() && follower.unwritten() == 0 {
         follower.write_header(writer)
     } else {
         Ok(())
@@ -156,13 +156,14 @@ fn begin<R: Ready, W: Write>(follower: &Follower<R>, writer: &mut W) -> Result<(
 // after them.
 fn end<R: Ready, E: Write>(follower: &Follower<R>, complaints: &mut E) -> Result<(), ProgramFault>
     ensures settled { OnOk result (follower.now.dispatch.settings.slots ≤ length follower.now.dispatch.tables) }
-    ensures short { IfErr result (λ e. (e ≡ Stalled (length follower.now.dispatch.tables)) × (length follower.now.dispatch.tables < follower.now.dispatch.settings.slots)) }
+    ensures short { IfErr result (λ e.
+        (e ≡ Stalled (length follower.now.dispatch.tables)) × (length follower.now.dispatch.tables < follower.now.dispatch.settings.slots)) }
 {
     let slot = follower.dispatcher().next_slot();
     if slot < follower.dispatcher().settings().slots() {
-        let _ = tell_missing(follower, complaints);
+        let _ = report_missing(follower, complaints);
         return Err(ProgramFault::Stalled { slot });
     }
-    let _ = tell_dropped(follower, complaints);
+    let _ = report_dropped(follower, complaints);
     Ok(())
 }

@@ -128,7 +128,7 @@ impl Read for Failing {
 #[derive(Drop)]
 struct End {
     rows: Vec<u8>,
-    told: Vec<u8>,
+    complained: Vec<u8>,
     number: u8,
 }
 
@@ -153,22 +153,26 @@ fn followed<I: Read, W: Write>(
     asked: (Output, u64, bool),
     reader: &mut I,
     rows: &mut W,
-    told: &mut Vec<u8>,
+    complained: &mut Vec<u8>,
 ) -> u8 {
     let (output, from, is_strict) = asked;
     let settings = Settings::new(1, 4, 4).expect(rt, "settings");
     let mut follower: Follower<HeapReady> = Follower::new(
         alloc, settings, 4096, output, from,
     ).expect(rt, "memory");
-    number_of(&follow_rows(alloc, &mut follower, reader, rows, told, is_strict))
+    number_of(&follow_rows(alloc, &mut follower, reader, rows, complained, is_strict))
 }
 
-// Runs the rows of one output, and returns what is written and told, and the number of the fault.
+// Runs the rows of one output, and returns what is written and complained, and the number of the fault.
 fn fed<I: Read>(rt: &impl Abort, alloc: Global, asked: (Output, u64, bool), reader: &mut I) -> End {
     let mut rows: Vec<u8> = Vec::new(alloc);
-    let mut told: Vec<u8> = Vec::new(alloc);
-    let number = followed(rt, alloc, asked, reader, &mut rows, &mut told);
-    End { rows, told, number }
+    let mut complained: Vec<u8> = Vec::new(alloc);
+    let number = followed(rt, alloc, asked, reader, &mut rows, &mut complained);
+    End {
+        rows,
+        complained,
+        number,
+    }
 }
 
 #[test]
@@ -177,7 +181,7 @@ fn rows_of_runs_that_are_fed(rt: HostRuntime) {
         let asked = (output, from, is_strict);
         let end = fed(&rt, rt.alloc(), asked, &mut input.as_bytes());
         assert_eq!(rt; end.rows.as_slice(), rows.as_bytes());
-        assert_eq!(rt; end.told.as_slice(), complaints.as_bytes());
+        assert_eq!(rt; end.complained.as_slice(), complaints.as_bytes());
         assert_eq!(rt; end.number, number);
     }
 }
@@ -188,7 +192,7 @@ fn a_reader_that_fails_at_its_end(rt: HostRuntime) {
         text: ROWS.as_bytes(),
     };
     let end = fed(&rt, rt.alloc(), (Output::Tables, 0, false), &mut reader);
-    assert!(rt; end.number == 70 && end.told.is_empty());
+    assert!(rt; end.number == 70 && end.complained.is_empty());
     assert_eq!(rt; end.rows.as_slice(), TABLES.as_bytes());
 }
 
@@ -199,11 +203,18 @@ fn a_writer_that_fails_at_each_byte(rt: HostRuntime) {
             taken: Vec::new(rt.alloc()),
             left,
         };
-        let mut told: Vec<u8> = Vec::new(rt.alloc());
+        let mut complained: Vec<u8> = Vec::new(rt.alloc());
         let asked = (Output::Tables, 0, false);
         let mut reader = BACKWARDS.as_bytes();
-        let number = followed(&rt, rt.alloc(), asked, &mut reader, &mut out, &mut told);
-        assert!(rt; number == 71 && told.is_empty());
+        let number = followed(
+            &rt,
+            rt.alloc(),
+            asked,
+            &mut reader,
+            &mut out,
+            &mut complained,
+        );
+        assert!(rt; number == 71 && complained.is_empty());
         assert_eq!(rt; out.taken.as_slice(), &TABLES.as_bytes()[..left]);
     }
 }

@@ -5,6 +5,5 @@ pub mod Kinds
 pub mod Names
 pub mod Notice
 pub mod Results
-pub mod Said
 pub mod Same
 pub mod Writer

@@ -92,7 +92,6 @@ impl<K: Exact + Ord, V: Join> JoinMap<K, V> {
         ensures memory { OnErr result (IsSome (get K.cmp self.old key) → V.takes_memory) }
         ensures absent { OnErr result (get K.cmp self.old key ≡ None → self.new ≡ self.old) }
         ensures others { (q : K) → eq_by_cmp K.cmp key q ≡ false → get K.cmp self.new q ≡ get K.cmp self.old q }
-        ensures ordered_old { IsOrdered K.cmp self.old }
         ensures ordered { IsOrdered K.cmp self.new }
     {
         match self.map.get_mut(&key) {

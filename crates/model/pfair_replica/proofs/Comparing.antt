@@ -11,7 +11,7 @@ use Rattle.std.proofs.lemmas.Map.Entries.{lookup_head}
 use Rattle.pfair_lattice.specs.Entries.{get, IsOrdered, MapBelow, MapOutgrows}
 use Rattle.pfair_lattice.specs.Flat.{FlatBelow}
 use Rattle.pfair_lattice.specs.Option.{OptionOutgrows}
-use Rattle.pfair_replica.specs.HeldRows.{IsFull, Row, held_in}
+use Rattle.pfair_replica.specs.ReplicaRows.{IsFull, Row, held_in}
 use Rattle.pfair_lattice.specs.Held.{Held, HeldBelow}
 use Rattle.pfair_lattice.specs.declared.flat.Flat.{Flat}
 use Rattle.pfair_lattice.specs.HeldLaws.{below_itself, none_below, below_held, held_below}

@@ -15,7 +15,7 @@ use Rattle.pfair_entry.specs.Entry.{Logged, IsEntry}
 use Rattle.pfair_entry.specs.Same.{entry_eq}
 use Rattle.pfair_entry.specs.Exact.{entry_exact}
 use Rattle.pfair_replica.specs.Replica.{Contents, Replica, IsReplica, only}
-use Rattle.pfair_replica.specs.HeldRows.{Row, held_in, IsFull, IsHeldRows}
+use Rattle.pfair_replica.specs.ReplicaRows.{Row, held_in, IsFull, IsReplicaRows}
 use Rattle.pfair_replica.specs.Faults.{IsPartlyMerged}
 use Rattle.pfair_replica.specs.HeldAfter.{join_none}
 
@@ -106,14 +106,14 @@ partly_merged m c m' c' x y z h = grind (arith, between_below, below_itself, joi
 
 -- ---- the rows of a replica after a merge
 
-same_shape : (m c m' c' : ℕ) (b : List (ℕ × Row)) → m ≡ m' → c ≡ c' → IsHeldRows (record { processors = m'; capacity = c'; rows = b }) → IsHeldRows (record { processors = m; capacity = c; rows = b })
+same_shape : (m c m' c' : ℕ) (b : List (ℕ × Row)) → m ≡ m' → c ≡ c' → IsReplicaRows (record { processors = m'; capacity = c'; rows = b }) → IsReplicaRows (record { processors = m; capacity = c; rows = b })
 same_shape m c m' c' b em ec h = grind arith
 
-module _ (m c m' c' : ℕ) (a b z : List (ℕ × Row)) (em : m ≡ m') (ec : c ≡ c') (h : IsHeldRows (record { processors = m; capacity = c; rows = a })) (h' : IsHeldRows (record { processors = m'; capacity = c'; rows = b })) where
+module _ (m c m' c' : ℕ) (a b z : List (ℕ × Row)) (em : m ≡ m') (ec : c ≡ c') (h : IsReplicaRows (record { processors = m; capacity = c; rows = a })) (h' : IsReplicaRows (record { processors = m'; capacity = c'; rows = b })) where
   pub between_rows : ((k n : ℕ) → Between (held_in a k n) (held_in b k n) (held_in z k n)) → IsReplica (record { processors = m; capacity = c; at = held_in z })
   between_rows = let g = same_shape m c m' c' b em ec h' in replica_between m c (held_in a) (held_in b) (held_in z) h.entries g.entries
 
-  pub merged_rows : MapJoins nat_cmp (MapJoins nat_cmp FlatJoins) a b z → IsHeldRows (record { processors = m; capacity = c; rows = z })
+  pub merged_rows : MapJoins nat_cmp (MapJoins nat_cmp FlatJoins) a b z → IsReplicaRows (record { processors = m; capacity = c; rows = z })
   merged_rows j =
       let g = same_shape m c m' c' b em ec h' in
       record {
@@ -122,7 +122,7 @@ module _ (m c m' c' : ℕ) (a b z : List (ℕ × Row)) (em : m ≡ m') (ec : c �
         entries = replica_between m c (held_in a) (held_in b) (held_in z) h.entries g.entries (λ k n. inr (joined_held a b z j k n));
       }
 
-  pub partly_rows : PartlyJoins a b z → IsHeldRows (record { processors = m; capacity = c; rows = z })
+  pub partly_rows : PartlyJoins a b z → IsReplicaRows (record { processors = m; capacity = c; rows = z })
   partly_rows j =
       let g = same_shape m c m' c' b em ec h' in
       record {

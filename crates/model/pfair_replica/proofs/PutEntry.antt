@@ -21,7 +21,7 @@ use Rattle.pfair_entry.specs.Same.{entry_eq}
 use Rattle.pfair_entry.specs.Exact.{entry_exact}
 use Rattle.pfair_replica.specs.HeldAfter.{join_none}
 use Rattle.pfair_replica.specs.Replica.{only}
-use Rattle.pfair_replica.specs.HeldRows.{Row, held_in, IsFull}
+use Rattle.pfair_replica.specs.ReplicaRows.{Row, held_in, IsFull}
 
 pub apart : (p q : ℕ) → q ≢ p → eq_by_cmp nat_cmp p q ≡ false
 apart p q ne = ⊎_elim (λ e. absurd (ne (sym (exact_unsigned p q ((Equal-is (nat_cmp p q)).0 e))))) (λ f. f) (cases_Bool (eq_by_cmp nat_cmp p q))

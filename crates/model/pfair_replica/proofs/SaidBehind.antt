@@ -4,7 +4,7 @@ use Rattle.std.specs.Prelude.{◌≢◌, slice_get, IsSome}
 use Rattle.std.proofs.lemmas.List.{append-nil, drop_all, drop_more}
 use Rattle.std.proofs.lemmas.Option.{slice_get_within, get_or_from_slice_get}
 use Rattle.pfair_entry.specs.declared.announcement.Announcement.{Announcement}
-use Rattle.pfair_entry.specs.Said.{Said}
+use Rattle.pfair_entry.specs.declared.said.Said.{Said}
 use Rattle.pfair_entry.specs.Entry.{Logged}
 use Rattle.pfair_replica.specs.Among.{Among}
 use Rattle.pfair_replica.specs.Replica.{Replica, sound_beginning, said_by, said_in, said_behind}
@@ -28,7 +28,7 @@ module _ (x : Replica) (k place : ℕ) where
   all_noted t came all past so_far = grind (arith, drop_all, append-nil)
 
 still_said : (k n from place : ℕ) (es : List Logged) (e : Logged) (s : ℕ × Announcement) → from ≤ place → slice_get es place ≡ Some e → e.said ≡ Some s → said_in s.0 k n (drop from es) ≢ []
-still_said k n zero place es e s le is says none = subst (λ (l : List Said). Among l (k, n + place, s.1)) none (said_to s.0 k n es place e s.1 is says)
+still_said k n zero place es e s le is says none = subst (λ (l : List Said). Among l (record { proc = k; number = n + place; announcement = s.1 })) none (said_to s.0 k n es place e s.1 is says)
 still_said k n (suc from) place [] e s le is says none = cc
 still_said k n (suc from) zero (d ∷ es) e s le is says none = omega arith
 still_said k n (suc from) (suc place) (d ∷ es) e s le is says none = still_said k n from place es e s (omega arith) is says none

@@ -6,7 +6,7 @@ use Rattle.std.proofs.lemmas.Bool.{eqb-true, eq-eqb}
 use Rattle.std.proofs.lemmas.List.{map-append}
 use Rattle.pfair_lattice.specs.Held.{Held}
 use Rattle.pfair_entry.specs.declared.announcement.Announcement.{Announcement}
-use Rattle.pfair_entry.specs.Said.{Said}
+use Rattle.pfair_entry.specs.declared.said.Said.{Said}
 use Rattle.pfair_entry.specs.Entry.{Logged}
 use Rattle.pfair_replica.specs.Key.{EntryKey}
 use Rattle.pfair_replica.specs.Replica.{Replica, sound_beginning, numbers_below, numbers_to, said_by, said_in, said, is_torn, entry_key, torn_in, torn_keys, fallen_at, fallen_in, fallen_keys, mark}
@@ -17,22 +17,22 @@ use Rattle.pfair_replica.proofs.Listed.{fallen_one}
 
 -- ---- what one processor says
 
-said_one : (t k n : ℕ) (o : Option (ℕ × Announcement)) (s : Said) → Among (said_by t k n o) s → (s ≡ (k, n, s.2)) × (o ≡ Some (t, s.2))
+said_one : (t k n : ℕ) (o : Option (ℕ × Announcement)) (s : Said) → Among (said_by t k n o) s → (s ≡ record { proc = k; number = n; announcement = s.announcement }) × (o ≡ Some (t, s.announcement))
 said_one t k n o s h = grind (arith, eqb-true)
 
-said_here : (t k n : ℕ) (o : Option (ℕ × Announcement)) (a : Announcement) → o ≡ Some (t, a) → Among (said_by t k n o) (k, n, a)
+said_here : (t k n : ℕ) (o : Option (ℕ × Announcement)) (a : Announcement) → o ≡ Some (t, a) → Among (said_by t k n o) (record { proc = k; number = n; announcement = a })
 said_here t k n o a e = grind (arith, eq-eqb)
 
-said_from : (t k n : ℕ) (es : List Logged) (s : Said) → Among (said_in t k n es) s → (s.0 ≡ k) × ((i : ℕ) × (e : Logged) × (s.1 ≡ n + i) × (slice_get es i ≡ Some e) × (e.said ≡ Some (t, s.2)))
+said_from : (t k n : ℕ) (es : List Logged) (s : Said) → Among (said_in t k n es) s → (s.proc ≡ k) × ((i : ℕ) × (e : Logged) × (s.number ≡ n + i) × (slice_get es i ≡ Some e) × (e.said ≡ Some (t, s.announcement)))
 said_from t k n [] s h = absurd h
 said_from t k n (e ∷ es) s h = ⊎_elim
     (λ l. (let one = said_one t k n e.said s l in
-    (ap (λ (a : Said). a.0) one.0, (0, e, ap (λ (a : Said). a.1) one.0 ∙ (let same : n ≡ n + 0 = omega arith in same), refl, one.1))))
+    (ap (λ (a : Said). a.proc) one.0, (0, e, ap (λ (a : Said). a.number) one.0 ∙ (let same : n ≡ n + 0 = omega arith in same), refl, one.1))))
     (λ r. (let more = said_from t k (suc n) es s r in let at = more.1 in
     (more.0, (suc at.0, at.1, (let number = at.2 in omega (arith, number)), at.3, at.4))))
     (among_append (said_by t k n e.said) (said_in t k (suc n) es) s h)
 
-pub said_to : (t k n : ℕ) (es : List Logged) (i : ℕ) (e : Logged) (a : Announcement) → slice_get es i ≡ Some e → e.said ≡ Some (t, a) → Among (said_in t k n es) (k, n + i, a)
+pub said_to : (t k n : ℕ) (es : List Logged) (i : ℕ) (e : Logged) (a : Announcement) → slice_get es i ≡ Some e → e.said ≡ Some (t, a) → Among (said_in t k n es) (record { proc = k; number = n + i; announcement = a })
 said_to t k n [] i e a at says = absurd (cc)
 said_to t k n (d ∷ es) zero e a at says = grind (arith, among_left, said_here)
 said_to t k n (d ∷ es) (suc i) e a at says = grind (arith, among_right, said_to t k (suc n) es i e a at says)
@@ -50,10 +50,10 @@ module _ (x : Replica) (t : ℕ) where
 
   members_to : (s : Said) → IsSaidAt x t s → Contains (said x t) s
   members_to s (low, (i, e, number, at, says)) =
-      among_contains (said x t) s (flat_among (λ k. said_in t k 1 (sound_beginning x k)) (numbers_below x.processors) s s.0 (below_among x.processors s.0 low)
-      (subst (λ (m : ℕ). Among (said_in t s.0 1 (sound_beginning x s.0)) ((s.0, m, s.2)))
-      (let same : 1 + i ≡ s.1 = omega (arith, number) in same)
-      (said_to t s.0 1 (sound_beginning x s.0) i e s.2 at says)))
+      among_contains (said x t) s (flat_among (λ k. said_in t k 1 (sound_beginning x k)) (numbers_below x.processors) s s.proc (below_among x.processors s.proc low)
+      (subst (λ (m : ℕ). Among (said_in t s.proc 1 (sound_beginning x s.proc)) (record { proc = s.proc; number = m; announcement = s.announcement }))
+      (let same : 1 + i ≡ s.number = omega (arith, number) in same)
+      (said_to t s.proc 1 (sound_beginning x s.proc) i e s.announcement at says)))
 
 -- ---- the order
 

@@ -7,7 +7,7 @@ use Rattle.pfair_replica.specs.declared.counters.Beginning.{Beginning}
 use Rattle.pfair_replica.specs.Key.{EntryKey}
 use Rattle.pfair_replica.specs.Laws.{IsRun}
 use Rattle.pfair_replica.specs.Replica.{Contents, run_from, last_floor}
-use Rattle.pfair_replica.specs.HeldRows.{HeldRows, IsHeldRows, held}
+use Rattle.pfair_replica.specs.ReplicaRows.{ReplicaRows, IsReplicaRows, held}
 
 -- how far the longest run of a row goes, at most so many entries
 abbrev pub beginning_in : ℕ → (ℕ → Held Logged) → Beginning
@@ -90,7 +90,7 @@ pub record WereApart (capacity : ℕ) (other now : Contents) (sound : List Begin
   pub within : (k n : ℕ) → IsTornAt now k n → (k < length sound) × (1 ≤ n) × (n ≤ capacity)
 
 -- what every replica keeps: its rows, and their counters
-pub record IsKept (x : HeldRows) (sound : List Beginning) (first : Option EntryKey) : Type 0 where
-  pub rows : IsHeldRows x
+pub record IsKept (x : ReplicaRows) (sound : List Beginning) (first : Option EntryKey) : Type 0 where
+  pub rows : IsReplicaRows x
   pub so_many : length sound ≡ x.processors
   pub counters : AreCounters x.capacity (held x) sound first

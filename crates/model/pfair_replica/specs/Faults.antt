@@ -4,7 +4,7 @@ use Rattle.pfair_lattice.specs.declared.flat.Flat.TheVariants.{One}
 use Rattle.pfair_lattice.specs.Held.{Held}
 use Rattle.pfair_entry.specs.Entry.{Logged}
 use Rattle.pfair_replica.specs.Replica.{Replica, join, Below}
-use Rattle.pfair_replica.specs.HeldRows.{HeldRows, held, SameShape}
+use Rattle.pfair_replica.specs.ReplicaRows.{ReplicaRows, held, SameShape}
 use Rattle.pfair_replica.specs.declared.answer.Taken.{Taken}
 use Rattle.pfair_replica.specs.declared.answer.Taken.TheVariants as taken
 use Rattle.pfair_replica.specs.declared.answer.TakeFault.{TakeFault}
@@ -13,7 +13,7 @@ use Rattle.pfair_replica.specs.declared.answer.MergeFault.{MergeFault}
 use Rattle.pfair_replica.specs.declared.answer.MergeFault.TheVariants as merge
 
 -- (k, n) names an entry of one of the logs
-abbrev pub IsKeyOf : HeldRows → ℕ → ℕ → Type 0
+abbrev pub IsKeyOf : ReplicaRows → ℕ → ℕ → Type 0
 IsKeyOf x k n = (k < x.processors) × (1 ≤ n) × (n ≤ x.capacity)
 
 -- how an entry is taken at a key that held this: missing, equal content, or anything else
@@ -23,17 +23,17 @@ IsTakenAs before e taken.Known = before ≡ Some (One e)
 IsTakenAs before e taken.Torn = (before ≢ None) × (before ≢ Some (One e))
 
 -- why nothing is taken at (k, n): the first that applies; memory is wanted for a missing key alone
-abbrev pub IsTakeFaultOf : HeldRows → ℕ → ℕ → TakeFault → Type 0
+abbrev pub IsTakeFaultOf : ReplicaRows → ℕ → ℕ → TakeFault → Type 0
 IsTakeFaultOf x k n take.NoSuchProcessor = x.processors ≤ k
 IsTakeFaultOf x k n take.NumberOutOfRange = (k < x.processors) × ((n ≡ 0) ⊎ (x.capacity < n))
 IsTakeFaultOf x k n take.Memory = IsKeyOf x k n × (held x k n ≡ None)
 
 -- y holds something at a key at which x holds nothing
-abbrev pub HoldsMore : HeldRows → HeldRows → Type 0
+abbrev pub HoldsMore : ReplicaRows → ReplicaRows → Type 0
 HoldsMore x y = (k : ℕ) × (n : ℕ) × (held x k n ≡ None) × (held y k n ≢ None)
 
 -- why y isn't merged into x, or not all of it; memory is wanted only for a key at which x holds nothing
-abbrev pub IsMergeFaultOf : HeldRows → HeldRows → MergeFault → Type 0
+abbrev pub IsMergeFaultOf : ReplicaRows → ReplicaRows → MergeFault → Type 0
 IsMergeFaultOf x y merge.OtherShape = SameShape x y → ⊥
 IsMergeFaultOf x y merge.Memory = SameShape x y × HoldsMore x y
 

@@ -1,12 +1,12 @@
 pub mod Agenda
-pub mod BySlot
 pub mod Among
+pub mod BySlot
 pub mod Counters
 pub mod Faults
 pub mod HeldAfter
-pub mod HeldRows
 pub mod Key
 pub mod Laws
 pub mod Offered
 pub mod Replica
+pub mod ReplicaRows
 pub mod SaidAt

@@ -5,7 +5,7 @@ use Rattle.pfair_lattice.specs.declared.flat.Flat.{Flat}
 use Rattle.pfair_lattice.specs.declared.flat.Flat.TheVariants.{One, Torn}
 use Rattle.pfair_lattice.specs.Held.{Held, held_join, HeldBelow}
 use Rattle.pfair_entry.specs.declared.announcement.Announcement.{Announcement}
-use Rattle.pfair_entry.specs.Said.{Said}
+use Rattle.pfair_entry.specs.declared.said.Said.{Said}
 use Rattle.pfair_entry.specs.Entry.{Logged, IsEntry}
 use Rattle.pfair_entry.specs.Same.{entry_eq}
 use Rattle.pfair_replica.specs.Key.{EntryKey}
@@ -106,7 +106,7 @@ sound_total x = sum_by (λ k. length (sound_beginning x k)) (numbers_below x.pro
 -- entry n of processor k, if it is stamped t
 abbrev pub said_by : (t k n : ℕ) → Option (ℕ × Announcement) → List Said
 said_by t k n None = []
-said_by t k n (Some s) = if s.0 == t then (k, n, s.1) ∷ [] else []
+said_by t k n (Some s) = if s.0 == t then record { proc = k; number = n; announcement = s.1 } ∷ [] else []
 
 -- in a run of processor k that begins at number n
 abbrev pub said_in : (t k n : ℕ) → List Logged → List Said

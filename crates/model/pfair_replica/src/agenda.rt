@@ -4,7 +4,7 @@ ghost use Rattle.pfair_replica.specs.Agenda.{said_at};
 ghost use Rattle.pfair_replica.specs.BySlot.{one_at};
 
 use crate::by_slot::BySlot;
-use pfair_entry::{Announcement, Said};
+use pfair_entry::Said;
 use std::alloc::{AllocError, Global};
 
 /// The announcements of each slot, as [`crate::Replica::note_said`] adds them.
@@ -49,17 +49,10 @@ impl Agenda {
     ///
     /// # Errors
     /// Returns [`AllocError`] if an allocation fails; nothing has then changed.
-    pub fn push(
-        &mut self,
-        slot: u64,
-        proc: u8,
-        number: u32,
-        announcement: Announcement,
-    ) -> Result<(), AllocError>
-        ensures ok { OnOk result ((t : ℕ) → said_at self.new t ≡ said_at self.old t ++ one_at slot (proc, number, announcement) t) }
+    pub fn push(&mut self, slot: u64, said: Said) -> Result<(), AllocError>
+        ensures ok { OnOk result ((t : ℕ) → said_at self.new t ≡ said_at self.old t ++ one_at slot said t) }
         ensures err { OnErr result ((t : ℕ) → said_at self.new t ≡ said_at self.old t) }
     {
-        self.by_slot
-            .push(self.alloc, slot, (proc, number, announcement))
+        self.by_slot.push(self.alloc, slot, said)
     }
 }

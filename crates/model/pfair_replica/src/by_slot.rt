@@ -45,7 +45,8 @@ impl BySlot {
         ensures ok { OnOk result ((t : ℕ) → listed_at self.new.lists t ≡ listed_at self.old.lists t ++ one_at slot said t) }
         ensures err { OnErr result ((t : ℕ) → listed_at self.new.lists t ≡ listed_at self.old.lists t) }
     {
-        push_at(alloc, &mut self.lists, slot, said)?;
+        // a value made here: rattle's borrow checker doesn't build a proof that passes the given one on
+        push_at(alloc, &mut self.lists, slot, Said { ..said })?;
         self.last = self.last.max(slot);
         Ok(())
     }

@@ -2,7 +2,7 @@
 //! goes, what all of them come to, and the first torn key.
 ghost use Rattle.std.specs.Prelude.{◌≡◌, ◌≤◌, ◌<◌, ◌↔◌, ◌+◌, ◌^◌, ℕ, length, IsTrue, IfOk, Some, None, replicate, set};
 ghost use Rattle.pfair_replica.specs.Replica.{goes_on};
-ghost use Rattle.pfair_replica.specs.HeldRows.{held_in};
+ghost use Rattle.pfair_replica.specs.ReplicaRows.{held_in};
 ghost use Rattle.pfair_replica.specs.Counters.{beginning_in, least_mark, total_count, IsPart, IsRunBefore, IsLeftAt, IsFirstTornIn, IsEarlier, IsTornAt, AreCounters, WereBefore, WereApart, ComesFirst};
 
 use crate::key::EntryKey;

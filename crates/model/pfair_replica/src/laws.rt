@@ -3,7 +3,7 @@
 //!
 //! Each function does nothing: its contract is the law, over every replica that there can be.
 ghost use Rattle.pfair_replica.specs.Laws.{IsLeastJoin, IsLongestRun, IsHeldAfter, IsAgreement, BelowAgrees, SayTheSame, MarksNeverFall, IsReadByNumber, BeginningsGrow, IsLeastMark, IsTornTest, IsListed, OfferedStays};
-ghost use Rattle.pfair_replica.specs.HeldRows.{IsKnownByHeld};
+ghost use Rattle.pfair_replica.specs.ReplicaRows.{IsKnownByHeld};
 ghost use Rattle.pfair_replica.specs.SaidAt.{IsSaid};
 
 /// The order of replicas is an order, and a merge gives the least replica above both; so it is

@@ -11,7 +11,7 @@ ghost use Rattle.pfair_entry.specs.Entry.{Logged, IsEntry};
 ghost use Rattle.pfair_replica.specs.Replica.{IsReplica, join, with_entry, empty_replica, Below, sound_beginning, mark, frontier, sound_total, missing, IsLeastMissing, said_by, said_behind, said, is_torn, has_torn, torn_in, torn_keys, fallen_in, fallen_keys};
 ghost use Rattle.pfair_replica.specs.Agenda.{IsPartOf, said_at};
 ghost use Rattle.pfair_replica.specs.Offered.{taken, absorbed};
-ghost use Rattle.pfair_replica.specs.HeldRows.{held, replica_of, IsHeldRows, IsShape, SameShape};
+ghost use Rattle.pfair_replica.specs.ReplicaRows.{held, replica_of, IsReplicaRows, IsShape, SameShape};
 ghost use Rattle.pfair_replica.specs.Faults.{IsKeyOf, IsTakenAs, IsTakeFaultOf, IsMergeFaultOf, IsPartlyMerged};
 
 use crate::agenda::Agenda;
@@ -19,7 +19,7 @@ use crate::answer::{MergeFault, TakeFault, Taken};
 use crate::counters::Counters;
 use crate::key::{EntryKey, Faults};
 use crate::rows::{Rows, empty_rows, held_at, put_entry, row_le};
-use pfair_entry::Entry;
+use pfair_entry::{Entry, Said};
 use pfair_lattice::{Flat, Join};
 use std::alloc::{AllocError, Global};
 use std::marker::Model;
@@ -39,10 +39,10 @@ pub struct Replica {
 }
 
 impl Model for Replica {
-    ghost use Rattle.pfair_replica.specs.HeldRows.{HeldRows};
+    ghost use Rattle.pfair_replica.specs.ReplicaRows.{ReplicaRows};
     ghost use Rattle.pfair_replica.specs.Counters.{IsKept};
 
-    ghost Value = { HeldRows };
+    ghost Value = { ReplicaRows };
 
     ghost view = { λ x. record { processors = x.processors; capacity = x.capacity; rows = x.rows } };
 
@@ -72,7 +72,7 @@ impl Replica {
     /// Returns the number of processors.
     pub fn processors(&self) -> u8
         ensures value { result ≡ self.now.processors }
-        ensures rows { IsHeldRows self.now }
+        ensures rows { IsReplicaRows self.now }
     {
         self.processors
     }
@@ -80,7 +80,7 @@ impl Replica {
     /// Returns how many entries a log can have; no number is greater.
     pub fn capacity(&self) -> u32
         ensures value { result ≡ self.now.capacity }
-        ensures rows { IsHeldRows self.now }
+        ensures rows { IsReplicaRows self.now }
     {
         self.capacity
     }
@@ -150,7 +150,6 @@ impl Replica {
         ensures partly { OnErr result (IsPartlyMerged (replica_of self.old) (replica_of other.now) (replica_of self.new)) }
         ensures offered { (result ≡ Err MergeFault.Memory → ⊥) → replica_of self.new ≡ absorbed (replica_of self.old) (replica_of other.now) }
         ensures grows { Below (replica_of self.old) (replica_of self.new) }
-        ensures within { Below (replica_of self.new) (join (replica_of self.old) (replica_of other.now)) }
         ensures shape { SameShape self.old self.new }
     {
         if self.processors != other.processors || self.capacity != other.capacity {
@@ -257,7 +256,7 @@ impl Replica {
     /// Returns [`AllocError`] if an allocation fails, which happens only if there is such an
     /// announcement. Some of the first ones are then added.
     pub fn note_said(&self, proc: u8, from: u32, agenda: &mut Agenda) -> Result<(), AllocError>
-        ensures heard { OnOk result ((t : ℕ) → said_at agenda.new t ≡ said_at agenda.old t ++ said_behind (replica_of self.now) t proc from) }
+        ensures noted { OnOk result ((t : ℕ) → said_at agenda.new t ≡ said_at agenda.old t ++ said_behind (replica_of self.now) t proc from) }
         ensures wanted { OnErr result ((t : ℕ) × (said_behind (replica_of self.now) t proc from ≢ [])) }
         ensures part { OnErr result ((t : ℕ) → IsPartOf (said_at agenda.old t) (said_at agenda.new t) (said_behind (replica_of self.now) t proc from)) }
     {
@@ -333,12 +332,17 @@ impl Replica {
 
 // Notes in an agenda what an entry says.
 fn note_said_by(proc: u8, number: u32, entry: Entry, agenda: &mut Agenda) -> Result<(), AllocError>
-    ensures heard { OnOk result ((t : ℕ) → said_at agenda.new t ≡ said_at agenda.old t ++ said_by t proc number entry.said) }
+    ensures noted { OnOk result ((t : ℕ) → said_at agenda.new t ≡ said_at agenda.old t ++ said_by t proc number entry.said) }
     ensures wanted { OnErr result (IsSome entry.said) }
     ensures unchanged { OnErr result ((t : ℕ) → said_at agenda.new t ≡ said_at agenda.old t) }
 {
     if let Some((stamp, announcement)) = entry.said() {
-        agenda.push(stamp, proc, number, announcement)?;
+        let said = Said {
+            proc,
+            number,
+            announcement,
+        };
+        agenda.push(stamp, said)?;
     }
     Ok(())
 }

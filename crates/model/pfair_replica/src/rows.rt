@@ -7,7 +7,7 @@ ghost use Rattle.pfair_lattice.specs.declared.flat.Flat.TheVariants.{One};
 ghost use Rattle.pfair_entry.specs.Entry.{Logged, IsEntry};
 ghost use Rattle.pfair_entry.specs.Same.{entry_eq};
 ghost use Rattle.pfair_replica.specs.Replica.{only};
-ghost use Rattle.pfair_replica.specs.HeldRows.{held_in, IsFull, AreEmptyRows};
+ghost use Rattle.pfair_replica.specs.ReplicaRows.{held_in, IsFull, AreEmptyRows};
 
 use pfair_entry::Entry;
 use pfair_lattice::{Flat, Join, JoinMap};

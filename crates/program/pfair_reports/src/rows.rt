@@ -12,19 +12,19 @@ use std::alloc::{AllocError, Global};
 
 /// Makes the rows of each table, and keeps no table.
 #[derive(Drop)]
-pub(crate) struct Rows {
+pub(crate) struct ReplayRows {
     writer: Writer<Vec<u8>>,
 }
 
-impl Rows {
+impl ReplayRows {
     /// The header.
-    pub(crate) fn new(alloc: Global) -> Result<Rows, AllocError>
+    pub(crate) fn new(alloc: Global) -> Result<ReplayRows, AllocError>
         ensures open { IfOk result (λ rows. IsOpen rows.writer) }
         ensures text { IfOk result (λ rows. text_so_far rows.writer ≡ replay_text []) }
     {
         let mut writer = new_text(alloc);
         add_replay_header(&mut writer)?;
-        Ok(Rows { writer })
+        Ok(ReplayRows { writer })
     }
 
     /// The text.
@@ -36,7 +36,7 @@ impl Rows {
     }
 }
 
-impl Sink for Rows {
+impl Sink for ReplayRows {
     ghost use Rattle.pfair_reports.specs.Runs.{has_rows};
 
     ghost has = { λ rows row tables. has_rows rows.writer row tables };

@@ -4,7 +4,7 @@ ghost use Rattle.pfair_file.specs.Commands.{IsCommandOf};
 ghost use Rattle.pfair_reports.specs.Runs.{IsFaultOfReplay, IsOutputOf, placed_replay_of_run, replay_of_run};
 
 use crate::dispatchers::first_run;
-use crate::rows::Rows;
+use crate::rows::ReplayRows;
 use pfair_board::Gate;
 use pfair_file::ProgramFault;
 use pfair_output::placed_replay_of;
@@ -45,7 +45,7 @@ pub fn replay<R: Read, W: Write, G: Gate + Sync>(
     ensures { IsCommandOf (IsOutputOf replay_of_run) (IsFaultOfReplay G.may_give_up) result
         (R.remaining reader.old) (R.remaining reader.new) (W.contents writer.old) (W.contents writer.new) }
 {
-    let rows = first_run(rt, alloc, reader, gate, Rows::new(alloc)?)?;
+    let rows = first_run(rt, alloc, reader, gate, ReplayRows::new(alloc)?)?;
     let text = rows.finish()?;
     Ok(send(writer, text.as_slice())?)
 }

@@ -6,7 +6,7 @@ use Rattle.clap.specs.declared.parser.matches.ArgMatches.{ArgMatches}
 use Rattle.pfair_words.specs.Answers.{ToAny, ToTaken, ToWords}
 use Rattle.pfair_words.specs.Parse.{IsParsed, Named}
 use Rattle.pfair_words.specs.declared.parse.Parsed.{Parsed}
-use Rattle.pfair_words.specs.declared.parse.Parsed.TheVariants.{Taken}
+use Rattle.pfair_words.specs.declared.parse.Parsed.TheVariants.{Matches}
 use Rattle.pfair_file.specs.declared.program_fault.ProgramFault.{ProgramFault}
 use Rattle.pfair_file.specs.declared.program_fault.ProgramFault.TheVariants.{Memory}
 
@@ -20,6 +20,6 @@ module _ {A : Type 0} (line : App) (to_command : Named → Result A ProgramFault
   answer words (Err Memory) h = tt
   answer words (Err fault) h = inl h
 
-  pub taken : (words : List Text) (app : App) (p : Parsed) (m : ArgMatches) (r : Result A ProgramFault) → app ≡ line → IsParsed app words p → p ≡ Taken m
+  pub taken : (words : List Text) (app : App) (p : Parsed) (m : ArgMatches) (r : Result A ProgramFault) → app ≡ line → IsParsed app words p → p ≡ Matches m
       → ToAny line to_command to_kind (subcommand_rows_of m) r → ToWords line to_command to_kind words r
   taken words app p m r e is at h = grind (arith, parsed_at, answer)

@@ -8,7 +8,7 @@ use Rattle.clap.specs.Walk.{one_of}
 use Rattle.clap.specs.declared.error.kind.ErrorKind.{ErrorKind}
 use Rattle.clap.specs.declared.error.kind.ErrorKind.TheVariants.{DisplayHelp, DisplayVersion, OutOfMemory}
 use Rattle.pfair_words.specs.declared.parse.Parsed.{Parsed}
-use Rattle.pfair_words.specs.declared.parse.Parsed.TheVariants.{Taken, Help, Refused}
+use Rattle.pfair_words.specs.declared.parse.Parsed.TheVariants.{Matches, Help, Refused}
 
 abbrev pub texts : List (String Global) → List Text
 texts words = map string_bytes words
@@ -69,11 +69,11 @@ IsUntaken line words P = (kind : ErrorKind) × IsAmong kind (fault_of line words
 
 -- what is made of words that the parser doesn't take, by the kind of its error
 abbrev pub IsUntakenAs : ErrorKind → Parsed → Type 0
-IsUntakenAs kind (Taken matches) = ⊥
+IsUntakenAs kind (Matches matches) = ⊥
 IsUntakenAs kind (Help text) = IsTextKind kind
 IsUntakenAs kind Refused = IsRefusalKind kind
 
 -- what is made of words
 abbrev pub IsParsed : App → List Text → Parsed → Type 0
-IsParsed line words (Taken matches) = IsTaken line words (λ named. subcommand_rows_of matches ≡ named)
+IsParsed line words (Matches matches) = IsTaken line words (λ named. subcommand_rows_of matches ≡ named)
 IsParsed line words parsed = IsUntaken line words (λ kind. IsUntakenAs kind parsed)

@@ -84,7 +84,7 @@ pub fn read_words(alloc: Global, words: &[String]) -> Result<Asked, ProgramFault
     ensures { IsAnswer (texts words.now) result }
 {
     match parse(alloc, command_line(alloc)?, words)? {
-        Parsed::Taken(matches) => read_matches(alloc, &matches),
+        Parsed::Matches(matches) => read_matches(alloc, &matches),
         Parsed::Help(text) => Ok(Asked::Help { text }),
         Parsed::Refused => Err(ProgramFault::CommandLine),
     }

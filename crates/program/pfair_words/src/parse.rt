@@ -14,7 +14,7 @@ use std::alloc::{AllocError, Global};
 #[derive(Drop)]
 pub(crate) enum Parsed<'a> {
     /// It takes them.
-    Taken(ArgMatches<'a>),
+    Matches(ArgMatches<'a>),
     /// They ask for a text about the program: how it is used, or its name and version.
     Help(String),
     /// It refuses them.
@@ -34,7 +34,7 @@ pub(crate) fn parse<'a>(
     ensures { IfOk result (IsParsed (app_of command.entry) (texts words.now)) }
 {
     match command.try_get_matches_from(words) {
-        Ok(matches) => Ok(Parsed::Taken(matches)),
+        Ok(matches) => Ok(Parsed::Matches(matches)),
         Err(error) => untaken(alloc, &error),
     }
 }

@@ -19,18 +19,22 @@ fn name(rt: &impl Abort, alloc: Global, place: u32) -> TaskName {
 
 // A task of the least weight there is.
 fn arrives(rt: &impl Abort, name: TaskName) -> Said
-    ensures { IsWithinLimits result.2 }
+    ensures { IsWithinLimits result.announcement }
 {
     let announcement = Announcement::Arrive {
         name,
         weight: Weight::new(1, 1_000_000_000).expect(rt, "a weight"),
         early: false,
     };
-    (0, 1, announcement)
+    Said {
+        proc: 0,
+        number: 1,
+        announcement,
+    }
 }
 
 fn arrivals(rt: &impl Abort, alloc: Global) -> Result<Vec<Said>, AllocError>
-    ensures { IfOk result (λ all. AllByRecursion (λ a. IsWithinLimits a.2) all.items) }
+    ensures { IfOk result (λ all. AllByRecursion (λ a. IsWithinLimits a.announcement) all.items) }
 {
     let mut announced = Vec::new(alloc);
     for place in 0..MANY {
@@ -41,7 +45,7 @@ fn arrivals(rt: &impl Abort, alloc: Global) -> Result<Vec<Said>, AllocError>
 
 // All are admitted, and stand in the order in which they were announced.
 fn hears(rt: &impl Abort, alloc: Global, members: &mut Members, announced: &[Said])
-    requires { AllByRecursion (λ a. IsWithinLimits a.2) announced.now }
+    requires { AllByRecursion (λ a. IsWithinLimits a.announcement) announced.now }
 {
     assert!(rt; announced.len() <= 262_144 && members.heard() == 0);
     assert!(rt; members.last_slot().is_none());

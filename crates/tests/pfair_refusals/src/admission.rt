@@ -113,9 +113,9 @@ fn walk(alloc: Global, members: &mut Members, steps: &[Step]) -> Look {
     Ok(true)
 }
 
-// What is said, which is within its limits.
-fn said(letter: u8, kind: Kind) -> Option<Said>
-    ensures { ForSome result (λ said. IsWithinLimits said.2) }
+// What is announced, which is within its limits.
+fn announcement_of(letter: u8, kind: Kind) -> Option<Announcement>
+    ensures { ForSome result (λ announcement. IsWithinLimits announcement) }
 {
     let name = name(letter)?;
     let announcement = match kind {
@@ -129,18 +129,22 @@ fn said(letter: u8, kind: Kind) -> Option<Said>
     };
     let entry = Entry::new(0, Some((0, announcement))).ok()?;
     let (_, announcement) = entry.said()?;
-    Some((0, 1, announcement))
+    Some(announcement)
 }
 
 fn announced(alloc: Global, heard: &[Told]) -> Made<Vec<Said>>
-    ensures { IfOk result (λ all. AllByRecursion (λ a. IsWithinLimits a.2) all.items) }
+    ensures { IfOk result (λ all. AllByRecursion (λ a. IsWithinLimits a.announcement) all.items) }
 {
     let mut all = Vec::new(alloc);
     for (letter, kind, _) in heard {
-        let Some(one) = said(*letter, *kind) else {
+        let Some(announcement) = announcement_of(*letter, *kind) else {
             return Err(AllocError);
         };
-        all.push(one)?;
+        all.push(Said {
+            proc: 0,
+            number: 1,
+            announcement,
+        })?;
     }
     Ok(all)
 }
@@ -157,7 +161,7 @@ enum Heard {
 
 // The boundary of a slot, which counts all that it heard, also if an allocation fails.
 fn hears(members: &mut Members, slot: u64, announced: &[Said], heard: &[Told]) -> Heard
-    requires { AllByRecursion (λ a. IsWithinLimits a.2) announced.now }
+    requires { AllByRecursion (λ a. IsWithinLimits a.announcement) announced.now }
 {
     let before = members.heard();
     let count = announced.len() as u64;

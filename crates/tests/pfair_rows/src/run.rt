@@ -14,7 +14,7 @@ const CAPACITY: u32 = 256;
 
 /// A run, and what is wanted of it.
 #[derive(Clone, Copy)]
-pub(crate) struct Run<'a> {
+pub(crate) struct Example<'a> {
     /// The number of processors, the frame and the number of slots.
     pub machine: &'a str,
     pub events: &'a str,
@@ -76,7 +76,7 @@ pub(crate) fn held(
 }
 
 // The events of a run.
-fn events_of(rt: &impl Abort, alloc: Global, run: Run<'_>) -> Vec<Event> {
+fn events_of(rt: &impl Abort, alloc: Global, run: Example<'_>) -> Vec<Event> {
     let mut events = Vec::new(alloc);
     for part in run.events.split(';') {
         match part.trim().strip_prefix("absorb ") {
@@ -92,7 +92,7 @@ fn events_of(rt: &impl Abort, alloc: Global, run: Run<'_>) -> Vec<Event> {
 }
 
 // Asserts what a dispatcher has planned and decided.
-fn assert_left<R: Ready>(rt: &impl Abort, alloc: Global, left: &Dispatcher<R>, run: Run<'_>) {
+fn assert_left<R: Ready>(rt: &impl Abort, alloc: Global, left: &Dispatcher<R>, run: Example<'_>) {
     let mut text = String::new(alloc);
     assert!(rt; push_tables(&mut text, left).is_ok());
     assert_eq!(rt; text.as_str(), run.tables);
@@ -127,7 +127,7 @@ fn assert_over<R: Ready>(
     alloc: Global,
     settings: Settings,
     events: &[Event],
-    run: Run<'_>,
+    run: Example<'_>,
 ) {
     // settings have 1 to 64 processors
     prove!(settings.processors() <= Settings::MAX_PROCESSORS);
@@ -140,7 +140,7 @@ fn assert_over<R: Ready>(
 }
 
 /// Asserts what is wanted of a run, over plain lists and over heaps.
-pub(crate) fn assert_run(rt: &impl Abort, alloc: Global, run: Run<'_>) {
+pub(crate) fn assert_run(rt: &impl Abort, alloc: Global, run: Example<'_>) {
     let settings = settings_of(rt, alloc, run.machine);
     let events = events_of(rt, alloc, run);
     assert_over::<PlainReady>(rt, alloc, settings, &events, run);
@@ -152,7 +152,7 @@ pub(crate) fn assert_run(rt: &impl Abort, alloc: Global, run: Run<'_>) {
 pub(crate) fn assert_runs(rt: &impl Abort, alloc: Global, text: &str) {
     for part in text.split("\n\n") {
         let lines: Vec<&str> = part.trim().lines().collect(alloc).expect(rt, "memory");
-        let run = Run {
+        let run = Example {
             machine: word(&lines, 1),
             events: word(&lines, 2),
             answers: word(&lines, 3),

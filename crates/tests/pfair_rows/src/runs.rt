@@ -1,6 +1,6 @@
 //! Worked runs.
 
-use crate::run::{Run, assert_run, assert_runs, held, left};
+use crate::run::{Example, assert_run, assert_runs, held, left};
 use pfair_lag::LagBook;
 use pfair_output::{add_lags_from, add_lags_header};
 use pfair_ready::{HeapReady, Ready};
@@ -146,7 +146,7 @@ fn runs_of_events(rt: HostRuntime) {
 // early. The tables, decisions and lags are those of another planner, written from the rules alone
 // in another language. The late task b passes a lag of 1, and the early task d one of -1; neither
 // misses a deadline. The others stay within the two.
-const FULL: Run<'static> = Run {
+const FULL: Example<'static> = Example {
     machine: "2 12 12",
     events: "0 1 0 0 arrive a 1 2; 0 2 0 0 arrive b 1 3; 1 1 0 0 arrive c 3 6; 1 2 0 0 early d 8 12; \
         1 3 2 2 late b 2 2; 0 3 4 4 depart a; 0 4 4 4 arrive e 2 4; 0 5 5 5 arrive e 2 4; 0 6 12; 1 4 12; plan 13",
@@ -236,7 +236,7 @@ const HALVES: &str =
 const MACHINE: &str = "2 6 6";
 
 // What one processor holds back keeps the others from planning.
-const SHORT: Run<'static> = Run {
+const SHORT: Example<'static> = Example {
     machine: MACHINE,
     events: "0 1 0 0 arrive a 1 2; 0 2 0 0 arrive b 2 3; 0 3 2 2 depart a; 0 4 4; 0 5 6; 1 1 0 0 arrive c 1 3; \
         1 2 1 3 arrive d 1 2; plan 2",
@@ -249,7 +249,7 @@ const SHORT: Run<'static> = Run {
 #[test]
 fn ten_entries_in_any_order_and_in_parts(rt: HostRuntime) {
     for (events, answers) in TEN {
-        let run = Run {
+        let run = Example {
             machine: MACHINE,
             events,
             answers,

@@ -4,7 +4,7 @@ use crate::devices::Sink;
 use pfair_board::{LookFault, PublishFault, RunFault};
 use pfair_entry::{Entry, EntryFault, NoteFault, NoticeFault};
 use pfair_entry_row::RowFault;
-use pfair_feed::tell_refused;
+use pfair_feed::report_refused;
 use pfair_file::{Field, FileFault, ProgramFault, write_line};
 use pfair_lag::PickFault;
 use pfair_replica::{MergeFault, TakeFault};
@@ -196,7 +196,7 @@ fn refused_rows_are_reported_in_one_write(rt: HostRuntime) {
     ];
     let mut writer = Sink::of(rt.alloc(), usize::MAX);
     for fault in &faults {
-        tell_refused(&mut writer, fault, b"x\x07");
+        report_refused(&mut writer, fault, b"x\x07");
     }
     assert_eq!(&rt; writer.taken.as_slice(), OF_ROWS.as_bytes());
     assert_eq!(&rt; writer.calls, faults.len());

@@ -89,10 +89,10 @@ fn is_taken<R: Ready>(
     let closing = closing_entry(rt, 4);
     let fault = follower.take(writer, 0, 2, closing).err();
     if fault.is_none() {
-        assert!(rt; follower.told() == 4 && writer.flushed == writer.taken.len());
+        assert!(rt; follower.unwritten() == 4 && writer.flushed == writer.taken.len());
         return true;
     }
-    assert!(rt; fault == Some(ProgramFault::WriteFailed) && follower.told() == 0);
+    assert!(rt; fault == Some(ProgramFault::WriteFailed) && follower.unwritten() == 0);
     assert!(rt; follower.take(anew, 0, 2, closing) == Ok(Taken::Known));
     assert_eq!(rt; anew.len(), whole.len().saturating_sub(header));
     assert!(rt; whole.as_bytes().ends_with(anew.as_slice()));

@@ -6,11 +6,11 @@ use std::rt::Env;
 
 // A command line.
 #[derive(Drop)]
-struct Line {
+struct GivenLine {
     words: &'static [&'static [u8]],
 }
 
-impl Env for Line {
+impl Env for GivenLine {
     fn arg(&self, i: usize, buf: &mut [u8]) -> Result<usize, FillError> {
         let Some(word) = self.words.get(i) else {
             return Err(FillError::NotPresent);
@@ -33,14 +33,14 @@ impl Env for Line {
 
 #[test]
 fn words_behind_the_name(rt: HostRuntime) {
-    let line = Line {
+    let line = GivenLine {
         words: &[b"pfair", b"lags", b"tasks.toml"],
     };
     let words = given_words(&(line, rt.alloc()), ProgramFault::CommandLine).expect(&rt, "words");
     assert!(&rt;
         words.len() == 2 && words[0].as_str() == "lags" && words[1].as_str() == "tasks.toml"
     );
-    let line = Line {
+    let line = GivenLine {
         words: &[b"pfair", b"\xff"],
     };
     let fault = given_words(&(line, rt.alloc()), ProgramFault::CommandLine).err();

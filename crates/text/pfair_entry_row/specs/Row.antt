@@ -6,7 +6,7 @@ use Rattle.pfair_entry.specs.Entry.{Logged}
 use Rattle.pfair_entry.specs.Notice.{IsLoggable}
 use Rattle.pfair_entry.specs.declared.announcement.Announcement.{Announcement}
 use Rattle.pfair_entry.specs.declared.announcement.Announcement.TheVariants.{Arrive, Depart, Late}
-use Rattle.pfair_entry_row.specs.declared.write.Said.{Said}
+use Rattle.pfair_entry_row.specs.declared.write.StampedFields.{StampedFields}
 
 -- what stands where an entry has nothing
 abbrev pub dash : List ℕ
@@ -28,7 +28,7 @@ said_fields None = dash ∷ dash ∷ dash ∷ dash ∷ dash ∷ dash ∷ dash �
 said_fields (Some s) = decimal s.0 ∷ announced_fields s.1
 
 -- what a row has from the stamp on, field by field
-abbrev pub fields_of : Said → List (List ℕ)
+abbrev pub fields_of : StampedFields → List (List ℕ)
 fields_of s = s.at.now ∷ s.kind.now ∷ s.name.now ∷ s.cost.now ∷ s.period.now ∷ s.early.now ∷ s.index.now ∷ s.by.now ∷ []
 
 -- an entry after its processor and its number

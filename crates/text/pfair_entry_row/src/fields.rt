@@ -53,7 +53,8 @@ pub(crate) fn cut_fields(row: &[u8]) -> Option<Fields<'_>>
 
 /// Returns what is before the first separator of a text and what is after it, if it has one. O(bytes).
 pub fn cut(text: &[u8], separator: u8) -> Option<(&[u8], &[u8])>
-    ensures parts { MatchOption result (parts_at separator text.now ≡ text.now ∷ []) (λ p. HasNone separator p.0.now × (parts_at separator text.now ≡ p.0.now ∷ parts_at separator p.1.now)) }
+    ensures parts { MatchOption result (parts_at separator text.now ≡ text.now ∷ [])
+        (λ p. HasNone separator p.0.now × (parts_at separator text.now ≡ p.0.now ∷ parts_at separator p.1.now)) }
     ensures less { IfSome result (λ p. length p.1.now < length text.now) }
 {
     let at = text.iter().position(|byte| *byte == separator)?;

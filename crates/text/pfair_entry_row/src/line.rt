@@ -20,7 +20,8 @@ pub(crate) struct Line<'a> {
 
 /// What a row says, if it says something.
 pub(crate) fn read_line(row: &[u8]) -> Option<Line<'_>>
-    ensures { MatchOption result (SaysNothing row.now) (λ l. IsSayable l.processor l.number (logged l) × (row.now ≡ entry_row l.processor l.number (logged l))) }
+    ensures { MatchOption result (SaysNothing row.now)
+        (λ l. IsSayable l.processor l.number (logged l) × (row.now ≡ entry_row l.processor l.number (logged l))) }
 {
     let fields = cut_fields(row)?;
     let processor = read_number(fields.processor)?;

@@ -24,7 +24,8 @@ pub const LONGEST_ROW: usize = 256;
 /// [`RowFault::NumberOutOfRange`] if the number doesn't fit into 32 bits.
 pub fn read_row(row: &[u8]) -> Result<(u8, u32, Entry), RowFault>
     ensures reading { IsReadingOf row.now result }
-    ensures back { (processor number : ℕ) (e : Logged) → IsEntryAt processor number e → row.now ≡ entry_row processor number e → result ≡ Ok (processor, number, e) }
+    ensures back { (processor number : ℕ) (e : Logged) → IsEntryAt processor number e
+        → row.now ≡ entry_row processor number e → result ≡ Ok (processor, number, e) }
 {
     match read_line(row) {
         Some(line) => entry_of(&line),

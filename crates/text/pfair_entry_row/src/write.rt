@@ -13,7 +13,7 @@ use std::alloc::AllocError;
 
 // What a row has from the stamp on.
 #[derive(Clone, Copy)]
-struct Said<'a> {
+struct StampedFields<'a> {
     at: &'a [u8],
     kind: &'a [u8],
     name: &'a [u8],
@@ -38,10 +38,11 @@ pub fn add_entry(
 ) -> Result<(), AllocError>
     requires { IsOpen writer.old }
     ensures open { OnOk result (IsOpen writer.new) }
-    ensures text { OnOk result (text_so_far writer.new ≡ text_so_far writer.old ++ line (entry_fields processor number entry.now)) }
+    ensures text { OnOk result (text_so_far writer.new ≡ text_so_far writer.old
+        ++ line (entry_fields processor number entry.now)) }
     ensures entry { IsEntryAt processor number entry.now }
 {
-    let nothing = Said {
+    let nothing = StampedFields {
         at: b"-",
         kind: b"-",
         name: b"-",
@@ -64,7 +65,7 @@ pub fn add_entry(
             early,
         } => {
             let (mut cost, mut period) = (Buffer::new(), Buffer::new());
-            let said = Said {
+            let said = StampedFields {
                 at,
                 kind: b"arrive",
                 name: name.as_bytes(),
@@ -76,7 +77,7 @@ pub fn add_entry(
             add_said(writer, processor, number, floor, said)
         }
         Announcement::Depart { name } => {
-            let said = Said {
+            let said = StampedFields {
                 at,
                 kind: b"depart",
                 name: name.as_bytes(),
@@ -86,7 +87,7 @@ pub fn add_entry(
         }
         Announcement::Late { name, index, by } => {
             let (mut subtask, mut delay) = (Buffer::new(), Buffer::new());
-            let said = Said {
+            let said = StampedFields {
                 at,
                 kind: b"late",
                 name: name.as_bytes(),
@@ -105,12 +106,13 @@ fn add_said(
     processor: u8,
     number: u32,
     floor: u64,
-    said: Said<'_>,
+    said: StampedFields<'_>,
 ) -> Result<(), AllocError>
     requires open { IsOpen writer.old }
     requires plain { IsTrue (list_all is_plain (fields_of said)) }
     ensures open { OnOk result (IsOpen writer.new) }
-    ensures text { OnOk result (text_so_far writer.new ≡ text_so_far writer.old ++ line (decimal processor ∷ decimal number ∷ decimal floor ∷ fields_of said.entry)) }
+    ensures text { OnOk result (text_so_far writer.new ≡ text_so_far writer.old
+        ++ line (decimal processor ∷ decimal number ∷ decimal floor ∷ fields_of said.entry)) }
 {
     add_row(
         writer,

@@ -7,7 +7,7 @@ use Rattle.pfair_admission.specs.Member.{Member}
 use Rattle.pfair_lag.specs.Book.{Book, empty_book}
 use Rattle.pfair_table.specs.Table.{Origin}
 use Rattle.pfair_text.proofs.RowFacts.{first_left}
-use Rattle.pfair_output.specs.Told.{all_entered, entered_again, first_book}
+use Rattle.pfair_output.specs.Booked.{all_entered, entered_again, first_book}
 use Rattle.pfair_output.proofs.WorldFacts.{entered_time}
 
 entered_more : (slot : ℕ) (ms : List Member) (place : ℕ) (m : Member) (b : Book) → slice_get ms place ≡ Some m

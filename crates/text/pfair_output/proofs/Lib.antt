@@ -3,5 +3,5 @@ mod PlacedFacts
 pub mod RunFacts
 mod SignedFacts
 pub mod SlotFacts
-pub mod ToldFacts
+pub mod BookedFacts
 pub mod WorldFacts

@@ -13,7 +13,7 @@ use Rattle.pfair_output.specs.Decisions.{decided_rows}
 use Rattle.pfair_output.specs.Lags.{lag_rows}
 use Rattle.pfair_output.specs.Runs.{decided_below}
 use Rattle.pfair_output.specs.Slots.{slots_from}
-use Rattle.pfair_output.specs.Told.{book_rows, slot_told}
+use Rattle.pfair_output.specs.Booked.{book_rows, slot_booked}
 use Rattle.pfair_table.proofs.Runs.{length_numbers}
 use Rattle.pfair_output.proofs.WorldFacts.{book_after, rows_after}
 
@@ -52,14 +52,14 @@ module _ (s : Settings) (x : Replica) (n : ℕ) (start before after : List ℕ) 
       ∙ ap (λ ds. start ++ lines_text (slots_from decided_rows 0 ds)) (sym (map-append (decisions s x) (numbers_below n) (n ∷ [])) ∙ ap (decided_below s x) (sym next_number))
 
   -- a book that was notified of the slots so far, and then of the next one
-  pub book_more : (old new : Book) → old ≡ book_after s x n → new ≡ slot_told (decisions s x n) (table s x n) old → new ≡ book_after s x (n + 1)
-  book_more old new had has = has ∙ ap (slot_told (decisions s x n) (table s x n)) had ∙ ap (book_after s x) (sym next_number)
+  pub book_more : (old new : Book) → old ≡ book_after s x n → new ≡ slot_booked (decisions s x n) (table s x n) old → new ≡ book_after s x (n + 1)
+  book_more old new had has = has ∙ ap (slot_booked (decisions s x n) (table s x n)) had ∙ ap (book_after s x) (sym next_number)
 
   -- a text with the lags of the slots so far, and then with those of the next one
   pub lags_more : (book : Book) → book ≡ book_after s x (n + 1) → before ≡ start ++ lines_text (flat_map (lag_rows s x) (numbers_below n)) → after ≡ before ++ lines_text (book_rows book)
       → after ≡ start ++ lines_text (flat_map (lag_rows s x) (numbers_below (n + 1)))
-  lags_more book told had has =
-      let rows_are : book_rows book ≡ lag_rows s x n = ap book_rows (told ∙ ap (book_after s x) next_number) ∙ rows_after s x n in
+  lags_more book booked had has =
+      let rows_are : book_rows book ≡ lag_rows s x n = ap book_rows (booked ∙ ap (book_after s x) next_number) ∙ rows_after s x n in
       text_more start before after (flat_map (lag_rows s x) (numbers_below n)) (lag_rows s x n) had (has ∙ ap (λ rows. before ++ lines_text rows) rows_are)
       ∙ ap (λ rows. start ++ lines_text rows)
       (ap (λ more. flat_map (lag_rows s x) (numbers_below n) ++ more) (sym (append-nil (lag_rows s x n)))

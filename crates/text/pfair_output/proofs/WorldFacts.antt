@@ -11,9 +11,9 @@ use Rattle.pfair_weight.specs.Share.{Share}
 use Rattle.pfair_weight.proofs.NamesApart.{apart_head, apart_nil, apart_tail}
 use Rattle.pfair_entry.specs.declared.announcement.Announcement.{Announcement}
 use Rattle.pfair_entry.specs.declared.announcement.Announcement.TheVariants.{Arrive, Depart, Late}
-use Rattle.pfair_entry.specs.Said.{Said}
+use Rattle.pfair_entry.specs.declared.said.Said.{Said}
 use Rattle.pfair_replica.specs.Replica.{Replica, frontier, said, numbers_below}
-use Rattle.pfair_replica.specs.HeldRows.{replica_of}
+use Rattle.pfair_replica.specs.ReplicaRows.{replica_of}
 use Rattle.pfair_table.specs.Refinement.{Dispatch, IsWholePlan}
 use Rattle.pfair_admission.specs.declared.decision.Decision.{Decision}
 use Rattle.pfair_admission.specs.declared.decision.Decision.TheVariants.{Admitted, Departing, Delayed, Refused}
@@ -24,14 +24,14 @@ use Rattle.pfair_table.specs.declared.pick.Decided.{Decided}
 use Rattle.pfair_table.specs.Table.{Settings, Origin, Story, Table, machine, members_before, names_task, slot_of, history_over, world_over, table_over, decisions_over, table, with_decisions, decisions, decisions_from, plan_from}
 use Rattle.pfair_lag.specs.Book.{Tally, Book, empty_book, tally_of, has_run, entered_after, entered_with, slot_more}
 use Rattle.pfair_output.specs.Lags.{is_staying, lag_row, lag_rows}
-use Rattle.pfair_output.specs.Told.{told, all_told, slot_told, all_slots_told, tally_row, book_rows, rows_told, all_entered, entered_again, first_book}
+use Rattle.pfair_output.specs.Booked.{booked, all_booked, slot_booked, all_slots_booked, tally_row, book_rows, rows_booked, all_entered, entered_again, first_book}
 use Rattle.pfair_admission.proofs.Deciding.{admitted_new}
 use Rattle.pfair_admission.proofs.Each.{each_map}
 use Rattle.pfair_table.proofs.Members.{label, named_from}
 use Rattle.pfair_table.proofs.NextIndexes.{after_table, all_ran_is, each_boundary}
 use Rattle.pfair_table.proofs.RunsOn.{slot_more as slot_later}
 use Rattle.pfair_table.proofs.TableLaws.{rows_apart}
-use Rattle.pfair_output.proofs.ToldFacts.{time-all_told}
+use Rattle.pfair_output.proofs.BookedFacts.{time-all_booked}
 
 -- what a book has of a member
 abbrev pub shown : ℕ → Member → NameValue × Tally
@@ -129,33 +129,33 @@ shown_late t name index by (m ∷ ms) =
 
 -- ---- one announcement
 
-one_told : (machine : Machine) (t : ℕ) (ms : List Member) (a : Announcement) (d : Decision) (book : Book)
+one_booked : (machine : Machine) (t : ℕ) (ms : List Member) (a : Announcement) (d : Decision) (book : Book)
     → d ≡ decision machine t ms a → book.entered ≡ shown_all t ms
-    → (told a d book).entered ≡ shown_all t (effect t ms a d)
-one_told machine t ms (Arrive name w early) Admitted book is at = entered_new t ms name w early book at (admitted_new machine ms name w is)
-one_told machine t ms (Arrive name w early) (Departing slot) book is at = at
-one_told machine t ms (Arrive name w early) Delayed book is at = at
-one_told machine t ms (Arrive name w early) (Refused why) book is at = at
-one_told machine t ms (Depart name) Admitted book is at = at
-one_told machine t ms (Depart name) (Departing slot) book is at = ap (filter (λ (e : NameValue × Tally). not (name_eq name e.0))) at ∙ shown_left t name slot ms
-one_told machine t ms (Depart name) Delayed book is at = at
-one_told machine t ms (Depart name) (Refused why) book is at = at
-one_told machine t ms (Late name index by) Admitted book is at = at
-one_told machine t ms (Late name index by) (Departing slot) book is at = at
-one_told machine t ms (Late name index by) Delayed book is at = at ∙ sym (shown_late t name index by ms)
-one_told machine t ms (Late name index by) (Refused why) book is at = at
+    → (booked a d book).entered ≡ shown_all t (effect t ms a d)
+one_booked machine t ms (Arrive name w early) Admitted book is at = entered_new t ms name w early book at (admitted_new machine ms name w is)
+one_booked machine t ms (Arrive name w early) (Departing slot) book is at = at
+one_booked machine t ms (Arrive name w early) Delayed book is at = at
+one_booked machine t ms (Arrive name w early) (Refused why) book is at = at
+one_booked machine t ms (Depart name) Admitted book is at = at
+one_booked machine t ms (Depart name) (Departing slot) book is at = ap (filter (λ (e : NameValue × Tally). not (name_eq name e.0))) at ∙ shown_left t name slot ms
+one_booked machine t ms (Depart name) Delayed book is at = at
+one_booked machine t ms (Depart name) (Refused why) book is at = at
+one_booked machine t ms (Late name index by) Admitted book is at = at
+one_booked machine t ms (Late name index by) (Departing slot) book is at = at
+one_booked machine t ms (Late name index by) Delayed book is at = at ∙ sym (shown_late t name index by ms)
+one_booked machine t ms (Late name index by) (Refused why) book is at = at
 
 -- ---- all of a slot
 
-all_of_slot : (machine : Machine) (t : ℕ) (heard : List Said) (ms : List Member) (book : Book)
+all_of_slot : (machine : Machine) (t : ℕ) (announced : List Said) (ms : List Member) (book : Book)
     → book.entered ≡ shown_all t ms
-    → (all_told (with_decisions heard (all_decisions machine t ms (announcements heard))) book).entered ≡ shown_all t (all_decided machine t ms (announcements heard))
+    → (all_booked (with_decisions announced (all_decisions machine t ms (announcements announced))) book).entered ≡ shown_all t (all_decided machine t ms (announcements announced))
 all_of_slot machine t [] ms book at = at
 all_of_slot machine t (a ∷ more) ms book at =
-    let d : Decision = decision machine t ms a.2 in
-    let after : List Member = effect t ms a.2 d in
-    let one : (told a.2 d book).entered ≡ shown_all t after = one_told machine t ms a.2 d book refl at in
-    all_of_slot machine t more (present t after) (told a.2 d book) (one ∙ ap (map (shown t)) (sym (staying_present t after)))
+    let d : Decision = decision machine t ms a.announcement in
+    let after : List Member = effect t ms a.announcement d in
+    let one : (booked a.announcement d book).entered ≡ shown_all t after = one_booked machine t ms a.announcement d book refl at in
+    all_of_slot machine t more (present t after) (booked a.announcement d book) (one ∙ ap (map (shown t)) (sym (staying_present t after)))
 
 -- ---- the table of a slot
 
@@ -196,9 +196,9 @@ all_recorded slot rows (m ∷ ms) j =
 -- ---- slot after slot
 
 module _ (o : Origin) (s : Settings) (x : Story) (named : NamesApart label (members_before o)) (begun : AllByRecursion (HasJoined (slot_of o 0)) (members_before o)) where
-  joined_at : (slot : ℕ) (told : List Said) (members : List Member) → AllByRecursion (HasJoined slot) members → AllByRecursion (HasJoined slot) (all_decided (machine s) slot (present slot members) (announcements told))
-  joined_at slot told members all =
-      each_boundary slot (HasJoined slot) (λ name w early. (omega arith, omega arith)) (λ freed m h. h) (λ index by m h. h) (machine s) (announcements told) members all
+  joined_at : (slot : ℕ) (booked : List Said) (members : List Member) → AllByRecursion (HasJoined slot) members → AllByRecursion (HasJoined slot) (all_decided (machine s) slot (present slot members) (announcements booked))
+  joined_at slot booked members all =
+      each_boundary slot (HasJoined slot) (λ name w early. (omega arith, omega arith)) (λ freed m h. h) (λ index by m h. h) (machine s) (announcements booked) members all
 
   ran_is : (t : ℕ) → (history_over o s x (suc t)).members ≡ map (after_table (table_over o s x t)) (world_over o s x t)
   ran_is t = all_ran_is (table_over o s x t) (rows_apart s.processors (slot_of o t) (world_over o s x t) (named_from o s named x t)) (world_over o s x t)
@@ -215,14 +215,14 @@ module _ (o : Origin) (s : Settings) (x : Story) (named : NamesApart label (memb
   -- a book that was notified of so many slots
   abbrev pub book_over : Book → ℕ → Book
   book_over book zero = book
-  book_over book (suc t) = slot_told (decisions_over o s x t) (table_over o s x t) (book_over book t)
+  book_over book (suc t) = slot_booked (decisions_over o s x t) (table_over o s x t) (book_over book t)
 
   pub record IsAfter (t : ℕ) (book : Book) : Type 0 where
     pub time_is : book.time ≡ t
     pub entered_is : book.entered ≡ shown_all (slot_of o t) (history_over o s x t).members
 
   -- a slot more
-  after_more : (t : ℕ) (book : Book) → IsAfter t book → IsAfter (suc t) (slot_told (decisions_over o s x t) (table_over o s x t) book)
+  after_more : (t : ℕ) (book : Book) → IsAfter t book → IsAfter (suc t) (slot_booked (decisions_over o s x t) (table_over o s x t) book)
   after_more t book a =
       let slot = slot_of o t in
       let start = (history_over o s x t).members in
@@ -230,12 +230,12 @@ module _ (o : Origin) (s : Settings) (x : Story) (named : NamesApart label (memb
       let rows = table_over o s x t in
       let next : suc slot ≡ slot + 1 = omega arith in
       let opened : book.entered ≡ shown_all slot (present slot start) = a.entered_is ∙ ap (map (shown slot)) (sym (staying_present slot start)) in
-      let told : (all_told (decisions_over o s x t) book).entered ≡ shown_all slot world = all_of_slot (machine s) slot (x t) (present slot start) book opened in
-      let closed : (slot_told (decisions_over o s x t) rows book).entered ≡ shown_all (slot + 1) (map (after_table rows) world) =
-      ap (map (λ (e : NameValue × Tally). (e.0, slot_more (map (λ (p : Pick). p.name) rows) e.0 e.1))) told ∙ all_recorded slot rows world (joined_at slot (x t) start (joined_history t)) in
+      let booked : (all_booked (decisions_over o s x t) book).entered ≡ shown_all slot world = all_of_slot (machine s) slot (x t) (present slot start) book opened in
+      let closed : (slot_booked (decisions_over o s x t) rows book).entered ≡ shown_all (slot + 1) (map (after_table rows) world) =
+      ap (map (λ (e : NameValue × Tally). (e.0, slot_more (map (λ (p : Pick). p.name) rows) e.0 e.1))) booked ∙ all_recorded slot rows world (joined_at slot (x t) start (joined_history t)) in
       let now : t + 1 ≡ suc t = omega arith in
       record {
-        time_is = ap (λ n. n + 1) (time-all_told (decisions_over o s x t) book ∙ a.time_is) ∙ now;
+        time_is = ap (λ n. n + 1) (time-all_booked (decisions_over o s x t) book ∙ a.time_is) ∙ now;
         entered_is = closed ∙ (λ i. shown_all ((sym next ∙ sym (slot_later o t)) i) (sym (ran_is t) i));
       }
 
@@ -313,27 +313,27 @@ module _ (s : Settings) (x : Replica) where
 -- ---- the whole
 
 rows_push : (book : Book) (ds : List (List Decided)) (ts : List Table) (d : List Decided) (t : Table) → length ds ≡ length ts
-    → rows_told book (ds ++ d ∷ []) (ts ++ t ∷ []) ≡ rows_told book ds ts ++ book_rows (slot_told d t (all_slots_told book ds ts))
-rows_push book [] [] d t e = append-nil (book_rows (slot_told d t book))
+    → rows_booked book (ds ++ d ∷ []) (ts ++ t ∷ []) ≡ rows_booked book ds ts ++ book_rows (slot_booked d t (all_slots_booked book ds ts))
+rows_push book [] [] d t e = append-nil (book_rows (slot_booked d t book))
 rows_push book [] (u ∷ ts) d t e = absurd (omega arith)
 rows_push book (c ∷ ds) [] d t e = absurd (omega arith)
 rows_push book (c ∷ ds) (u ∷ ts) d t e =
-    ap (λ l. book_rows (slot_told c u book) ++ l) (rows_push (slot_told c u book) ds ts d t (omega arith))
-    ∙ sym (append_assoc (book_rows (slot_told c u book)) (rows_told (slot_told c u book) ds ts) (book_rows (slot_told d t (all_slots_told (slot_told c u book) ds ts))))
+    ap (λ l. book_rows (slot_booked c u book) ++ l) (rows_push (slot_booked c u book) ds ts d t (omega arith))
+    ∙ sym (append_assoc (book_rows (slot_booked c u book)) (rows_booked (slot_booked c u book) ds ts) (book_rows (slot_booked d t (all_slots_booked (slot_booked c u book) ds ts))))
 
 over_push : (book : Book) (ds : List (List Decided)) (ts : List Table) (d : List Decided) (t : Table) → length ds ≡ length ts
-    → all_slots_told book (ds ++ d ∷ []) (ts ++ t ∷ []) ≡ slot_told d t (all_slots_told book ds ts)
+    → all_slots_booked book (ds ++ d ∷ []) (ts ++ t ∷ []) ≡ slot_booked d t (all_slots_booked book ds ts)
 over_push book [] [] d t e = refl
 over_push book [] (u ∷ ts) d t e = absurd (omega arith)
 over_push book (c ∷ ds) [] d t e = absurd (omega arith)
-over_push book (c ∷ ds) (u ∷ ts) d t e = over_push (slot_told c u book) ds ts d t (omega arith)
+over_push book (c ∷ ds) (u ∷ ts) d t e = over_push (slot_booked c u book) ds ts d t (omega arith)
 
 same_length : {A B C : Type 0} (f : A → B) (g : A → C) (xs : List A) → length (map f xs) ≡ length (map g xs)
 same_length f g [] = refl
 same_length f g (y ∷ ys) = ap suc (same_length f g ys)
 
 module _ (o : Origin) (s : Settings) (x : Story) (named : NamesApart label (members_before o)) (begun : AllByRecursion (HasJoined (slot_of o 0)) (members_before o)) (book : Book) where
-  pub over_slots : (n : ℕ) → all_slots_told book (map (decisions_over o s x) (numbers_below n)) (map (table_over o s x) (numbers_below n)) ≡ book_over o s x named begun book n
+  pub over_slots : (n : ℕ) → all_slots_booked book (map (decisions_over o s x) (numbers_below n)) (map (table_over o s x) (numbers_below n)) ≡ book_over o s x named begun book n
   over_slots zero = refl
   over_slots (suc n) =
       let ds = decisions_over o s x in
@@ -343,23 +343,23 @@ module _ (o : Origin) (s : Settings) (x : Story) (named : NamesApart label (memb
 
 module _ (s : Settings) (x : Replica) where
   -- the rows of the book that is notified of the first n slots are those of the members
-  pub rows_of_slots : (n : ℕ) → rows_told empty_book (map (decisions s x) (numbers_below n)) (map (table s x) (numbers_below n)) ≡ flat_map (lag_rows s x) (numbers_below n)
+  pub rows_of_slots : (n : ℕ) → rows_booked empty_book (map (decisions s x) (numbers_below n)) (map (table s x) (numbers_below n)) ≡ flat_map (lag_rows s x) (numbers_below n)
   rows_of_slots zero = refl
   rows_of_slots (suc n) =
       let ds : List (List Decided) = map (decisions s x) (numbers_below n) in
       let ts : List Table = map (table s x) (numbers_below n) in
-      ap (λ l. rows_told empty_book l (map (table s x) (numbers_below (suc n)))) (map-append (decisions s x) (numbers_below n) (n ∷ []))
-      ∙ ap (rows_told empty_book (ds ++ decisions s x n ∷ [])) (map-append (table s x) (numbers_below n) (n ∷ []))
+      ap (λ l. rows_booked empty_book l (map (table s x) (numbers_below (suc n)))) (map-append (decisions s x) (numbers_below n) (n ∷ []))
+      ∙ ap (rows_booked empty_book (ds ++ decisions s x n ∷ [])) (map-append (table s x) (numbers_below n) (n ∷ []))
       ∙ rows_push empty_book ds ts (decisions s x n) (table s x n) (same_length (decisions s x) (table s x) (numbers_below n))
-      ∙ ap (λ l. l ++ book_rows (slot_told (decisions s x n) (table s x n) (all_slots_told empty_book ds ts))) (rows_of_slots n)
-      ∙ ap (λ (b : Book). flat_map (lag_rows s x) (numbers_below n) ++ book_rows (slot_told (decisions s x n) (table s x n) b)) (over_slots None s (said x) (apart_nil label) tt empty_book n)
+      ∙ ap (λ l. l ++ book_rows (slot_booked (decisions s x n) (table s x n) (all_slots_booked empty_book ds ts))) (rows_of_slots n)
+      ∙ ap (λ (b : Book). flat_map (lag_rows s x) (numbers_below n) ++ book_rows (slot_booked (decisions s x n) (table s x n) b)) (over_slots None s (said x) (apart_nil label) tt empty_book n)
       ∙ ap (λ l. flat_map (lag_rows s x) (numbers_below n) ++ l) (rows_after s x n ∙ sym (append-nil (lag_rows s x n)))
       ∙ sym (flat_map-append (lag_rows s x) (numbers_below n) (n ∷ []))
 
 -- the rows of a first run's whole plan
-pub whole_rows : (d : Dispatch) → d.origin ≡ None → IsWholePlan d → rows_told empty_book d.decided d.tables ≡ flat_map (lag_rows d.settings (replica_of d.held)) (numbers_below (min (frontier (replica_of d.held)) d.settings.slots))
+pub whole_rows : (d : Dispatch) → d.origin ≡ None → IsWholePlan d → rows_booked empty_book d.decided d.tables ≡ flat_map (lag_rows d.settings (replica_of d.replica)) (numbers_below (min (frontier (replica_of d.replica)) d.settings.slots))
 whole_rows d first whole =
-    let n : ℕ = min (frontier (replica_of d.held)) d.settings.slots in
-    ap (λ (ds : List (List Decided)). rows_told empty_book ds d.tables) (whole.decided_are ∙ ap (λ (o : Origin). map (decisions_from o d.settings (replica_of d.held)) (numbers_below n)) first)
-    ∙ ap (λ (ts : List Table). rows_told empty_book (map (decisions d.settings (replica_of d.held)) (numbers_below n)) ts) (whole.tables_are ∙ ap (λ (o : Origin). plan_from o d.settings (replica_of d.held)) first)
-    ∙ rows_of_slots d.settings (replica_of d.held) n
+    let n : ℕ = min (frontier (replica_of d.replica)) d.settings.slots in
+    ap (λ (ds : List (List Decided)). rows_booked empty_book ds d.tables) (whole.decided_are ∙ ap (λ (o : Origin). map (decisions_from o d.settings (replica_of d.replica)) (numbers_below n)) first)
+    ∙ ap (λ (ts : List Table). rows_booked empty_book (map (decisions d.settings (replica_of d.replica)) (numbers_below n)) ts) (whole.tables_are ∙ ap (λ (o : Origin). plan_from o d.settings (replica_of d.replica)) first)
+    ∙ rows_of_slots d.settings (replica_of d.replica) n

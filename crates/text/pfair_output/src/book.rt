@@ -4,7 +4,7 @@ ghost use Rattle.std.specs.List.{AllByRecursion};
 ghost use Rattle.pfair_admission.specs.Carried.{CanBeCarried};
 ghost use Rattle.pfair_admission.specs.Member.{Member};
 ghost use Rattle.pfair_admission.specs.declared.members.TheConstants.Members.{LAST_SLOT};
-ghost use Rattle.pfair_output.specs.Told.{entered_again, first_book};
+ghost use Rattle.pfair_output.specs.Booked.{entered_again, first_book};
 
 use pfair_admission::Members;
 use pfair_lag::LagBook;

@@ -7,7 +7,7 @@ ghost use Rattle.pfair_table.specs.declared.pick.Decided.{Decided};
 ghost use Rattle.pfair_table.specs.Table.{Table};
 ghost use Rattle.std.specs.Fmt.{decimal};
 ghost use Rattle.pfair_output.specs.Lags.{lags_header};
-ghost use Rattle.pfair_output.specs.Told.{told, all_told, slot_told, all_slots_told, tally_row, book_rows, rows_told};
+ghost use Rattle.pfair_output.specs.Booked.{booked, all_booked, slot_booked, all_slots_booked, tally_row, book_rows, rows_booked};
 
 use csv::Writer;
 use itoa::Buffer;
@@ -45,13 +45,13 @@ pub fn add_lags_from<R: Ready>(
     requires open { IsOpen writer.old }
     requires standing { dispatcher.now.forgotten ≤ book.old.time }
     ensures open { OnOk result (IsOpen writer.new) }
-    ensures book { OnOk result (book.new ≡ all_slots_told book.old (drop book.old.time dispatcher.now.decided) (drop book.old.time dispatcher.now.tables)) }
+    ensures book { OnOk result (book.new ≡ all_slots_booked book.old (drop book.old.time dispatcher.now.decided) (drop book.old.time dispatcher.now.tables)) }
     ensures text { OnOk result (text_so_far writer.new ≡ text_so_far writer.old
-        ++ lines_text (rows_told book.old
+        ++ lines_text (rows_booked book.old
         (drop book.old.time dispatcher.now.decided) (drop book.old.time dispatcher.now.tables))) }
 {
     for slot in book.time()..dispatcher.next_slot() {
-        tell_planned(book, dispatcher, slot)?;
+        book_planned(book, dispatcher, slot)?;
         add_lags(writer, book)?;
     }
     Ok(())
@@ -63,25 +63,25 @@ pub fn add_lags_from<R: Ready>(
 ///
 /// # Errors
 /// Returns [`AllocError`] if an allocation fails; a part of this is then recorded.
-pub fn tell_slots<R: Ready>(
+pub fn book_slots<R: Ready>(
     book: &mut LagBook,
     dispatcher: &Dispatcher<R>,
     to: u64,
 ) -> Result<(), AllocError>
     requires to { book.old.time ≤ to }
     requires standing { dispatcher.now.forgotten ≤ book.old.time }
-    ensures { OnOk result (book.new ≡ all_slots_told book.old
+    ensures { OnOk result (book.new ≡ all_slots_booked book.old
         (take (to - book.old.time) (drop book.old.time dispatcher.now.decided))
         (take (to - book.old.time) (drop book.old.time dispatcher.now.tables))) }
 {
     for slot in book.time()..dispatcher.next_slot().min(to) {
-        tell_planned(book, dispatcher, slot)?;
+        book_planned(book, dispatcher, slot)?;
     }
     Ok(())
 }
 
 // Records a planned slot of a dispatcher in the book.
-fn tell_planned<R: Ready>(
+fn book_planned<R: Ready>(
     book: &mut LagBook,
     dispatcher: &Dispatcher<R>,
     slot: u64,
@@ -90,7 +90,7 @@ fn tell_planned<R: Ready>(
     requires standing { dispatcher.now.forgotten ≤ slot }
     ensures { OnOk result ((decided : List Decided) (table : Table)
         → slice_get dispatcher.now.decided slot ≡ Some decided → slice_get dispatcher.now.tables slot ≡ Some table
-        → book.new ≡ slot_told decided table book.old) }
+        → book.new ≡ slot_booked decided table book.old) }
 {
     let Some(decided) = dispatcher.decisions(slot) else {
         return Ok(());
@@ -98,36 +98,36 @@ fn tell_planned<R: Ready>(
     let Some(table) = dispatcher.table(slot) else {
         return Ok(());
     };
-    tell_slot(book, decided, table)
+    book_slot(book, decided, table)
 }
 
 /// Records a slot in the book: its decisions, and then its table.
-pub(crate) fn tell_slot(
+pub(crate) fn book_slot(
     book: &mut LagBook,
     decided: &[Decided],
     table: &[Pick],
 ) -> Result<(), AllocError>
     requires { book.old.time < MAX_HORIZON }
-    ensures { OnOk result (book.new ≡ slot_told decided.now table.now book.old) }
+    ensures { OnOk result (book.new ≡ slot_booked decided.now table.now book.old) }
 {
-    tell_all(book, decided)?;
+    book_decisions(book, decided)?;
     book.record(table);
     Ok(())
 }
 
 // Records in a book of lags who is admitted and who departs at the boundary of a slot.
-fn tell_all(book: &mut LagBook, decided: &[Decided]) -> Result<(), AllocError>
-    ensures { OnOk result (book.new ≡ all_told decided.now book.old) }
+fn book_decisions(book: &mut LagBook, decided: &[Decided]) -> Result<(), AllocError>
+    ensures { OnOk result (book.new ≡ all_booked decided.now book.old) }
 {
     for one in decided {
-        tell(book, one)?;
+        book_decision(book, one)?;
     }
     Ok(())
 }
 
 // Records one decision in the book.
-fn tell(book: &mut LagBook, decided: &Decided) -> Result<(), AllocError>
-    ensures { OnOk result (book.new ≡ told decided.now.announcement decided.now.decision book.old) }
+fn book_decision(book: &mut LagBook, decided: &Decided) -> Result<(), AllocError>
+    ensures { OnOk result (book.new ≡ booked decided.now.announcement decided.now.decision book.old) }
 {
     match decided.announcement {
         Announcement::Arrive { name, weight, .. } => {

@@ -9,7 +9,7 @@ mod runs;
 
 pub use book::first_book;
 pub use decisions::{add_decisions_from, add_decisions_header};
-pub use lags::{add_lags_from, add_lags_header, tell_slots};
+pub use lags::{add_lags_from, add_lags_header, book_slots};
 pub use replay::{
     add_placed_header, add_placed_tables_from, add_replay_header, add_table_rows, add_tables_from,
     placed_replay_of,

@@ -1,7 +1,7 @@
 //! The decisions and the lags of a script's run. One slot at a time is held in memory.
 ghost use Rattle.std.specs.Prelude.{◌≡◌, ◌≤◌, ◌<◌, ◌+◌, ◌∷◌, [], IfOk, IfErr, None, OnOk, length};
 ghost use Rattle.std.specs.List.{flat_map};
-ghost use Rattle.pfair_replica.specs.HeldRows.{replica_of};
+ghost use Rattle.pfair_replica.specs.ReplicaRows.{replica_of};
 ghost use Rattle.pfair_replica.specs.Replica.{frontier, numbers_below};
 ghost use Rattle.pfair_table.specs.Script.{replica_of_logs};
 ghost use Rattle.pfair_table.specs.ScriptRun.{IsBySlot, IsScriptFaultOf};
@@ -12,7 +12,7 @@ ghost use Rattle.pfair_output.specs.Lags.{lag_rows, lags_header, lags_text};
 ghost use Rattle.pfair_output.specs.Runs.{decided_below, decided_of};
 
 use crate::decisions::{add_decisions, add_decisions_header};
-use crate::lags::{add_lags, add_lags_header, tell_slot};
+use crate::lags::{add_lags, add_lags_header, book_slot};
 use pfair_lag::LagBook;
 use pfair_ready::Ready;
 use pfair_replica::Replica;
@@ -98,7 +98,7 @@ fn all_lags<R: Ready>(
         let plan = plan_one(replica, planner, room)?;
         // a run has at most 1,000,000 slots
         prove!(slot < Settings::MAX_SLOTS);
-        tell_slot(&mut book, &plan.decided, &plan.table)?;
+        book_slot(&mut book, &plan.decided, &plan.table)?;
         add_lags(&mut writer, &book)?;
         room = plan.table;
     }

@@ -63,6 +63,6 @@ module _ (rows : List Row) (from : ℕ) (name : List ℕ) where
 
 -- names that are compared as unequal are
 pub other_name : (name other : List ℕ) (differ : Bool) → differ ≡ not (name_eq other name) → differ ≡ true → other ≢ name
-other_name name other differ told is same =
+other_name name other differ shown is same =
     let alike : name_eq other name ≡ true = subst (λ (n : List ℕ). name_eq n name ≡ true) (sym same) (nat_list_eq_equiv.refl name) in
     let none = ap not alike in cc

@@ -44,7 +44,7 @@ module _ (text : List ℕ) (done : List Row) (rest line behind : List ℕ) (so_f
   pub row_read : (row : Row) → read ≡ Some row → IsReadSoFar text (done ++ row ∷ []) behind
   row_read row is rows spelled text_is =
       let first = first_line rows done rest line behind (so_far rows spelled text_is) cut in
-      let same : row ≡ first.0 = (let told = back first.0 first.5 (ap parts first.3 ∙ parts_of_line first.0 first.5) in cc) in
+      let same : row ≡ first.0 = (let shown = back first.0 first.5 (ap parts first.3 ∙ parts_of_line first.0 first.5) in cc) in
       record {
         left = first.1;
         all = first.2 ∙ sym (append_assoc done (first.0 ∷ []) first.1) ∙ ap (λ (r : Row). (done ++ r ∷ []) ++ first.1) (sym same);

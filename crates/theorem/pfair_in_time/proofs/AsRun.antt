@@ -16,12 +16,12 @@ use Rattle.pfair_replica.specs.Among.{Among, among_map, map_among, among_all}
 use Rattle.pfair_admission.specs.Member.{Member, theta, is_departing, next_key}
 use Rattle.pfair_admission.specs.Admission.{member_named}
 use Rattle.pfair_table.specs.Table.{Settings, eligible, Story}
-use Rattle.pfair_optimal.specs.Run.{Task, Subtask, Run, is_among, NoneTwice, same_task, same_subtask, is_row, has_run}
+use Rattle.pfair_optimal.specs.Schedule.{Task, Subtask, Schedule, is_among, NoneTwice, same_task, same_subtask, is_row, has_run}
 use Rattle.pfair_optimal.proofs.Lists.{among_here, among_more, among_cases}
 use Rattle.pfair_optimal.proofs.Past.{task_exact, subtask_exact, ran_at}
 use Rattle.pfair_in_time.proofs.Boundaries.{named_is}
 use Rattle.pfair_table.proofs.Members.{named_world}
-use Rattle.pfair_in_time.proofs.Worlds.{runs, on, on_next, keys_at, keys_apart, same_member, chosen_member, runs_chosen, chosen_runs, next_new, here, came_from, TellWeights}
+use Rattle.pfair_in_time.proofs.Worlds.{runs, on, on_next, keys_at, keys_apart, same_member, chosen_member, runs_chosen, chosen_runs, next_new, here, came_from, HaveWeights}
 use Rattle.pfair_in_time.proofs.Lines.{IsLine, line_of}
 use Rattle.pfair_table.proofs.FirstRuns.{world}
 
@@ -92,7 +92,7 @@ row_of members k = row_in (member_named members k.name)
 abbrev pub is_running : Task → Member → Bool
 is_running a m = is_task a m && not (is_departing m)
 
-abbrev pub as_run : Settings → Story → ℕ → Run
+abbrev pub as_run : Settings → Story → ℕ → Schedule
 as_run s x n = record {
   processors = s.processors;
   frame = s.frame;
@@ -139,7 +139,7 @@ rows_apart s x n t = go (keys_at s x t) (λ k h. h) (first_names s.processors (e
       go ks (λ l h. within l (inr h)) (apart_tail (λ (k : Key). k.name) k ks apart),
     )
 
-module _ (s : Settings) (x : Story) (weights : TellWeights x) where
+module _ (s : Settings) (x : Story) (weights : HaveWeights x) where
   -- ---- in the end
 
   last_line : (n u : ℕ) (m : Member) → Among (world s x u) m → u < n → (l : Member) × (v : ℕ) × (last_of s x n (task_of m) ≡ Some l) × Among (world s x v) l × (u ≤ v) × IsLine s x u v m l

@@ -15,13 +15,13 @@ use Rattle.pfair_replica.specs.Among.{Among, among_contains, contains_among, fil
 use Rattle.pfair_admission.specs.Member.{Member, theta, is_departing, eligible_from, next_key}
 use Rattle.pfair_table.specs.Table.{Settings, eligible, is_eligible, Story}
 use Rattle.pfair_optimal.specs.Fluid.{busy_bound_of}
-use Rattle.pfair_optimal.specs.Run.{Task, Subtask, Run, is_among, same_task, release, deadline, b_bit, group_deadline, busy_bound, is_row, has_run, IsNext, GoesFirst}
+use Rattle.pfair_optimal.specs.Schedule.{Task, Subtask, Schedule, is_among, same_task, release, deadline, b_bit, group_deadline, busy_bound, is_row, has_run, IsNext, GoesFirst}
 use Rattle.pfair_optimal.specs.Beginning.{IsRunBelow}
 use Rattle.pfair_optimal.proofs.Past.{task_exact, ran_by, ran_more}
 use Rattle.pfair_in_time.specs.Descent.{IsSound}
 use Rattle.pfair_admission.proofs.Delays.{theta_rises}
 use Rattle.pfair_table.proofs.RunsOn.{any_among}
-use Rattle.pfair_in_time.proofs.Worlds.{any_from_among, runs, keys_at, keys_apart, runs_chosen, chosen_runs, here, TellWeights}
+use Rattle.pfair_in_time.proofs.Worlds.{any_from_among, runs, keys_at, keys_apart, runs_chosen, chosen_runs, here, HaveWeights}
 use Rattle.pfair_in_time.proofs.Lines.{line_of, back_to, on_to, IsGone}
 use Rattle.pfair_in_time.proofs.AsRun.{test_among, task_of, subtask_of, is_task, last_of, or_else, weight_in, offset_in, is_running, row_of, as_run, row_member, member_row, rows_apart, IsFinal, final, next_counted, all_before_ran, none_after_ran, found_some}
 use Rattle.pfair_in_time.proofs.Room.{room_world}
@@ -32,12 +32,12 @@ use Rattle.pfair_table.proofs.FirstRuns.{world}
 -- ---- who goes before whom
 
 -- a subtask's place in the order is that of the key
-record KeyIs (r : Run) (z : Subtask) (k : Key) : Type 0 where
+record KeyIs (r : Schedule) (z : Subtask) (k : Key) : Type 0 where
   due : deadline r z ≡ k.d
   bit : b_bit r z ≡ k.b
   group : group_deadline r z ≡ k.group
 
-goes_first : (r : Run) (w z : Subtask) (k l : Key) → KeyIs r w k → KeyIs r z l → GoesBefore k l → GoesFirst r w z
+goes_first : (r : Schedule) (w z : Subtask) (k l : Key) → KeyIs r w k → KeyIs r z l → GoesBefore k l → GoesFirst r w z
 goes_first r w z k l a b (earlier_deadline lower) = (let p = a.due in let q = b.due in inl (omega arith))
 goes_first r w z k l a b (greater_b_bit d lower) = (let p = a.bit in let q = b.bit in inr (a.due ∙ d ∙ sym b.due, inl (omega arith)))
 goes_first r w z k l a b (later_group d one other lower) = (let p = a.group in let q = b.group in inr (a.due ∙ d ∙ sym b.due, inr (a.bit ∙ one ∙ sym other ∙ sym b.bit, inr (omega arith))))
@@ -66,7 +66,7 @@ sum_same f g (m ∷ ms) h =
     let rest = sum_same f g ms (λ n i. h n (inr i)) in
     omega arith
 
-module _ (s : Settings) (x : Story) (frame : 0 < s.frame) (weights : TellWeights x) (n : ℕ) where
+module _ (s : Settings) (x : Story) (frame : 0 < s.frame) (weights : HaveWeights x) (n : ℕ) where
   -- the task in the end is a member of some slot
   last_member : (k : ℕ) (a : Task) (m : Member) → last_of s x k a ≡ Some m → IsSound s.frame m × (task_of m ≡ a)
   last_member zero a m e = absurd (cc)

@@ -10,13 +10,13 @@ use Rattle.pfair_admission.specs.Member.{Member, theta, is_departing, is_delayed
 use Rattle.pfair_table.specs.declared.pick.Pick.{Pick}
 use Rattle.pfair_admission.proofs.Keeping.{eligible_at_job}
 use Rattle.pfair_table.specs.Table.{Settings, pick, index_of, Story}
-use Rattle.pfair_optimal.specs.Run.{Task, Subtask, deadline, is_row, has_run, IsNext}
+use Rattle.pfair_optimal.specs.Schedule.{Task, Subtask, deadline, is_row, has_run, IsNext}
 use Rattle.pfair_optimal.proofs.Beginnings.{beginning_none_misses, beginning_in_time}
 use Rattle.pfair_optimal.proofs.Past.{task_exact, ran_at, ran_by, ran_more}
 use Rattle.pfair_in_time.specs.InTime.{IsInTime}
 use Rattle.pfair_in_time.proofs.Boundaries.{named_is}
 use Rattle.pfair_table.proofs.Members.{named_world}
-use Rattle.pfair_in_time.proofs.Worlds.{same_member, runs, keys_at, chosen_member, chosen_runs, runs_chosen, on_next, here, TellWeights, index_after}
+use Rattle.pfair_in_time.proofs.Worlds.{same_member, runs, keys_at, chosen_member, chosen_runs, runs_chosen, on_next, here, HaveWeights, index_after}
 use Rattle.pfair_in_time.proofs.AsRun.{task_of, subtask_of, is_task, last_of, or_else, offset_in, weight_in, as_run, row_member, member_row, found_some, found_none, next_counted, all_before_ran, none_after_ran}
 use Rattle.pfair_in_time.proofs.Executive.{is_run, member_active}
 use Rattle.pfair_table.proofs.FirstRuns.{world, table}
@@ -35,7 +35,7 @@ last_now s x t m h = by (find (is_task (task_of m)) (world s x t)) refl
 own_deadline : (s : Settings) (x : Story) (t : ℕ) (m : Member) (i : ℕ) → Among (world s x t) m → deadline (as_run s x (suc t)) (record { task = task_of m; index = i }) ≡ deadline_of m.weight i (theta m i)
 own_deadline s x t m i h = ap (λ (o : Option Member). deadline_of (weight_in o) i (offset_in (task_of m) o i)) (last_now s x t m h)
 
-module _ (s : Settings) (x : Story) (frame : 0 < s.frame) (weights : TellWeights x) where
+module _ (s : Settings) (x : Story) (frame : 0 < s.frame) (weights : HaveWeights x) where
   -- the next subtask after a table comes after all that ran
   next_after : (t : ℕ) (m : Member) → Among (world s x t) m → IsNext (as_run s x (suc t)) (record { task = task_of m; index = index_after s x t m }) (suc t)
   next_after t m h =

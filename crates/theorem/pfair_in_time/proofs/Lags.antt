@@ -13,7 +13,7 @@ use Rattle.pfair_replica.specs.Replica.{numbers_below, said}
 use Rattle.pfair_admission.specs.Member.{Member, is_departing, lag_at}
 use Rattle.pfair_admission.proofs.Each.{each}
 use Rattle.pfair_output.specs.Lags.{is_staying}
-use Rattle.pfair_output.specs.Told.{first_book}
+use Rattle.pfair_output.specs.Booked.{first_book}
 use Rattle.pfair_output.proofs.WorldFacts.{HasJoined, after_all, begins_after, over_slots, shown}
 use Rattle.pfair_table.specs.RunsOn.{HasBegun, IsBegun}
 use Rattle.pfair_table.specs.Table.{Settings, Story, counted_one, history_over, members_before, quanta, slot_of}
@@ -24,11 +24,11 @@ use Rattle.pfair_in_time.specs.Lags.{BooksShowLags, IsWithinOne, LagsStayWithinO
 use Rattle.pfair_in_time.specs.Runs.{origin_after}
 use Rattle.pfair_in_time.specs.Windows.{slots_since}
 use Rattle.pfair_in_time.proofs.LongRun.{HasLater, IsLater, history_long, itself, long_story, long_weights}
-use Rattle.pfair_in_time.proofs.NextRuns.{begun_after, each_weight, origin_told}
+use Rattle.pfair_in_time.proofs.NextRuns.{begun_after, each_weight, origin_of_stories}
 use Rattle.pfair_in_time.proofs.Passing.{passing_rise}
-use Rattle.pfair_in_time.proofs.ThroughRuns.{long_undelayed, meets, same_origin, tell_weight, told_of, within}
+use Rattle.pfair_in_time.proofs.ThroughRuns.{long_undelayed, meets, same_origin, weighed_stories, past_story, within}
 use Rattle.pfair_in_time.proofs.Windows.{runs_at, quanta_passing, slots_of, IsUndelayed, no_offset_all}
-use Rattle.pfair_in_time.proofs.Worlds.{tables_before, here, TellWeights}
+use Rattle.pfair_in_time.proofs.Worlds.{tables_before, here, HaveWeights}
 use Rattle.pfair_table.proofs.Within.{said_weighed}
 
 -- all of a list are counted, if all pass
@@ -42,7 +42,7 @@ all_counted p (k ∷ xs) each =
 
 -- ---- in a first run
 
-module _ (s : Settings) (x : Story) (weights : TellWeights x) (t : ℕ) (m : Member) (h : Among (world s x t) m) where
+module _ (s : Settings) (x : Story) (weights : HaveWeights x) (t : ℕ) (m : Member) (h : Among (world s x t) m) where
   -- the lag after the slot's quanta is that of the slots in which the member ran
   same_lag : lag_numerator m.weight (slots_of s x t m) (slots_since t m) ≡ lag_at (suc t) (counted_one (tables_before s x (suc t)) m)
   same_lag =
@@ -78,15 +78,15 @@ module _ (s : Settings) (x : Story) (weights : TellWeights x) (t : ℕ) (m : Mem
 
 pub lags_stay_within_one : LagsKeepWindows → LagsKeepDeadlines → LagsStayWithinOne
 lags_stay_within_one by_windows by_deadlines earlier s x run t m among active undelayed =
-    let told = map told_of earlier in
-    let o = origin_told s told in
-    let long = long_story s told (said x) in
-    let tells = tell_weight earlier run.replicas in
+    let stories = map past_story earlier in
+    let o = origin_of_stories s stories in
+    let long = long_story s stories (said x) in
+    let weighed = weighed_stories earlier run.replicas in
     let says = said_weighed x run.replica in
-    let weights = each_weight long (long_weights s told (said x) tells says) in
+    let weights = each_weight long (long_weights s stories (said x) weighed says) in
     let here = subst (λ p. Among (history_over p s (said x) (suc t)).members m) (same_origin s earlier) among in
     let next = slot_more o t in
-    let has = subst (λ u. HasLater u (history s long u).members m) next (history_long s told (said x) tells says (suc t) m here) in
+    let has = subst (λ u. HasLater u (history s long u).members m) next (history_long s stories (said x) weighed says (suc t) m here) in
     let later = has.later in
     let before = among_map (counted_one (tables_before s long (suc (slot_of o t)))) (world s long (slot_of o t)) has.long (subst (λ ms. Among ms has.long) (counted_on s long (slot_of o t)) has.among) in
     let still = subst IsUndelayed before.2 (long_undelayed (suc (slot_of o t)) has.jobs has.long m later (no_offset_all m undelayed)) in
@@ -111,7 +111,7 @@ shown_lags time (m ∷ ms) = ap (λ l. member_lag time m ∷ l) (shown_lags time
 pub books_show_lags : BooksShowLags
 books_show_lags earlier s x run t =
     let o = origin_after s earlier in
-    let is = subst IsBegun (sym (same_origin s earlier)) (begun_after s (map told_of earlier) (tell_weight earlier run.replicas)) in
+    let is = subst IsBegun (sym (same_origin s earlier)) (begun_after s (map past_story earlier) (weighed_stories earlier run.replicas)) in
     let joined = each (HasBegun (slot_of o 0)) (HasJoined (slot_of o 0)) (begun_joined (slot_of o 0)) (members_before o) is.begun in
     let after = after_all o s (said x) is.named joined (first_book o) (begins_after o s (said x) is.named joined) t in
     ap (λ (b : Book). map lag_shown b.entered) (over_slots o s (said x) is.named joined (first_book o) t)

@@ -8,7 +8,7 @@ use Rattle.pfair_replica.specs.Among.{Among}
 use Rattle.pfair_admission.specs.Member.{Member, theta, is_departing}
 use Rattle.pfair_table.specs.Table.{Settings, Story}
 use Rattle.pfair_in_time.specs.Descent.{Descends, IsSound}
-use Rattle.pfair_in_time.proofs.Worlds.{runs, IsHere, on, on_next, same_member, here, came_from, goes_to, TellWeights}
+use Rattle.pfair_in_time.proofs.Worlds.{runs, IsHere, on, on_next, same_member, here, came_from, goes_to, HaveWeights}
 use Rattle.pfair_table.proofs.FirstRuns.{world}
 
 -- n in slot t, or after what is decided for slot t, is the incarnation that m is in slot u
@@ -83,7 +83,7 @@ line_on s x u v t l m n less le a b = record {
     still i same (inl ran) = inl (let one = a.next in omega arith)
     still i same (inr released) = inr (subst (λ (w : Share). release_of w i (theta m i) ≤ v) (sym a.weight) (let e = same in omega arith))
 
-module _ (s : Settings) (x : Story) (weights : TellWeights x) where
+module _ (s : Settings) (x : Story) (weights : HaveWeights x) where
   -- back to each slot since it joined
   pub back_to : (t u : ℕ) (n : Member) → Among (world s x t) n → n.joined ≤ u → u ≤ t → (m : Member) × Among (world s x u) m × IsLine s x u t m n
   back_to zero u n h joined le = let e : 0 ≡ u = omega arith in (n, subst (λ k. Among (world s x k) n) e h, subst (λ k. IsLine s x u k n n) (sym e) (line_itself s x u n))

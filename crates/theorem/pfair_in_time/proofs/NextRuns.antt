@@ -6,7 +6,7 @@ use Rattle.std.proofs.lemmas.Bool.{and_parts, leb-true}
 use Rattle.pfair_weight.specs.Window.{deadline_of}
 use Rattle.pfair_entry.specs.Exact.{name_itself}
 use Rattle.pfair_entry.specs.Same.{name_eq}
-use Rattle.pfair_entry.specs.Said.{Said}
+use Rattle.pfair_entry.specs.declared.said.Said.{Said}
 use Rattle.pfair_entry.specs.declared.announcement.Announcement.{Announcement}
 use Rattle.pfair_entry.specs.declared.announcement.Announcement.TheVariants.{Arrive, Depart, Late}
 use Rattle.pfair_entry.specs.Entry.{IsWeighed}
@@ -18,7 +18,7 @@ use Rattle.pfair_admission.specs.Carried.{all_raised, raised, taken_off}
 use Rattle.pfair_admission.proofs.Keeping.{eligible_not_early}
 use Rattle.pfair_weight.proofs.NamesApart.{apart_nil}
 use Rattle.pfair_table.specs.declared.pick.Pick.{Pick}
-use Rattle.pfair_table.specs.RunsOn.{TellsWeights, IsBegun, IsSlotOf, both_stories, left_over, standing}
+use Rattle.pfair_table.specs.RunsOn.{IsWeighedStory, IsBegun, IsSlotOf, both_stories, left_over, standing}
 use Rattle.pfair_table.specs.Table.{Settings, Origin, Story, machine, slot_of, chosen, index_of, pick, counted_one, history_over, world_over, table_over}
 use Rattle.pfair_table.proofs.FirstSubtasks.{found_own}
 use Rattle.pfair_table.proofs.FirstRuns.{world}
@@ -28,14 +28,14 @@ use Rattle.pfair_table.proofs.RunsOn.{left_begun, ran_eligible, slot_on, slot_sa
 use Rattle.pfair_in_time.specs.InTime.{IsInTime}
 use Rattle.pfair_in_time.specs.Runs.{IsServed}
 use Rattle.pfair_in_time.proofs.InTime.{none, rows}
-use Rattle.pfair_in_time.proofs.Worlds.{TellWeights, any_from_among, tables_before}
+use Rattle.pfair_in_time.proofs.Worlds.{HaveWeights, any_from_among, tables_before}
 
 -- ---- a first run
 
-pub each_weight : (story : Story) → TellsWeights story → TellWeights story
+pub each_weight : (story : Story) → IsWeighedStory story → HaveWeights story
 each_weight story weights t = among_all IsWeighed (announcements (story t)) (weights t)
 
-first_run : (s : Settings) (story : Story) → 0 < s.frame → TellsWeights story → (t : ℕ) → IsServed None s story t
+first_run : (s : Settings) (story : Story) → 0 < s.frame → IsWeighedStory story → (t : ℕ) → IsServed None s story t
 first_run s story frame weights t = record {
   rows_in_time = rows s story frame (each_weight story weights) t;
   none_misses = λ m h active.
@@ -52,11 +52,11 @@ raised_weight left begin members (Arrive name w early) h = h
 raised_weight left begin members (Depart name) h = h
 raised_weight left begin members (Late name index by) h = h
 
-raised_weights : (left : List Member) (begin : ℕ) (machine : Machine) (t : ℕ) (members : List Member) (told : List Said) → AllByRecursion IsWeighed (announcements told) → AllByRecursion IsWeighed (announcements (all_raised left begin machine t members told))
+raised_weights : (left : List Member) (begin : ℕ) (machine : Machine) (t : ℕ) (members : List Member) (announced : List Said) → AllByRecursion IsWeighed (announcements announced) → AllByRecursion IsWeighed (announcements (all_raised left begin machine t members announced))
 raised_weights left begin machine t members [] h = tt
-raised_weights left begin machine t members (a ∷ told) h = (raised_weight left begin members a.2 h.0, raised_weights left begin machine t (decided machine t members a.2) told h.1)
+raised_weights left begin machine t members (a ∷ announced) h = (raised_weight left begin members a.announcement h.0, raised_weights left begin machine t (decided machine t members a.announcement) announced h.1)
 
-pub both_weights : (o : Origin) (s : Settings) (first : Story) (n : ℕ) (second : Story) → TellsWeights first → TellsWeights second → TellsWeights (both_stories o s first n second)
+pub both_weights : (o : Origin) (s : Settings) (first : Story) (n : ℕ) (second : Story) → IsWeighedStory first → IsWeighedStory second → IsWeighedStory (both_stories o s first n second)
 both_weights o s first n second before after t = by (nat_lt t n)
   where
     left : List Member
@@ -71,7 +71,7 @@ both_weights o s first n second before after t = by (nat_lt t n)
 
 -- ---- a next run
 
-module _ (o : Origin) (s : Settings) (first : Story) (n : ℕ) (began : IsBegun o) (weights : TellsWeights first) (second : Story) (more : TellsWeights second) (long_run : (t : ℕ) → IsServed o s (both_stories o s first n second) t) where
+module _ (o : Origin) (s : Settings) (first : Story) (n : ℕ) (began : IsBegun o) (weights : IsWeighedStory first) (second : Story) (more : IsWeighedStory second) (long_run : (t : ℕ) → IsServed o s (both_stories o s first n second) t) where
   abbrev next : Origin
   next = Some (left_over o s first n)
 
@@ -128,25 +128,25 @@ module _ (o : Origin) (s : Settings) (first : Story) (n : ℕ) (began : IsBegun 
 -- ---- any run
 
 -- a run that is over: how many slots it had, and what was said in them
-pub record Told : Type 0 where
+pub record PastStory : Type 0 where
   pub slots : ℕ
   pub story : Story
 
-abbrev pub TellWeight : List Told → Type 0
-TellWeight earlier = AllByRecursion (λ r. TellsWeights r.story) earlier
+abbrev pub AreWeighedStories : List PastStory → Type 0
+AreWeighedStories earlier = AllByRecursion (λ r. IsWeighedStory r.story) earlier
 
 -- where the run after these begins, the last one first
-abbrev pub origin_told : Settings → List Told → Origin
-origin_told s [] = None
-origin_told s (r ∷ earlier) = Some (left_over (origin_told s earlier) s r.story r.slots)
+abbrev pub origin_of_stories : Settings → List PastStory → Origin
+origin_of_stories s [] = None
+origin_of_stories s (r ∷ earlier) = Some (left_over (origin_of_stories s earlier) s r.story r.slots)
 
-pub begun_after : (s : Settings) (earlier : List Told) → TellWeight earlier → IsBegun (origin_told s earlier)
+pub begun_after : (s : Settings) (earlier : List PastStory) → AreWeighedStories earlier → IsBegun (origin_of_stories s earlier)
 begun_after s [] h = record { named = apart_nil label; begun = tt }
-begun_after s (r ∷ earlier) h = left_begun (origin_told s earlier) s (begun_after s earlier h.1) r.story h.0 r.slots
+begun_after s (r ∷ earlier) h = left_begun (origin_of_stories s earlier) s (begun_after s earlier h.1) r.story h.0 r.slots
 
-pub all_served : (s : Settings) (earlier : List Told) (story : Story) → 0 < s.frame → TellWeight earlier → TellsWeights story → (t : ℕ) → IsServed (origin_told s earlier) s story t
+pub all_served : (s : Settings) (earlier : List PastStory) (story : Story) → 0 < s.frame → AreWeighedStories earlier → IsWeighedStory story → (t : ℕ) → IsServed (origin_of_stories s earlier) s story t
 all_served s [] story frame h weights t = first_run s story frame weights t
 all_served s (r ∷ earlier) story frame h weights t =
-    let o = origin_told s earlier in
+    let o = origin_of_stories s earlier in
     next_served o s r.story r.slots (begun_after s earlier h.1) h.0 story weights
     (all_served s earlier (both_stories o s r.story r.slots story) frame h.1 (both_weights o s r.story r.slots story h.0 weights)) t

@@ -5,7 +5,7 @@ use Rattle.pfair_lattice.specs.declared.flat.Flat.TheVariants.{Torn}
 use Rattle.pfair_lattice.specs.HeldLaws.{join_least, below_itself}
 use Rattle.pfair_entry.specs.Exact.{entry_exact}
 use Rattle.pfair_entry.specs.Same.{entry_eq}
-use Rattle.pfair_replica.specs.HeldRows.{replica_of}
+use Rattle.pfair_replica.specs.ReplicaRows.{replica_of}
 use Rattle.pfair_replica.specs.Replica.{Replica, Untorn, Agree, said}
 use Rattle.pfair_admission.specs.Carried.{carried}
 use Rattle.pfair_table.specs.Events.{begin_at, run}
@@ -32,8 +32,8 @@ dispatchers_never_miss one earlier s capacity events frame replicas are untorn t
     let c = run s (begin_at o s capacity) events in
     let is_of = (sound_run s events (begin_at o s capacity) are (sound_start o s capacity)).is_of in
     record {
-      table_is = (one o s capacity capacity events events are are (agrees_alone c.held untorn) t planned planned).0;
-      served = none_misses earlier s c.held (record { frame = frame; replica = is_of.replica; replicas = replicas }) t;
+      table_is = (one o s capacity capacity events events are are (agrees_alone c.replica untorn) t planned planned).0;
+      served = none_misses earlier s c.replica (record { frame = frame; replica = is_of.replica; replicas = replicas }) t;
     }
 
 -- ---- runs of other numbers of slots
@@ -59,7 +59,7 @@ dispatchers_run_on [] d on = (on, tt)
 dispatchers_run_on (e ∷ earlier) d (on, before) =
     let r = dispatchers_run_on earlier e before in (
       on.origin
-          ∙ ap (λ o. Some (left_over o e.settings (said (replica_of e.held)) e.settings.slots)) r.0
+          ∙ ap (λ o. Some (left_over o e.settings (said (replica_of e.replica)) e.settings.slots)) r.0
           ∙ same_after e.settings d.settings.slots (past_of e ∷ map past_of earlier)
           ∙ ap (λ s. origin_after s (past_of e ∷ map past_of earlier)) (sym on.settings),
       (on.replica, r.1),
@@ -68,7 +68,7 @@ dispatchers_run_on (e ∷ earlier) d (on, before) =
 pub never_misses : NeverMisses
 never_misses earlier d hand on untorn t planned =
     let runs = dispatchers_run_on earlier d on in
-    let x = replica_of d.held in
+    let x = replica_of d.replica in
     record {
       table_is = (hand.alike refl refl (agrees_alone x untorn) t planned planned).0;
       served = subst (λ o. IsServed o d.settings (said x) t) (sym runs.0) (none_misses (map past_of earlier) d.settings x (record { frame = hand.settings.frame.0; replica = hand.replica; replicas = runs.1 }) t);

@@ -32,7 +32,7 @@ use Rattle.pfair_in_time.specs.Repeats.{IsCommonMultiple, quanta_in, later_row, 
 use Rattle.pfair_in_time.proofs.InTime.{none}
 use Rattle.pfair_in_time.proofs.Served.{NoneLeaves, all_present, says_weights}
 use Rattle.pfair_in_time.proofs.Windows.{no_offset}
-use Rattle.pfair_in_time.proofs.Worlds.{tables_before, runs, runs_chosen, next_more, next_new, here, TellWeights, index_after}
+use Rattle.pfair_in_time.proofs.Worlds.{tables_before, runs, runs_chosen, next_more, next_new, here, HaveWeights, index_after}
 
 -- ---- lists
 
@@ -110,7 +110,7 @@ firsts mc (a ∷ more) ms all m h = firsts mc more (decided mc 0 ms (announced a
     one (Refused refusal) n among = all n among
 
 module _ (s : Settings) (x : Replica) (arrivals : List Arrival) (frame : 0 < s.frame) (says : SaysOnly x arrivals) (are : AllByRecursion (λ (a : Arrival). IsWeight a.weight.cost a.weight.period) arrivals) where
-  weights : TellWeights (said x)
+  weights : HaveWeights (said x)
   weights = says_weights x arrivals says are
 
   is_first : (m : Member) → Among (world s x 0) m → IsFirst m

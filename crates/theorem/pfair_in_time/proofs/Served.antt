@@ -11,7 +11,7 @@ use Rattle.pfair_weight.specs.Window.{deadline_of}
 use Rattle.pfair_weight.specs.WindowFacts.{deadline_rises, window_not_empty}
 use Rattle.pfair_weight.proofs.NamesApart.{apart_head, apart_tail}
 use Rattle.pfair_entry.specs.Exact.{name_exact, name_itself}
-use Rattle.pfair_entry.specs.Said.{Said}
+use Rattle.pfair_entry.specs.declared.said.Said.{Said}
 use Rattle.pfair_entry.specs.Same.{name_eq}
 use Rattle.pfair_entry.specs.Entry.{IsWeighed}
 use Rattle.pfair_replica.specs.Among.{Among, among_append, among_all, filter_among, among_map, map_among}
@@ -30,7 +30,7 @@ use Rattle.pfair_admission.proofs.Keeping.{one_each}
 use Rattle.pfair_in_time.proofs.InTime.{none}
 use Rattle.pfair_in_time.proofs.Overload.{quanta_more}
 use Rattle.pfair_in_time.proofs.Windows.{no_offset}
-use Rattle.pfair_in_time.proofs.Worlds.{tables_before, next_more, next_new, TellWeights, index_after}
+use Rattle.pfair_in_time.proofs.Worlds.{tables_before, next_more, next_new, HaveWeights, index_after}
 
 -- ---- those who are there
 
@@ -143,14 +143,14 @@ record IsStill (a : Arrival) (m : Member) : Type 0 where
   stays : m.freed_at ≡ None
 
 -- such arrivals are all that has to have weights
-pub says_weights : (x : Replica) (arrivals : List Arrival) → SaysOnly x arrivals → AllByRecursion (λ (a : Arrival). IsWeight a.weight.cost a.weight.period) arrivals → TellWeights (said x)
+pub says_weights : (x : Replica) (arrivals : List Arrival) → SaysOnly x arrivals → AllByRecursion (λ (a : Arrival). IsWeight a.weight.cost a.weight.period) arrivals → HaveWeights (said x)
 says_weights x arrivals says weights zero a h =
     let p = among_map announced arrivals a (subst (λ l. Among l a) says.first h) in
     subst IsWeighed (sym p.2) (among_all (λ (b : Arrival). IsWeight b.weight.cost b.weight.period) arrivals weights p.0 p.1)
 says_weights x arrivals says weights (suc t) a h = absurd (subst (λ l. Among (announcements l) a) (says.later (suc t) (omega arith)) h)
 
 module _ (s : Settings) (x : Replica) (arrivals : List Arrival) (frame : 0 < s.frame) (are : AreArrivals s.frame arrivals) (says : SaysOnly x arrivals) where
-  weights : TellWeights (said x)
+  weights : HaveWeights (said x)
   weights = says_weights x arrivals says are.weights
 
   decisions_are : decisions s x 0 ≡ with_decisions (said x 0) (all_decisions (machine s) 0 [] (map announced arrivals))
@@ -160,7 +160,7 @@ module _ (s : Settings) (x : Replica) (arrivals : List Arrival) (frame : 0 < s.f
   as_many =
       let one = one_each (machine s) 0 [] (map announced arrivals) in
       let same = ap length says.first in
-      let long = length-map (said x 0) (λ (q : Said). q.2) in
+      let long = length-map (said x 0) (λ (q : Said). q.announcement) in
       omega arith
 
   room_admits : units_wanted s.frame arrivals ≤ s.processors * s.frame → AllJoin (machine s) [] arrivals

@@ -20,11 +20,11 @@ use Rattle.pfair_table.proofs.Within.{said_weighed}
 use Rattle.pfair_in_time.specs.Runs.{Past, origin_after, table_through, IsRunAfter, IsServed, NoneMisses}
 use Rattle.pfair_in_time.specs.Windows.{slots_since, slots_run, KeepsDeadlines, KeepsWindows, DeadlinesAreKept, WindowsAreKept}
 use Rattle.pfair_in_time.proofs.Lines.{IsLine, back_to}
-use Rattle.pfair_in_time.proofs.LongRun.{HasLater, IsLater, long_story, long_weights, runs_long, told_through, world_long}
-use Rattle.pfair_in_time.proofs.NextRuns.{Told, TellWeight, all_served, each_weight, origin_told}
+use Rattle.pfair_in_time.proofs.LongRun.{HasLater, IsLater, long_story, long_weights, runs_long, through_stories, world_long}
+use Rattle.pfair_in_time.proofs.NextRuns.{PastStory, AreWeighedStories, all_served, each_weight, origin_of_stories}
 use Rattle.pfair_in_time.proofs.Passing.{passing, one_more, at_place, passing_rise}
 use Rattle.pfair_in_time.proofs.Windows.{runs_at, slots_of, IsKept, IsUndelayed, kept_at, no_offset_all, served}
-use Rattle.pfair_in_time.proofs.Worlds.{here, TellWeights}
+use Rattle.pfair_in_time.proofs.Worlds.{here, HaveWeights}
 
 -- ---- a member, and the one of the long run that it is
 
@@ -38,7 +38,7 @@ long_undelayed slot k l m later undelayed i =
     let up = theta_rises l i (j + k * l.weight.cost) (omega arith) in
     omega (arith, far, here, joined, up)
 
-module _ (s : Settings) (x : Story) (frame : 0 < s.frame) (weights : TellWeights x) (t k : ℕ) (l m : Member) (among : Among (world s x t) l) (later : IsLater t k l m) (active : is_departing l ≡ false) (undelayed : IsUndelayed m) where
+module _ (s : Settings) (x : Story) (frame : 0 < s.frame) (weights : HaveWeights x) (t k : ℕ) (l m : Member) (among : Among (world s x t) l) (later : IsLater t k l m) (active : is_departing l ≡ false) (undelayed : IsUndelayed m) where
   some : 0 < l.weight.cost
   some = (here s x weights t l among).sound.weight.some_cost
 
@@ -168,18 +168,18 @@ module _ (s : Settings) (x : Story) (frame : 0 < s.frame) (weights : TellWeights
 
 -- ---- runs by what replicas hold
 
-abbrev pub told_of : Past → Told
-told_of r = record { slots = r.slots; story = said r.contents }
+abbrev pub past_story : Past → PastStory
+past_story r = record { slots = r.slots; story = said r.contents }
 
-pub tell_weight : (earlier : List Past) → AllByRecursion (λ r. IsReplica r.contents) earlier → TellWeight (map told_of earlier)
-tell_weight [] h = tt
-tell_weight (r ∷ earlier) h = (said_weighed r.contents h.0, tell_weight earlier h.1)
+pub weighed_stories : (earlier : List Past) → AllByRecursion (λ r. IsReplica r.contents) earlier → AreWeighedStories (map past_story earlier)
+weighed_stories [] h = tt
+weighed_stories (r ∷ earlier) h = (said_weighed r.contents h.0, weighed_stories earlier h.1)
 
-pub same_origin : (s : Settings) (earlier : List Past) → origin_after s earlier ≡ origin_told s (map told_of earlier)
+pub same_origin : (s : Settings) (earlier : List Past) → origin_after s earlier ≡ origin_of_stories s (map past_story earlier)
 same_origin s [] = refl
 same_origin s (r ∷ earlier) = ap (λ o. Some (left_over o s (said r.contents) r.slots)) (same_origin s earlier)
 
-same_through : (s : Settings) (earlier : List Past) (story : Story) (u : ℕ) → table_through s earlier story u ≡ told_through s (map told_of earlier) story u
+same_through : (s : Settings) (earlier : List Past) (story : Story) (u : ℕ) → table_through s earlier story u ≡ through_stories s (map past_story earlier) story u
 same_through s [] story u = refl
 same_through s (r ∷ earlier) story u =
     let o = same_origin s (r ∷ earlier) in
@@ -187,25 +187,25 @@ same_through s (r ∷ earlier) story u =
 
 pub none_misses : NoneMisses
 none_misses earlier s x run t =
-    subst (λ o. IsServed o s (said x) t) (sym (same_origin s earlier)) (all_served s (map told_of earlier) (said x) run.frame (tell_weight earlier run.replicas) (said_weighed x run.replica) t)
+    subst (λ o. IsServed o s (said x) t) (sym (same_origin s earlier)) (all_served s (map past_story earlier) (said x) run.frame (weighed_stories earlier run.replicas) (said_weighed x run.replica) t)
 
 -- ---- windows
 
 module _ (earlier : List Past) (s : Settings) (x : Replica) (run : IsRunAfter earlier s x) (t : ℕ) (m : Member) (among : Among (world_over (origin_after s earlier) s (said x) t) m) (active : is_departing m ≡ false) (undelayed : m.delays ≡ []) where
-  abbrev told : List Told
-  told = map told_of earlier
+  abbrev stories : List PastStory
+  stories = map past_story earlier
 
   abbrev slot : ℕ
-  slot = slot_of (origin_told s told) t
+  slot = slot_of (origin_of_stories s stories) t
 
   abbrev long : Story
-  long = long_story s told (said x)
+  long = long_story s stories (said x)
 
-  weights : TellWeights long
-  weights = each_weight long (long_weights s told (said x) (tell_weight earlier run.replicas) (said_weighed x run.replica))
+  weights : HaveWeights long
+  weights = each_weight long (long_weights s stories (said x) (weighed_stories earlier run.replicas) (said_weighed x run.replica))
 
   has : HasLater slot (world s long slot) m
-  has = world_long s told (said x) (tell_weight earlier run.replicas) (said_weighed x run.replica) t m (subst (λ o. Among (world_over o s (said x) t) m) (same_origin s earlier) among)
+  has = world_long s stories (said x) (weighed_stories earlier run.replicas) (said_weighed x run.replica) t m (subst (λ o. Among (world_over o s (said x) t) m) (same_origin s earlier) among)
 
   abbrev ran : ℕ → Bool
   ran k = names_task m.name (table_through s earlier (said x) (m.joined + k))
@@ -215,7 +215,7 @@ module _ (earlier : List Past) (s : Settings) (x : Replica) (run : IsRunAfter ea
       let later = has.later in
       let joined = later.joined in
       let at : m.joined + k ≡ has.long.joined + (has.jobs * has.long.weight.period + k) = omega (arith, joined) in
-      ap (names_task m.name) (same_through s earlier (said x) (m.joined + k)) ∙ runs_long s told (said x) (tell_weight earlier run.replicas) (said_weighed x run.replica) m.name (m.joined + k)
+      ap (names_task m.name) (same_through s earlier (said x) (m.joined + k)) ∙ runs_long s stories (said x) (weighed_stories earlier run.replicas) (said_weighed x run.replica) m.name (m.joined + k)
       ∙ (λ i. names_task (later.name i) (table_over None s long (at i)))
 
   staying : is_departing has.long ≡ false

@@ -10,7 +10,7 @@ use Rattle.pfair_admission.specs.Member.{Member, theta, is_departing}
 use Rattle.pfair_admission.specs.declared.delay.Delay.{Delay}
 use Rattle.pfair_table.specs.Table.{Settings, names_task, quanta, next_index, Story}
 use Rattle.pfair_in_time.specs.Windows.{slots_since}
-use Rattle.pfair_in_time.proofs.Worlds.{tables_before, runs, next_more, next_new, here, TellWeights, index_after}
+use Rattle.pfair_in_time.proofs.Worlds.{tables_before, runs, next_more, next_new, here, HaveWeights, index_after}
 use Rattle.pfair_in_time.proofs.Lines.{IsLine}
 use Rattle.pfair_in_time.proofs.InTime.{none, in_time, released, started}
 use Rattle.pfair_in_time.proofs.Passing.{passing, one_more}
@@ -52,7 +52,7 @@ pub record IsKept (m : Member) (slot index : ℕ) : Type 0 where
   pub released : m.early ≡ false → release_of m.weight index 0 ≤ slot
   pub started : starts_job_of m.weight index ≡ true → release_of m.weight index 0 ≤ slot
 
-module _ (s : Settings) (x : Story) (frame : 0 < s.frame) (weights : TellWeights x) where
+module _ (s : Settings) (x : Story) (frame : 0 < s.frame) (weights : HaveWeights x) where
   pub kept_at : (t slot : ℕ) (m l : Member) → Among (world s x (m.joined + slot)) l → IsLine s x (m.joined + slot) t l m → IsUndelayed m → runs_at s x m slot ≡ true
       → IsKept m slot (1 + length (passing (runs_at s x m) slot))
   kept_at t slot m l h line undelayed ran = record {

@@ -31,8 +31,8 @@ use Rattle.pfair_in_time.proofs.Boundaries.{named_is, boundaries_keep_members}
 use Rattle.pfair_table.proofs.FirstRuns.{history, world, table}
 
 -- each arrival that is said has a weight
-abbrev pub TellWeights : Story → Type 0
-TellWeights x = (t : ℕ) → AllHaveWeights (announcements (x t))
+abbrev pub HaveWeights : Story → Type 0
+HaveWeights x = (t : ℕ) → AllHaveWeights (announcements (x t))
 
 -- the tables of the slots before t
 abbrev pub tables_before : Settings → Story → ℕ → List Table
@@ -136,7 +136,7 @@ departing_rests s x t m h d = ⊎_elim
     (λ e. e)
     (cases_Bool (runs s x t m))
 
-module _ (s : Settings) (x : Story) (weights : TellWeights x) where
+module _ (s : Settings) (x : Story) (weights : HaveWeights x) where
   on_sound : (t : ℕ) (m : Member) → Among (world s x t) m → IsHere s x t m → IsSound s.frame (on s x t m)
   on_sound t m h here = record { weight = here.sound.weight; period = here.sound.period; claim = λ slot e. kept slot e (here.sound.claim slot e) }
     where

@@ -6,7 +6,7 @@ use Rattle.pfair_replica.specs.Replica.{Replica, said, numbers_below}
 use Rattle.pfair_admission.specs.Member.{Member, is_departing, lag_at}
 use Rattle.pfair_lag.specs.Book.{Tally, lag_of}
 use Rattle.pfair_output.specs.Lags.{is_staying}
-use Rattle.pfair_output.specs.Told.{all_slots_told, first_book}
+use Rattle.pfair_output.specs.Booked.{all_slots_booked, first_book}
 use Rattle.pfair_table.specs.Table.{Settings, slot_of, history_over, table_over, decisions_over}
 use Rattle.pfair_in_time.specs.Runs.{Past, origin_after, IsRunAfter}
 
@@ -36,5 +36,5 @@ abbrev pub BooksShowLags : Type 0
 BooksShowLags =
     (earlier : List Past) (s : Settings) (x : Replica) → IsRunAfter earlier s x → (t : ℕ)
     → let o = origin_after s earlier in
-    map lag_shown (all_slots_told (first_book o) (map (decisions_over o s (said x)) (numbers_below t)) (map (table_over o s (said x)) (numbers_below t))).entered
+    map lag_shown (all_slots_booked (first_book o) (map (decisions_over o s (said x)) (numbers_below t)) (map (table_over o s (said x)) (numbers_below t))).entered
     ≡ map (member_lag (slot_of o t)) (filter is_staying (history_over o s (said x) t).members)

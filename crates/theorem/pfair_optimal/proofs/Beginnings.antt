@@ -3,13 +3,13 @@ use Rattle.std.proofs.Common.{◌≡◌, ℕ, zero, suc, ◌<◌, ◌≤◌, min
 use Rattle.std.specs.Prelude.{◌⊎◌, nat_lt}
 use Rattle.std.proofs.Math.Logic.{⊎_map}
 use Rattle.std.proofs.lemmas.Bool.{cases_lt, and_parts, and_from, ltb-true, lt-ltb, le-ltb}
-use Rattle.pfair_optimal.specs.Run.{Task, Subtask, is_among, NoneTwice, same_task, same_subtask, previous_of, Run, deadline, busy_bound, is_row, has_run, IsRun, IsNext}
+use Rattle.pfair_optimal.specs.Schedule.{Task, Subtask, is_among, NoneTwice, same_task, same_subtask, previous_of, Schedule, deadline, busy_bound, is_row, has_run, IsRun, IsNext}
 use Rattle.pfair_optimal.specs.Beginning.{IsRunBelow}
 use Rattle.pfair_optimal.proofs.Past.{ran_at, ran_by}
 use Rattle.pfair_optimal.proofs.Counting.{none_misses, each_in_time}
 
 -- the slots below suc n, and those behind them, in which nobody is active and the members stay
-abbrev pub cut : Run → ℕ → Run
+abbrev pub cut : Schedule → ℕ → Schedule
 cut x n = record {
   processors = x.processors;
   frame = x.frame;
@@ -20,7 +20,7 @@ cut x n = record {
   is_active = λ a t. nat_lt t (suc n) && x.is_active a t;
 }
 
-module _ (x : Run) (n : ℕ) where
+module _ (x : Schedule) (n : ℕ) where
   cut_table : (t : ℕ) → t < suc n → (cut x n).table t ≡ x.table t
   cut_table t less = ap (λ b. cond b (x.table t) []) (lt-ltb t (suc n) less)
 
@@ -87,11 +87,11 @@ module _ (x : Run) (n : ℕ) where
       held z s t p joined before = grind (arith, cut_row)
 
 -- so none misses in the beginning
-pub beginning_none_misses : (x : Run) (n t : ℕ) (z : Subtask) → IsRunBelow x n → t < n → x.is_active z.task t ≡ true → IsNext x z (suc t) → has_run x z (suc t) ≡ false → suc t < deadline x z
+pub beginning_none_misses : (x : Schedule) (n t : ℕ) (z : Subtask) → IsRunBelow x n → t < n → x.is_active z.task t ≡ true → IsNext x z (suc t) → has_run x z (suc t) ≡ false → suc t < deadline x z
 beginning_none_misses x zero t z is less active next not_run = absurd (omega arith)
 beginning_none_misses x (suc n) t z is less active next not_run =
     none_misses (cut x n) t z (cut_is_run x n is) (active_cut x n z.task t less active) (next_cut x n z (suc t) less next) (not_ran_cut x n z (suc t) not_run)
 
-pub beginning_in_time : (x : Run) (n t : ℕ) (z : Subtask) → IsRunBelow x n → t < n → is_row x t z ≡ true → t < deadline x z
+pub beginning_in_time : (x : Schedule) (n t : ℕ) (z : Subtask) → IsRunBelow x n → t < n → is_row x t z ≡ true → t < deadline x z
 beginning_in_time x zero t z is less row = absurd (omega arith)
 beginning_in_time x (suc n) t z is less row = each_in_time (cut x n) t z (cut_is_run x n is) (row_cut x n t z less row)

@@ -5,7 +5,7 @@ use Rattle.std.proofs.lemmas.Bool.{true≢false, cases_lt, cases_Bool, lt-ltb, l
 use Rattle.std.proofs.lemmas.Bool.Decides.{nat_tests}
 use Rattle.std.proofs.lemmas.Nat.{mul-le}
 use Rattle.std.proofs.Math.Nat.{le_refl}
-use Rattle.pfair_optimal.specs.Run.{Task, Subtask, is_among, same_task, same_subtask, Run, IsRun, IsFirstMiss}
+use Rattle.pfair_optimal.specs.Schedule.{Task, Subtask, is_among, same_task, same_subtask, Schedule, IsRun, IsFirstMiss}
 use Rattle.pfair_optimal.proofs.Lists.{among_cases}
 use Rattle.pfair_optimal.proofs.Past.{task_exact, subtask_exact}
 use Rattle.pfair_optimal.proofs.Reasons.{picks, is_full, In}
@@ -14,16 +14,16 @@ use Rattle.pfair_optimal.proofs.Shares.{shares, shares_le_cost, unserved_none, s
 use Rattle.pfair_optimal.proofs.Totals.{total, total_among}
 
 -- the first slot of the block that slot n is in, which is n itself if the slot before it is full
-abbrev pub start : Run → ℕ → Subtask → ℕ → ℕ
+abbrev pub start : Schedule → ℕ → Subtask → ℕ → ℕ
 start x td missed zero = 0
 start x td missed (suc n) = cond (is_full x td missed n) (suc n) (start x td missed n)
 
 -- what the first slot of a block leaves over to its full slot
-abbrev pub carry : Run → ℕ → Subtask → Task → ℕ → ℕ
+abbrev pub carry : Schedule → ℕ → Subtask → Task → ℕ → ℕ
 carry x td missed a n = cond (nat_lt (start x td missed n) n) (cond (is_served x td missed a (start x td missed n)) 0 (shares x td missed a (start x td missed n))) 0
 
 -- how many rows of the task are picked in a slot
-abbrev pub picked : Run → ℕ → Subtask → Task → ℕ → ℕ
+abbrev pub picked : Schedule → ℕ → Subtask → Task → ℕ → ℕ
 picked x td missed a t = total (λ z. cond (same_task z.task a) 1 0) (picks x td missed t)
 
 carried : (s n : ℕ) (served : Bool) (w : ℕ) → 0 < cond (nat_lt s n) (cond served 0 w) 0 → (s < n) × (served ≡ false) × (cond (nat_lt s n) (cond served 0 w) 0 ≡ w)
@@ -32,7 +32,7 @@ carried s n served w some = grind (arith, nat_tests)
 pays : (b : Bool) (s c cost : ℕ) → s ≤ cost → (0 < s → b ≡ true) → (0 < c → (b ≡ true) × (s + c ≤ cost)) → s + c ≤ cond b cost 0
 pays b s c cost top held left = grind arith
 
-module _ (x : Run) (is : IsRun x) (td : ℕ) (missed : Subtask) (m : IsFirstMiss x td missed) where
+module _ (x : Schedule) (is : IsRun x) (td : ℕ) (missed : Subtask) (m : IsFirstMiss x td missed) where
   pub start_le : (n : ℕ) → start x td missed n ≤ n
   start_le zero = omega arith
   start_le (suc n) = grind (arith, start_le n)

@@ -6,7 +6,7 @@ use Rattle.std.proofs.lemmas.Nat.{mul-le, div-add-mod'}
 use Rattle.std.proofs.Math.Nat.{le_refl, lt_of_not-le}
 use Rattle.pfair_weight.specs.Share.{units_of}
 use Rattle.pfair_optimal.specs.Fluid.{fluid_of}
-use Rattle.pfair_optimal.specs.Run.{Task, Subtask, is_among, NoneTwice, same_task, same_subtask, Run, deadline, is_row, has_run, IsRun, IsNext, IsMiss, IsFirstMiss}
+use Rattle.pfair_optimal.specs.Schedule.{Task, Subtask, is_among, NoneTwice, same_task, same_subtask, Schedule, deadline, is_row, has_run, IsRun, IsNext, IsMiss, IsFirstMiss}
 use Rattle.pfair_optimal.proofs.Fluids.{fluid_none, fluid_whole, fluid_rises}
 use Rattle.pfair_optimal.proofs.Lists.{among_here, among_more, among_cases}
 use Rattle.pfair_optimal.proofs.Past.{task_exact, subtask_exact}
@@ -40,23 +40,23 @@ total_by_task f tasks apart (z ∷ zs) all =
     omega arith
 
 -- the units of one quantum of a cost
-abbrev pub unit : Run → Task → ℕ
+abbrev pub unit : Schedule → Task → ℕ
 unit x a = x.frame / (x.weight a).period
 
 -- the fluid of all reasons before a time, in units; what is left over then; and their tasks
-abbrev pub fluid : Run → ℕ → Subtask → ℕ → ℕ
+abbrev pub fluid : Schedule → ℕ → Subtask → ℕ → ℕ
 fluid x td missed t = total (λ z. unit x z.task * fluid_of (x.weight z.task) z.index (x.offset z.task z.index) t) (reasons x td missed)
 
-abbrev pub tasks : Run → ℕ → Subtask → List Task
+abbrev pub tasks : Schedule → ℕ → Subtask → List Task
 tasks x td missed = tasks_of (reasons x td missed)
 
-abbrev pub left_over_of_all : Run → ℕ → Subtask → ℕ → ℕ
+abbrev pub left_over_of_all : Schedule → ℕ → Subtask → ℕ → ℕ
 left_over_of_all x td missed n = total (λ a. unit x a * carry x td missed a n) (tasks x td missed)
 
-abbrev pub shares_of_all : Run → ℕ → Subtask → ℕ → ℕ
+abbrev pub shares_of_all : Schedule → ℕ → Subtask → ℕ → ℕ
 shares_of_all x td missed n = total (λ a. unit x a * shares x td missed a n) (tasks x td missed)
 
-module _ (x : Run) (is : IsRun x) (td : ℕ) (missed : Subtask) (m : IsFirstMiss x td missed) where
+module _ (x : Schedule) (is : IsRun x) (td : ℕ) (missed : Subtask) (m : IsFirstMiss x td missed) where
   -- the units of a whole processor are the frame
   unit_whole : (a : Task) → unit x a * (x.weight a).period ≡ x.frame
   unit_whole a = let split = div-add-mod' x.frame (x.weight a).period in let none = is.periods a in omega arith
@@ -185,19 +185,19 @@ module _ (x : Run) (is : IsRun x) (td : ℕ) (missed : Subtask) (m : IsFirstMiss
       omega arith
 
 -- no time has a miss: else the least one
-no_miss_below : (x : Run) → IsRun x → (n td : ℕ) (z : Subtask) → td < n → IsMiss x td z → ⊥
+no_miss_below : (x : Schedule) → IsRun x → (n td : ℕ) (z : Subtask) → td < n → IsMiss x td z → ⊥
 no_miss_below x is zero td z less miss = omega arith
 no_miss_below x is (suc n) td z less miss = overload x is td z (record { miss = miss; first = λ s w before other. no_miss_below x is n s w (omega arith) other })
 
-pub no_miss : (x : Run) → IsRun x → (td : ℕ) (z : Subtask) → IsMiss x td z → ⊥
+pub no_miss : (x : Schedule) → IsRun x → (td : ℕ) (z : Subtask) → IsMiss x td z → ⊥
 no_miss x is td z miss = no_miss_below x is (suc td) td z (omega arith) miss
 
 -- the next subtask of an active member has its deadline after the slot
-pub none_misses : (x : Run) (t : ℕ) (z : Subtask) → IsRun x → x.is_active z.task t ≡ true → IsNext x z (suc t) → has_run x z (suc t) ≡ false → suc t < deadline x z
+pub none_misses : (x : Schedule) (t : ℕ) (z : Subtask) → IsRun x → x.is_active z.task t ≡ true → IsNext x z (suc t) → has_run x z (suc t) ≡ false → suc t < deadline x z
 none_misses x t z is active next not_run = lt_of_not-le (λ late.
     let same : t ≡ suc t - 1 = omega arith in
     no_miss x is (suc t) z (record { some_time = omega arith; active = subst (λ n. x.is_active z.task n ≡ true) same active; next = next; not_run = not_run; late = late }))
 
 -- each row's slot is before its deadline
-pub each_in_time : (x : Run) (t : ℕ) (z : Subtask) → IsRun x → is_row x t z ≡ true → t < deadline x z
+pub each_in_time : (x : Schedule) (t : ℕ) (z : Subtask) → IsRun x → is_row x t z ≡ true → t < deadline x z
 each_in_time x t z is row = lt_of_not-le (λ late. no_miss x is t z (late_row x is z t row late))

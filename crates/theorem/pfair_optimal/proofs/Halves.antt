@@ -1,7 +1,7 @@
 -- A run that fills its processor: two tasks of weight 1/2 that run by turns.
 use Rattle.std.proofs.Common.{◌≡◌, ℕ, zero, suc, ◌+◌, ◌-◌, ◌*◌, ◌/◌, ◌%◌, ◌<◌, ◌≤◌, true, false, [], ◌∷◌, arith, refl, sym, subst, ⊎_elim}
 use Rattle.std.proofs.lemmas.Bool.{false≢true}
-use Rattle.pfair_optimal.specs.Run.{Task, Subtask, is_among, same_task, same_subtask, Run, release, is_row, has_run, IsRun, GoesFirst}
+use Rattle.pfair_optimal.specs.Schedule.{Task, Subtask, is_among, same_task, same_subtask, Schedule, release, is_row, has_run, IsRun, GoesFirst}
 use Rattle.pfair_optimal.proofs.Lists.{among_here, among_cases}
 use Rattle.pfair_optimal.proofs.Past.{task_exact, subtask_exact, ran_at, ran_by}
 
@@ -16,7 +16,7 @@ half_at k i = record { task = half k; index = i }
 abbrev pub turn : ℕ → Subtask
 turn t = half_at (t % 2) (t / 2 + 1)
 
-abbrev pub halves : Run
+abbrev pub halves : Schedule
 halves = record {
   processors = 1;
   frame = 2;

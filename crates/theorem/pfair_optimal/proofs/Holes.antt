@@ -4,7 +4,7 @@ use Rattle.std.specs.Prelude.{◌⊎◌}
 use Rattle.std.specs.List.{list_any}
 use Rattle.std.proofs.Math.Logic.{⊎_map}
 use Rattle.std.proofs.lemmas.Bool.{false_from_ne_true, true_from_ne_false, true≢false, cases_lt, cases_eq, cases_Bool}
-use Rattle.pfair_optimal.specs.Run.{Task, Subtask, same_task, same_subtask, next_of, previous_of, Run, release, deadline, b_bit, busy_bound, is_row, has_run, IsRun, IsFirstMiss}
+use Rattle.pfair_optimal.specs.Schedule.{Task, Subtask, same_task, same_subtask, next_of, previous_of, Schedule, release, deadline, b_bit, busy_bound, is_row, has_run, IsRun, IsFirstMiss}
 use Rattle.pfair_optimal.proofs.BusyBounds.{busy_after}
 use Rattle.pfair_optimal.proofs.Lists.{any_from, any_some}
 use Rattle.pfair_optimal.proofs.Past.{task_exact, subtask_exact, previous_next, next_previous, ran_at, ran_by, ran_more, next_after}
@@ -12,23 +12,23 @@ use Rattle.pfair_optimal.proofs.RunWindows.{release_two_before, next_release, ne
 use Rattle.pfair_optimal.proofs.Reasons.{picks, reasons, is_full, In, in_time, picks_rows, reason_pick, full_from, full_some, hole_pick, pick_hole, reason_index, reason_follows, reason_ran, full_rows}
 
 -- a row of the task is picked in the slot
-abbrev pub is_served : Run → ℕ → Subtask → Task → ℕ → Bool
+abbrev pub is_served : Schedule → ℕ → Subtask → Task → ℕ → Bool
 is_served x td missed a t = list_any (λ z. same_task z.task a) (picks x td missed t)
 
 -- what is picked in a hole: it ran in its last slot, in which the next subtask is released, with no delay between them
-pub record IsTight (x : Run) (w : Subtask) (t : ℕ) : Type 0 where
+pub record IsTight (x : Schedule) (w : Subtask) (t : ℕ) : Type 0 where
   pub due : deadline x w ≡ suc t
   pub bit : b_bit x w ≡ 1
   pub next : release x (next_of w) ≡ t
   pub undelayed : x.offset w.task (w.index + 1) ≡ x.offset w.task w.index
 
 -- what ran by the end of the hole t, before the full slot v: it was due by then, and if right then it is bound past v
-pub record IsReached (x : Run) (t v : ℕ) (z : Subtask) : Type 0 where
+pub record IsReached (x : Schedule) (t v : ℕ) (z : Subtask) : Type 0 where
   pub due : deadline x z ≤ suc t
   pub bit : deadline x z ≡ suc t → b_bit x z ≡ 1
   pub bound : deadline x z ≡ suc t → v < busy_bound x z
 
-module _ (x : Run) (is : IsRun x) (td : ℕ) (missed : Subtask) (m : IsFirstMiss x td missed) where
+module _ (x : Schedule) (is : IsRun x) (td : ℕ) (missed : Subtask) (m : IsFirstMiss x td missed) where
   -- all slots from t to v are holes
   abbrev pub AreHoles : ℕ → ℕ → Type 0
   AreHoles t v = (u : ℕ) → t ≤ u → u < v → is_full x td missed u ≡ false

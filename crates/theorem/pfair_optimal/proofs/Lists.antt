@@ -5,7 +5,7 @@ use Rattle.std.specs.List.{list_any}
 use Rattle.std.proofs.lemmas.List.Folds.{list_any-append}
 use Rattle.std.proofs.lemmas.Map.Views.{any-filter_same}
 use Rattle.std.proofs.lemmas.Bool.{and_parts, and_from, false_from_ne_true, false≢true, or_cases, or_left, or_right}
-use Rattle.pfair_optimal.specs.Run.{is_among, NoneTwice}
+use Rattle.pfair_optimal.specs.Schedule.{is_among, NoneTwice}
 
 module _ {A : Type 0} (same : A → A → Bool) (exact : (a b : A) → (same a b ≡ true) ↔ (a ≡ b)) where
   pub among_here : (xs : List A) (x : A) → is_among same (x ∷ xs) x ≡ true

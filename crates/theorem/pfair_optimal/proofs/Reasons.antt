@@ -5,50 +5,50 @@ use Rattle.std.specs.Prelude.{◌⊎◌, ◌==◌, nat_le, filter}
 use Rattle.std.specs.List.{list_any}
 use Rattle.std.proofs.Math.Logic.{⊎_map}
 use Rattle.std.proofs.lemmas.Bool.{false_from_ne_true, true≢false, false≢true, and_parts, and_from, leb-true, le-leb, cases_lt, cases_Bool}
-use Rattle.pfair_optimal.specs.Run.{Subtask, is_among, NoneTwice, same_subtask, next_of, previous_of, Run, release, deadline, is_row, has_run, IsRun, IsMiss, IsFirstMiss, GoesFirst}
+use Rattle.pfair_optimal.specs.Schedule.{Subtask, is_among, NoneTwice, same_subtask, next_of, previous_of, Schedule, release, deadline, is_row, has_run, IsRun, IsMiss, IsFirstMiss, GoesFirst}
 use Rattle.pfair_optimal.proofs.Lists.{among_here, among_cases, among_left, among_right, among_append, among_filter, filter_among, any_from, any_some, twice_filter, twice_append}
 use Rattle.pfair_optimal.proofs.Past.{subtask_exact, next_previous, ran_at, ran_by, ran_more, not_ran_less, row_not_before, next_not_run}
 use Rattle.pfair_optimal.proofs.RunWindows.{release_joined, release_before, next_deadline}
 
 -- it is released by slot v, the one before it ran before v, and it has not run by the end of v
-pub record Waits (x : Run) (z : Subtask) (v : ℕ) : Type 0 where
+pub record Waits (x : Schedule) (z : Subtask) (v : ℕ) : Type 0 where
   pub released : release x z ≤ v
   pub not_run : has_run x z (suc v) ≡ false
   pub follows : (z.index ≡ 1) ⊎ (has_run x (previous_of z) v ≡ true)
 
-abbrev pub waits : Run → ℕ → Subtask → Bool
+abbrev pub waits : Schedule → ℕ → Subtask → Bool
 waits x v z = nat_le (release x z) v && (not (has_run x z (suc v)) && (z.index == 1 || has_run x (previous_of z) v))
 
-pub waits_true : (x : Run) (v : ℕ) (z : Subtask) → waits x v z ≡ true → Waits x z v
+pub waits_true : (x : Schedule) (v : ℕ) (z : Subtask) → waits x v z ≡ true → Waits x z v
 waits_true x v z h = grind arith
 
-pub waits_from : (x : Run) (v : ℕ) (z : Subtask) → Waits x z v → waits x v z ≡ true
+pub waits_from : (x : Schedule) (v : ℕ) (z : Subtask) → Waits x z v → waits x v z ≡ true
 waits_from x v z h = grind arith
 
 -- the rows of slot v that those of q hang on
-abbrev pub is_wanted : Run → List Subtask → ℕ → Subtask → Bool
+abbrev pub is_wanted : Schedule → List Subtask → ℕ → Subtask → Bool
 is_wanted x q v w = is_among same_subtask q (next_of w) && nat_le (release x (next_of w)) v
 
-abbrev pub picks_from : Run → List Subtask → ℕ → List Subtask
+abbrev pub picks_from : Schedule → List Subtask → ℕ → List Subtask
 picks_from x q v = cond (list_any (waits x v) q) (x.table v) (filter (is_wanted x q v) (x.table v))
 
 -- back by n slots from the miss
-abbrev pub back : Run → ℕ → Subtask → ℕ → List Subtask
+abbrev pub back : Schedule → ℕ → Subtask → ℕ → List Subtask
 back x td missed zero = missed ∷ []
 back x td missed (suc n) = picks_from x (back x td missed n) (td - suc n) ++ back x td missed n
 
 -- those that come in at slot t or later, those that come in at slot v, and all
-abbrev pub later : Run → ℕ → Subtask → ℕ → List Subtask
+abbrev pub later : Schedule → ℕ → Subtask → ℕ → List Subtask
 later x td missed t = back x td missed (td - t)
 
-abbrev pub picks : Run → ℕ → Subtask → ℕ → List Subtask
+abbrev pub picks : Schedule → ℕ → Subtask → ℕ → List Subtask
 picks x td missed v = picks_from x (later x td missed (suc v)) v
 
-abbrev pub reasons : Run → ℕ → Subtask → List Subtask
+abbrev pub reasons : Schedule → ℕ → Subtask → List Subtask
 reasons x td missed = later x td missed 0
 
 -- a slot is full if one of them waits, and else a hole
-abbrev pub is_full : Run → ℕ → Subtask → ℕ → Bool
+abbrev pub is_full : Schedule → ℕ → Subtask → ℕ → Bool
 is_full x td missed v = list_any (waits x v) (reasons x td missed)
 
 abbrev pub In : List Subtask → Subtask → Type 0
@@ -63,10 +63,10 @@ downward P td start step t le = go (td - t) t (omega arith)
     go (suc n) t e = step t (omega arith) (go n (suc t) (omega arith))
 
 -- a row of a slot at or after its deadline missed it by then
-pub late_row : (x : Run) (is : IsRun x) (z : Subtask) (s : ℕ) → is_row x s z ≡ true → deadline x z ≤ s → IsMiss x s z
+pub late_row : (x : Schedule) (is : IsRun x) (z : Subtask) (s : ℕ) → is_row x s z ≡ true → deadline x z ≤ s → IsMiss x s z
 late_row x is z s row late = grind (arith, release_before, release_joined, row_not_before)
 
-module _ (x : Run) (is : IsRun x) (td : ℕ) (missed : Subtask) (m : IsFirstMiss x td missed) where
+module _ (x : Schedule) (is : IsRun x) (td : ℕ) (missed : Subtask) (m : IsFirstMiss x td missed) where
   -- what ran before the first miss ran before its deadline
   pub in_time : (z : Subtask) (s : ℕ) → s < td → is_row x s z ≡ true → s < deadline x z
   in_time z s before row = grind (arith, late_row)

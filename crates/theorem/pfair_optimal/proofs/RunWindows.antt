@@ -1,9 +1,9 @@
 -- Windows in a run.
 use Rattle.std.proofs.Common.{◌≡◌, ℕ, zero, suc, ◌+◌, ◌<◌, ◌≤◌, arith}
 use Rattle.pfair_weight.specs.WindowFacts.{window_not_empty, release_rises, deadline_rises_strictly, windows_overlap, b_bit_at_most_one}
-use Rattle.pfair_optimal.specs.Run.{Task, Subtask, next_of, Run, release, deadline, b_bit, busy_bound, IsRun, GoesFirst}
+use Rattle.pfair_optimal.specs.Schedule.{Task, Subtask, next_of, Schedule, release, deadline, b_bit, busy_bound, IsRun, GoesFirst}
 
-module _ (x : Run) (is : IsRun x) where
+module _ (x : Schedule) (is : IsRun x) where
   -- offsets never fall
   pub offsets : (a : Task) (i j : ℕ) → 1 ≤ i → i ≤ j → x.offset a i ≤ x.offset a j
   offsets a i zero first le = absurd (omega arith)

@@ -5,7 +5,7 @@ use Rattle.std.proofs.lemmas.Bool.{true≢false, cases_lt, cases_eq}
 use Rattle.std.proofs.Math.Nat.{lt_of_not-le}
 use Rattle.pfair_weight.specs.Window.{release_of}
 use Rattle.pfair_optimal.specs.Fluid.{share_of}
-use Rattle.pfair_optimal.specs.Run.{Task, Subtask, is_among, NoneTwice, same_task, same_subtask, Run, release, deadline, busy_bound, IsRun, IsFirstMiss}
+use Rattle.pfair_optimal.specs.Schedule.{Task, Subtask, is_among, NoneTwice, same_task, same_subtask, Schedule, release, deadline, busy_bound, IsRun, IsFirstMiss}
 use Rattle.pfair_optimal.proofs.Fluids.{share_in_window, shares_fit, shares_meet, no_three_shares}
 use Rattle.pfair_optimal.proofs.BusyBounds.{busy_opens}
 use Rattle.pfair_optimal.proofs.Lists.{among_here, among_more}
@@ -16,14 +16,14 @@ use Rattle.pfair_optimal.proofs.Holes.{is_served, AreHoles, IsUnserved, unserved
 use Rattle.pfair_optimal.proofs.Totals.{total, total_some, total_among}
 
 -- a subtask's share of a slot, and the same if it is of the task
-abbrev pub share : Run → Subtask → ℕ → ℕ
+abbrev pub share : Schedule → Subtask → ℕ → ℕ
 share x z v = share_of (x.weight z.task) z.index (x.offset z.task z.index) v
 
-abbrev pub own_share : Run → Task → ℕ → Subtask → ℕ
+abbrev pub own_share : Schedule → Task → ℕ → Subtask → ℕ
 own_share x a v z = cond (same_task z.task a) (share x z v) 0
 
 -- the shares that a task's subtasks among the reasons have of a slot together
-abbrev pub shares : Run → ℕ → Subtask → Task → ℕ → ℕ
+abbrev pub shares : Schedule → ℕ → Subtask → Task → ℕ → ℕ
 shares x td missed a v = total (own_share x a v) (reasons x td missed)
 
 abbrev pub subtask_of : Task → ℕ → Subtask
@@ -34,13 +34,13 @@ rising_once : (f : ℕ → ℕ) → ((i j : ℕ) → 1 ≤ i → i < j → f i <
 rising_once f up i j first first' e = grind arith
 
 -- what is above 0 is the task's own
-pub own : (x : Run) (a : Task) (v : ℕ) (z : Subtask) → 0 < own_share x a v z → (z.task ≡ a) × (0 < share x z v)
+pub own : (x : Schedule) (a : Task) (v : ℕ) (z : Subtask) → 0 < own_share x a v z → (z.task ≡ a) × (0 < share x z v)
 own x a v z some = grind (arith, task_exact)
 
-own_le : (x : Run) (a : Task) (v : ℕ) (z : Subtask) → own_share x a v z ≤ share x z v
+own_le : (x : Schedule) (a : Task) (v : ℕ) (z : Subtask) → own_share x a v z ≤ share x z v
 own_le x a v z = grind arith
 
-module _ (x : Run) (is : IsRun x) (td : ℕ) (missed : Subtask) (m : IsFirstMiss x td missed) where
+module _ (x : Schedule) (is : IsRun x) (td : ℕ) (missed : Subtask) (m : IsFirstMiss x td missed) where
   reasons_twice : NoneTwice same_subtask (reasons x td missed)
   reasons_twice = later_twice x is td missed m 0 (omega arith)
 

@@ -1,10 +1,10 @@
 -- The beginning of a run: what is wanted of its slots below a number, and of no later one.
 use Rattle.std.specs.Prelude.{ℕ, suc, ◌≡◌, ◌+◌, ◌*◌, ◌%◌, ◌<◌, ◌≤◌, true, false, length, sum_by}
 use Rattle.pfair_weight.specs.Share.{IsWeight, units_of}
-use Rattle.pfair_optimal.specs.Run.{Task, Subtask, NoneTwice, is_among, same_task, same_subtask, Run, IsNext, GoesFirst, release, busy_bound, is_row, has_run}
+use Rattle.pfair_optimal.specs.Schedule.{Task, Subtask, NoneTwice, is_among, same_task, same_subtask, Schedule, IsNext, GoesFirst, release, busy_bound, is_row, has_run}
 
 -- the premises of `IsRun`, each of the slots below n alone; and no task runs before it joins
-pub record IsRunBelow (x : Run) (n : ℕ) : Type 0 where
+pub record IsRunBelow (x : Schedule) (n : ℕ) : Type 0 where
   pub frame : 0 < x.frame
   pub weights : (a : Task) → IsWeight (x.weight a).cost (x.weight a).period
   pub periods : (a : Task) → x.frame % (x.weight a).period ≡ 0

@@ -4,7 +4,7 @@ use Rattle.pfair_weight.specs.Share.{Share, IsWeight, IsHeavy, units_of}
 use Rattle.pfair_weight.specs.Window.{release_of, deadline_of, b_bit_of, group_deadline_of}
 use Rattle.pfair_optimal.specs.Beginning.{IsRunBelow}
 use Rattle.pfair_optimal.specs.Fluid.{share_of, total_before, busy_bound_of}
-use Rattle.pfair_optimal.specs.Run.{Subtask, Run, deadline, is_row, has_run, IsRun, IsNext}
+use Rattle.pfair_optimal.specs.Schedule.{Subtask, Schedule, deadline, is_row, has_run, IsRun, IsNext}
 
 -- a subtask's shares are above 0 just in the slots of its window, at most the cost each, and add up to one quantum
 pub record SharesFillWindows : Type 0 where
@@ -54,14 +54,14 @@ pub record BusyBoundsLast : Type 0 where
 -- in a run of the PD2 order in which the weights have room, no task misses: after each slot the next subtask of an active member has
 -- its deadline after the slot's end, and what ran in it ran before its deadline
 pub record RunsNeverMiss : Type 0 where
-  pub none_misses : (x : Run) (t : ℕ) (z : Subtask) → IsRun x → x.is_active z.task t ≡ true → IsNext x z (suc t) → has_run x z (suc t) ≡ false → suc t < deadline x z
-  pub each_in_time : (x : Run) (t : ℕ) (z : Subtask) → IsRun x → is_row x t z ≡ true → t < deadline x z
+  pub none_misses : (x : Schedule) (t : ℕ) (z : Subtask) → IsRun x → x.is_active z.task t ≡ true → IsNext x z (suc t) → has_run x z (suc t) ≡ false → suc t < deadline x z
+  pub each_in_time : (x : Schedule) (t : ℕ) (z : Subtask) → IsRun x → is_row x t z ≡ true → t < deadline x z
 
 -- the same of the beginning of a run, of which no more than that is known
 pub record BeginningsNeverMiss : Type 0 where
-  pub none_misses : (x : Run) (n t : ℕ) (z : Subtask) → IsRunBelow x n → t < n → x.is_active z.task t ≡ true → IsNext x z (suc t) → has_run x z (suc t) ≡ false → suc t < deadline x z
-  pub each_in_time : (x : Run) (n t : ℕ) (z : Subtask) → IsRunBelow x n → t < n → is_row x t z ≡ true → t < deadline x z
+  pub none_misses : (x : Schedule) (n t : ℕ) (z : Subtask) → IsRunBelow x n → t < n → x.is_active z.task t ≡ true → IsNext x z (suc t) → has_run x z (suc t) ≡ false → suc t < deadline x z
+  pub each_in_time : (x : Schedule) (n t : ℕ) (z : Subtask) → IsRunBelow x n → t < n → is_row x t z ≡ true → t < deadline x z
 
 -- the premises can be met, also if the weights fill the machine
 abbrev pub SomeRunIsFull : Type 0
-SomeRunIsFull = (x : Run) × IsRun x × ((t : ℕ) → sum_by (λ a. units_of (x.weight a) x.frame) (x.members t) ≡ x.processors * x.frame)
+SomeRunIsFull = (x : Schedule) × IsRun x × ((t : ℕ) → sum_by (λ a. units_of (x.weight a) x.frame) (x.members t) ≡ x.processors * x.frame)

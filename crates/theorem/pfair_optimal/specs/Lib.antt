@@ -1,4 +1,4 @@
 pub mod Beginning
 pub mod Fluid
 pub mod Laws
-pub mod Run
+pub mod Schedule

@@ -1,6 +1,6 @@
 //! Why no task misses its deadline under PD2: laws alone, none of which a program calls.
 //!
-//! The theorem is the law `laws::runs_never_miss`, of a run as plain data (`specs/Run.antt`, whose
+//! The theorem is the law `laws::runs_never_miss`, of a run as plain data (`specs/Schedule.antt`, whose
 //! record `IsRun` has the premises; `laws::some_run_is_full` says that they can be met). That the
 //! executive is such a run is what the crate `pfair_in_time` shows.
 //!

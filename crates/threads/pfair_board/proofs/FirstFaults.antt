@@ -1,6 +1,6 @@
 -- The first fault of a run's workers is one that the run may end with.
 use Rattle.std.proofs.Common.{◌≡◌, ◌∙◌, ◌⊎◌, ap, sym, subst, refl, inl, inr, ℕ, Bool, Some, Ok, Err, Option, Result, List, IsOk, IfErr, slice_get}
-use Rattle.pfair_replica.specs.HeldRows.{HeldRows, replica_of}
+use Rattle.pfair_replica.specs.ReplicaRows.{ReplicaRows, replica_of}
 use Rattle.pfair_table.specs.Table.{Settings, Table}
 use Rattle.pfair_table.specs.Script.{LoggedRun, replica_of_logs}
 use Rattle.pfair_board.specs.declared.threads.Worked.{Worked}
@@ -24,7 +24,7 @@ astray has m r b ws k w at work memory gate stray (Err Astray) same = inl (subst
 astray has m r b ws k w at work memory gate stray (Err (Stalled slot)) same = absurd (subst (λ x. IfErr x (IsWorkerFault m w.desk 1 (log_of r k))) same work.fault)
 
 -- the first fault by what a replica in hand is, and by the number of slots, is that by the script
-pub first_of : {K : Type 0} {ws ws' : List (Worked K)} {whole taken : HeldRows} {n : ℕ} {s : Settings} {f f' : Option RunFault} (r : LoggedRun)
+pub first_of : {K : Type 0} {ws ws' : List (Worked K)} {whole taken : ReplicaRows} {n : ℕ} {s : Settings} {f f' : Option RunFault} (r : LoggedRun)
     → ws ≡ ws' → whole ≡ taken → replica_of taken ≡ replica_of_logs r.logs → n ≡ s.slots → s ≡ r.settings → f ≡ f'
     → IsFirstFault ws (replica_of whole) n f → IsFirstFault ws' (replica_of_logs r.logs) r.settings.slots f'
 first_of {ws' = ws'} {whole = whole} {n = n} {f = f} r workers taken held slots settings faults is =

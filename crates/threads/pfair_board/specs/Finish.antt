@@ -1,6 +1,6 @@
 -- What a finished run is.
 use Rattle.std.specs.Prelude.{ℕ, ◌≤◌, ◌≡◌, List, length, slice_get, Some, IsOk, IfOk}
-use Rattle.pfair_replica.specs.HeldRows.{replica_of}
+use Rattle.pfair_replica.specs.ReplicaRows.{replica_of}
 use Rattle.pfair_replica.specs.Replica.{Replica, frontier}
 use Rattle.pfair_table.specs.Table.{Settings, Table, plan}
 use Rattle.pfair_table.specs.Places.{places_of}

@@ -1,6 +1,6 @@
 -- With which fault workers end, if several apply.
 use Rattle.std.specs.Prelude.{ℕ, ◌≡◌, ◌<◌, ◌≤◌, List, Option, Some, None, Err, IsOk, slice_get}
-use Rattle.pfair_replica.specs.HeldRows.{replica_of}
+use Rattle.pfair_replica.specs.ReplicaRows.{replica_of}
 use Rattle.pfair_replica.specs.Replica.{Replica, Below, frontier}
 use Rattle.pfair_board.specs.declared.threads.Worked.{Worked}
 use Rattle.pfair_table.specs.declared.run_fault.RunFault.{RunFault}

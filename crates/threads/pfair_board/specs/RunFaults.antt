@@ -1,6 +1,6 @@
 -- What each fault of a run says.
 use Rattle.std.specs.Prelude.{ℕ, ◌≡◌, ◌<◌, ◌⊎◌, Bool, true, List, Some, slice_get}
-use Rattle.pfair_replica.specs.HeldRows.{replica_of}
+use Rattle.pfair_replica.specs.ReplicaRows.{replica_of}
 use Rattle.pfair_replica.specs.Replica.{Below, frontier}
 use Rattle.pfair_table.specs.Table.{Table}
 use Rattle.pfair_table.specs.Script.{LoggedRun, replica_of_logs}

@@ -1,6 +1,6 @@
 -- What the threads of a run begin with and hand back.
 use Rattle.std.specs.Prelude.{ℕ, ◌≡◌, Bool, false, List, [], length, slice_get, Some, None, IfErr, IfOk, OnOk}
-use Rattle.pfair_replica.specs.HeldRows.{SameShape, replica_of}
+use Rattle.pfair_replica.specs.ReplicaRows.{SameShape, replica_of}
 use Rattle.pfair_replica.specs.Replica.{Below}
 use Rattle.pfair_table.specs.Table.{Table, plan}
 use Rattle.pfair_table.specs.Script.{LoggedRun, capacity_of}
@@ -32,8 +32,8 @@ pub record AreWorks {K : Type 0} (has : K → ℕ → List Table → Type 0) (ma
 pub record IsAtWork {K : Type 0} (has : K → ℕ → List Table → Type 0) (a : Dispatch) (sink : K) (d : DeskView) : Type 0 where
   pub first : a.origin ≡ None
   pub able : a.spent ≡ false
-  pub shape : SameShape a.held d.replica
-  pub below : Below (replica_of a.held) (replica_of d.replica)
+  pub shape : SameShape a.replica d.replica
+  pub below : Below (replica_of a.replica) (replica_of d.replica)
   pub given : has sink d.processor a.tables
 
 -- all is planned that the desk settles

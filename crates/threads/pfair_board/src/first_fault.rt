@@ -1,6 +1,6 @@
 //! With which fault a run ends.
 ghost use Rattle.std.specs.Prelude.{◌≡◌, ◌↔◌, IsTrue, false};
-ghost use Rattle.pfair_replica.specs.HeldRows.{replica_of};
+ghost use Rattle.pfair_replica.specs.ReplicaRows.{replica_of};
 ghost use Rattle.pfair_board.specs.FirstFault.{SomeEndsIn, SomeStrays, Holds, AllHold, IsFirstFault};
 
 use crate::threads::Worked;

@@ -20,7 +20,8 @@ pub trait Sink: Drop {
     fn take(&mut self, slot: u64, table: Vec<Pick>) -> Result<Option<Vec<Pick>>, AllocError>
         requires fit { IsFit Settings.MAX_PROCESSORS table.items }
         requires before { (row : ℕ) × (tables : List Table) × (length tables ≡ slot) × has self.old row tables }
-        ensures { OnOk result ((row : ℕ) (tables : List Table) → length tables ≡ slot → has self.old row tables → has self.new row (tables ++ table.items ∷ [])) };
+        ensures { OnOk result ((row : ℕ) (tables : List Table) → length tables ≡ slot
+            → has self.old row tables → has self.new row (tables ++ table.items ∷ [])) };
 }
 
 /// Keeps each table.

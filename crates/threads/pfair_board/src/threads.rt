@@ -69,7 +69,8 @@ pub(crate) fn run_all<R: Ready + Send, G: Gate + Sync, K: Sink + Send>(
         thread::scope_env(),
         rt,
         move |scope| -> Result<Vec<Worked<K>>, AllocError>
-            requires { (board.now.processors ≡ script.now.settings.processors) × (board.now.capacity ≡ capacity_of script.now.logs) × AreWorkplaces K.has board.now workplaces.items }
+            requires { (board.now.processors ≡ script.now.settings.processors) × (board.now.capacity ≡ capacity_of script.now.logs)
+                × AreWorkplaces K.has board.now workplaces.items }
             ensures { IfOk result (λ works. AreWorks K.has G.may_give_up board.entry.now script.entry.now works.items) }
         {
             let mut threads = Vec::with_capacity(alloc, workplaces.len())?;

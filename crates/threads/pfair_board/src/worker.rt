@@ -1,6 +1,6 @@
 //! What each worker does.
 ghost use Rattle.std.specs.Prelude.{◌≡◌, ◌≤◌, ◌+◌, [], false, true, length, IfOk, IfErr, OnOk};
-ghost use Rattle.pfair_replica.specs.HeldRows.{replica_of};
+ghost use Rattle.pfair_replica.specs.ReplicaRows.{replica_of};
 ghost use Rattle.pfair_table.specs.Table.{plan};
 ghost use Rattle.pfair_desk.specs.Desks.{IsDeskOf, GrownDesk};
 ghost use Rattle.pfair_board.specs.Finish.{IsRunOf};

@@ -7,7 +7,7 @@ use Rattle.pfair_lattice.specs.Held.{Held}
 use Rattle.pfair_entry.specs.Entry.{Logged}
 use Rattle.pfair_replica.specs.Replica.{Replica, sound_beginning}
 use Rattle.pfair_replica.specs.Laws.{IsReadByNumber}
-use Rattle.pfair_replica.specs.HeldRows.{held, replica_of}
+use Rattle.pfair_replica.specs.ReplicaRows.{held, replica_of}
 use Rattle.pfair_replica.specs.HeldAfter.{held_after}
 use Rattle.pfair_desk.specs.Desks.{DeskView, DeskState, state_of, learned}
 use Rattle.pfair_desk.specs.Gained.{is_gained, gained_in_row, gained_in_rows, SameDesk, NoGapInRow}

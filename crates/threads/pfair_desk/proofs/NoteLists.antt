@@ -6,7 +6,7 @@ use Rattle.std.proofs.Math.ListN.{get_or-map as seen_or}
 use Rattle.once_cell.specs.declared.race.note.Note.{Note}
 use Rattle.pfair_entry.specs.Entry.{Logged}
 use Rattle.once_cell.specs.Once.{Agrees}
-use Rattle.pfair_desk.specs.Knowledge.{Knowledge, knowing, told}
+use Rattle.pfair_desk.specs.Knowledge.{Knowledge, knowing, shared}
 use Rattle.pfair_desk.specs.Noted.{KnowMore}
 use Rattle.pfair_desk.proofs.NotedLemmas.{more_refl, more_learned, learned_at}
 
@@ -45,16 +45,16 @@ pub unknown_at : (ns : List (Note Logged)) (p : ℕ) (n : Note Logged) → n ≡
 unknown_at ns p n is none = ap (λ z. slice_index_or (says ns).known p z) (sym none) ∙ (seen_or (λ x. x.known) ns p n ∙ (ap (λ x. x.known) (sym is) ∙ none))
 
 -- a note list after one note learned what another of its cell knows: it knows no less
-pub more_told : (ns : List (Note Logged)) (p : ℕ) (n m : Note Logged) (theirs : Option Logged) → p < length ns → n ≡ slice_index_or ns p n → m.cell ≡ n.cell → m.known ≡ told n.known theirs
+pub more_shared : (ns : List (Note Logged)) (p : ℕ) (n m : Note Logged) (theirs : Option Logged) → p < length ns → n ≡ slice_index_or ns p n → m.cell ≡ n.cell → m.known ≡ shared n.known theirs
     → IfSome theirs (Agrees n.known) → KnowMore (says ns) (says (slice_set ns p m))
-more_told ns p n m None within is cell known agrees = rw (view_same ns p n m is cell known) (more_refl (says ns))
-more_told ns p n m (Some e) within is cell known agrees =
+more_shared ns p n m None within is cell known agrees = rw (view_same ns p n m is cell known) (more_refl (says ns))
+more_shared ns p n m (Some e) within is cell known agrees =
     let mine : slice_index_or (says ns).known p None ≡ n.known = seen_at (λ x. x.known) ns p n None within is in
     more_learned (says ns) (says (slice_set ns p m)) p e (view_learned ns p n m e is cell known) (rw mine agrees)
 
 -- and what the other knows
-pub told_at : (ns : List (Note Logged)) (p : ℕ) (n m : Note Logged) (theirs : Option Logged) (e : Logged) → p < length ns → n ≡ slice_index_or ns p n → m.cell ≡ n.cell → m.known ≡ told n.known theirs
+pub shared_at : (ns : List (Note Logged)) (p : ℕ) (n m : Note Logged) (theirs : Option Logged) (e : Logged) → p < length ns → n ≡ slice_index_or ns p n → m.cell ≡ n.cell → m.known ≡ shared n.known theirs
     → theirs ≡ Some e → slice_index_or (says (slice_set ns p m)).known p None ≡ Some e
-told_at ns p n m theirs e within is cell known some =
+shared_at ns p n m theirs e within is cell known some =
     let long : p < length (says ns).known = omega (arith, length-map ns (λ (x : Note Logged). x.known)) in
-    learned_at (says ns) (says (slice_set ns p m)) p e (view_learned ns p n m e is cell (known ∙ ap (told n.known) some)) long
+    learned_at (says ns) (says (slice_set ns p m)) p e (view_learned ns p n m e is cell (known ∙ ap (shared n.known) some)) long

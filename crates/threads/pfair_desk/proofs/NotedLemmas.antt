@@ -11,7 +11,7 @@ use Rattle.pfair_entry.specs.Entry.{Logged}
 use Rattle.pfair_entry.specs.Same.{entry_eq}
 use Rattle.pfair_entry.specs.Exact.{entry_exact}
 use Rattle.pfair_replica.specs.Replica.{Replica, with_entry, empty_replica, join, Below, Untorn}
-use Rattle.pfair_replica.specs.HeldRows.{HeldRows, IsShape, SameShape}
+use Rattle.pfair_replica.specs.ReplicaRows.{ReplicaRows, IsShape, SameShape}
 use Rattle.pfair_replica.specs.Faults.{HoldsMore, IsMergeFaultOf}
 use Rattle.pfair_replica.specs.declared.answer.MergeFault.{MergeFault}
 use Rattle.pfair_replica.specs.declared.answer.MergeFault.TheVariants.{OtherShape, Memory}
@@ -93,7 +93,7 @@ pub in_order_fresh : (m c processor : ℕ) (x : Replica) (w : Knowledge) → IsS
 in_order_fresh m c processor x w shape is cells known row = grind (arith, length-replicate)
 
 -- a merge of equal shapes allocates only for a key at which nothing is held
-pub holds_more : (x y : HeldRows) (f : MergeFault) → SameShape x y → IsMergeFaultOf x y f → HoldsMore x y
+pub holds_more : (x y : ReplicaRows) (f : MergeFault) → SameShape x y → IsMergeFaultOf x y f → HoldsMore x y
 holds_more x y OtherShape same is = absurd (is same)
 holds_more x y Memory same is = is.1
 

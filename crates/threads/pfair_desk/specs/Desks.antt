@@ -3,7 +3,7 @@ use Rattle.std.specs.Prelude.{◌≡◌, ℕ, ◌+◌, List, Some}
 use Rattle.pfair_lattice.specs.declared.flat.Flat.{Flat}
 use Rattle.pfair_entry.specs.Entry.{Logged}
 use Rattle.pfair_replica.specs.Replica.{Replica, join, with_entry, empty_replica}
-use Rattle.pfair_replica.specs.HeldRows.{HeldRows, replica_of}
+use Rattle.pfair_replica.specs.ReplicaRows.{ReplicaRows, replica_of}
 use Rattle.pfair_replica.specs.Faults.{IsPartlyMerged}
 use Rattle.pfair_desk.specs.Boards.{BoardFrame}
 
@@ -12,7 +12,7 @@ pub record DeskView : Type 0 where
   pub processor : ℕ
   pub next_number : ℕ
   pub cells : List ℕ
-  pub replica : HeldRows
+  pub replica : ReplicaRows
 
 -- the same, with the replica that the definitions speak of
 pub record DeskState : Type 0 where

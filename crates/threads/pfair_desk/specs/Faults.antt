@@ -4,7 +4,7 @@ use Rattle.pfair_lattice.specs.declared.flat.Flat.TheVariants.{One}
 use Rattle.pfair_entry.specs.Entry.{Logged}
 use Rattle.pfair_desk.specs.declared.fault.PublishFault.{PublishFault}
 use Rattle.pfair_desk.specs.declared.fault.PublishFault.TheVariants as publish
-use Rattle.pfair_replica.specs.HeldRows.{held}
+use Rattle.pfair_replica.specs.ReplicaRows.{held}
 use Rattle.pfair_desk.specs.Desks.{DeskView, state_of, numbered}
 
 -- why e isn't published, and what the desk is then; memory is wanted for a missing key alone

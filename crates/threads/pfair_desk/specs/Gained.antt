@@ -1,6 +1,6 @@
 -- What a desk gains.
 use Rattle.std.specs.Prelude.{◌≡◌, ℕ, suc, zero, ◌+◌, ◌≤◌, Bool, not, ◌&&◌, cond, is_some, None, IsSome}
-use Rattle.pfair_replica.specs.HeldRows.{HeldRows, held}
+use Rattle.pfair_replica.specs.ReplicaRows.{ReplicaRows, held}
 use Rattle.pfair_replica.specs.Replica.{Replica}
 use Rattle.pfair_desk.specs.Boards.{IsKey}
 use Rattle.pfair_desk.specs.Desks.{DeskView}
@@ -28,7 +28,7 @@ abbrev pub NoGapInRow : Replica → Replica → ℕ → Type 0
 NoGapInRow x y k = (n j : ℕ) → x.at k n ≡ None → IsSome (y.at k n) → 1 ≤ j → j ≤ n → IsSome (y.at k j)
 
 -- a key of the board that isn't held
-pub record LacksSome (rows : HeldRows) : Type 0 where
+pub record LacksSome (rows : ReplicaRows) : Type 0 where
   pub processor : ℕ
   pub number : ℕ
   pub key : IsKey rows.processors rows.capacity processor number

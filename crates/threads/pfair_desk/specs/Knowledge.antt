@@ -12,6 +12,6 @@ abbrev pub knowing : Knowledge → ℕ → Logged → Knowledge
 knowing w place e = record w { known = slice_set w.known place (Some e) }
 
 -- what a note knows that knew k, once it learned j
-abbrev pub told : {X : Type 0} → Option X → Option X → Option X
-told k None = k
-told k (Some x) = Some x
+abbrev pub shared : {X : Type 0} → Option X → Option X → Option X
+shared k None = k
+shared k (Some x) = Some x

@@ -4,7 +4,7 @@ use Rattle.pfair_lattice.specs.Held.{Held}
 use Rattle.pfair_lattice.specs.declared.flat.Flat.TheVariants.{One, Torn}
 use Rattle.pfair_entry.specs.Entry.{Logged}
 use Rattle.pfair_replica.specs.Replica.{Replica}
-use Rattle.pfair_replica.specs.HeldRows.{IsShape}
+use Rattle.pfair_replica.specs.ReplicaRows.{IsShape}
 use Rattle.pfair_desk.specs.Boards.{place_of}
 use Rattle.pfair_desk.specs.Knowledge.{Knowledge}
 

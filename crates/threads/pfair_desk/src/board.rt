@@ -1,7 +1,7 @@
 //! The cells.
 ghost use Rattle.std.specs.Prelude.{◌≡◌, ◌<◌, ℕ, IfOk, Some, length, slice_get, vec_len};
 ghost use Rattle.once_cell.specs.Once.{cell_name};
-ghost use Rattle.pfair_replica.specs.HeldRows.{IsShape};
+ghost use Rattle.pfair_replica.specs.ReplicaRows.{IsShape};
 ghost use Rattle.pfair_desk.specs.Boards.{BoardFrame};
 ghost use Rattle.pfair_desk.specs.Desks.{DeskView, IsDeskOf, state_of, fresh_desk};
 
@@ -23,7 +23,7 @@ pub struct Board {
 
 impl Model for Board {
     ghost use Rattle.std.specs.Prelude.{◌≡◌, ◌*◌, length, map};
-    ghost use Rattle.pfair_replica.specs.HeldRows.{IsShape};
+    ghost use Rattle.pfair_replica.specs.ReplicaRows.{IsShape};
     ghost use Rattle.pfair_desk.specs.Boards.{BoardFrame};
     ghost use Rattle.once_cell.specs.Once.{cell_name};
 

@@ -3,7 +3,7 @@ ghost use Rattle.std.specs.Prelude.{◌≡◌, ◌<◌, ◌≤◌, ◌*◌, ◌+
 ghost use Rattle.once_cell.specs.Once.{cell_name};
 ghost use Rattle.pfair_lattice.specs.declared.flat.Flat.TheVariants.{One};
 ghost use Rattle.pfair_entry.specs.Entry.{Logged};
-ghost use Rattle.pfair_replica.specs.HeldRows.{IsShape, IsHeldRows, held, replica_of};
+ghost use Rattle.pfair_replica.specs.ReplicaRows.{IsShape, IsReplicaRows, held, replica_of};
 ghost use Rattle.pfair_replica.specs.Faults.{HoldsMore, IsTakeFaultOf};
 ghost use Rattle.pfair_replica.specs.Replica.{Untorn};
 ghost use Rattle.pfair_desk.specs.Boards.{BoardFrame, IsKey, place_of};
@@ -34,7 +34,7 @@ pub struct Desk {
 }
 
 impl Model for Desk {
-    ghost use Rattle.pfair_replica.specs.HeldRows.{replica_of};
+    ghost use Rattle.pfair_replica.specs.ReplicaRows.{replica_of};
     ghost use Rattle.pfair_desk.specs.Desks.{DeskView};
     ghost use Rattle.pfair_desk.specs.Noted.{IsInOrder};
 
@@ -57,7 +57,8 @@ impl Desk {
         requires shape { IsShape processors capacity }
         requires all { length cells.now ≡ processors * capacity }
         requires row { processor < processors }
-        ensures { IfOk result (λ desk. state_of desk ≡ fresh_desk (record { processors = processors; capacity = capacity; cells = map cell_name cells.now }) processor) }
+        ensures { IfOk result (λ desk. state_of desk ≡ fresh_desk
+            (record { processors = processors; capacity = capacity; cells = map cell_name cells.now }) processor) }
     {
         let notes = Notes::of(alloc, cells)?;
         Ok(Desk {
@@ -89,7 +90,7 @@ impl Desk {
     /// Returns the desk's replica.
     pub fn replica(&self) -> &Replica
         ensures value { result.now ≡ self.now.replica }
-        ensures rows { IsHeldRows self.now.replica }
+        ensures rows { IsReplicaRows self.now.replica }
         ensures whole { Untorn (replica_of self.now.replica) }
     {
         // a replica has a row for each of its processors, and has some

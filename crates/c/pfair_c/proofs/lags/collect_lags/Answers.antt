@@ -4,12 +4,12 @@ use Rattle.pfair_table.specs.Refinement.{Dispatch}
 use Rattle.pfair_c.specs.declared.lags.PfairLag.{PfairLag}
 use Rattle.pfair_c.specs.Lags.{book_rows, lag_row, lags_at}
 use Rattle.pfair_c.specs.Rows.{rows_of}
-use Rattle.pfair_c.proofs.LagFacts.{as-many-more, book_time, next_told, one-more-slot, pushed}
+use Rattle.pfair_c.proofs.LagFacts.{as-many-more, book_time, next_booked, one-more-slot, pushed}
 use Rattle.pfair_c.proofs.SlotRows.{counted-within}
 use Rattle.pfair_c.proofs.lags.collect_lags.Goals as goal
 
-pub tell_slots-requires-clause-to : goal.tell_slots-requires-clause-to
-tell_slots-requires-clause-to g c =
+pub book_slots-requires-clause-to : goal.book_slots-requires-clause-to
+book_slots-requires-clause-to g c =
     let time =
     book_time c.args.dispatcher.now c.loop-slot.slot c.loop-slot.book (omega (arith, c.loop-slot-test.true, c.requires.planned, c.next_slot.ensures.decided, c.next_slot.ensures.value))
     (omega (arith, c.loop-slot-test.true, c.requires.planned)) c.loop-slot.invariant.2 in
@@ -21,18 +21,18 @@ loop-slot-preserved g c =
     let from = c.args.from in
     let slot = c.loop-slot.slot in
     let after = c.loop-slot.invariant.0 in
-    let book = c.tell_slots.new.book in
+    let book = c.book_slots.new.book in
     let inside : slot < length d.decided = omega (arith, c.loop-slot-test.true, c.requires.planned, c.next_slot.ensures.decided, c.next_slot.ensures.value) in
     let inside' : slot < length d.tables = omega (arith, c.loop-slot-test.true, c.requires.planned) in
-    let told = next_told d slot c.loop-slot.book book inside inside' c.loop-slot.invariant.2 c.in_ok-tell_slots.ensures in
+    let given = next_booked d slot c.loop-slot.book book inside inside' c.loop-slot.invariant.2 c.in_ok-book_slots.ensures in
     let before : List PfairLag = rows_of (lags_at d) from (slot - from) in
     let all : List PfairLag = rows_of (lags_at d) from (slot + 1 - from) in
-    let more = as-many-more d from slot book after told in (
+    let more = as-many-more d from slot book after given in (
       omega arith,
       omega arith,
-      told,
+      given,
       counted-within (length before) (length book.entered) (length all) 18446744073709551615 c.loop-slot.count c.saturating_add-count.result c.loop-slot.invariant.3 (search rules) more,
       λ room.
           pushed before (book_rows book) all c.loop-slot.lags.items c.push_lags.new.lags.items (length book.entered) c.args.room (c.loop-slot.invariant.4 (omega (arith, more)))
-          (one-more-slot d from slot book after told) (sym (length-map book.entered (lag_row book.time))) c.in_ok-push_lags.ensures room,
+          (one-more-slot d from slot book after given) (sym (length-map book.entered (lag_row book.time))) c.in_ok-push_lags.ensures room,
     )

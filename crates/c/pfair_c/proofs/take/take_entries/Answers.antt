@@ -1,5 +1,5 @@
 use Rattle.std.proofs.Common.{rules, ◌≡◌, ◌<◌, ◌+◌, length, arith}
-use Rattle.pfair_replica.specs.HeldRows.{replica_of}
+use Rattle.pfair_replica.specs.ReplicaRows.{replica_of}
 use Rattle.pfair_replica.specs.Replica.{Replica}
 use Rattle.pfair_c.proofs.TakingFacts.{next-taking, next-of-log, same-key, counted-more, err-of, refused-at}
 use Rattle.pfair_c.proofs.take.take_entries.Goals as goal
@@ -10,16 +10,16 @@ returns-in_err-how-clause-refused g c =
     let taken = c.loop-entry.invariant.1 in
     let inside : c.loop-entry.entry-index < length c.args.entries.now = omega (arith, c.loop-entry-test.true, c.loop-entry.auto.entry-index-end) in
     let at : c.loop-entry.number ≡ c.args.first + c.loop-entry.counted.taken = omega (arith, number, taken) in
-    let refused = refused-at c.loop-entry.dispatcher.held c.args.processor (c.args.first + c.loop-entry.counted.taken) c.args.entries.now c.loop-entry.entry-index c.loop-entry.number c.loop-entry.counted.taken c.in_err-how.field-0.0 _ inside at taken c.in_err-how.ensures.refused in
+    let refused = refused-at c.loop-entry.dispatcher.replica c.args.processor (c.args.first + c.loop-entry.counted.taken) c.args.entries.now c.loop-entry.entry-index c.loop-entry.number c.loop-entry.counted.taken c.in_err-how.field-0.0 _ inside at taken c.in_err-how.ensures.refused in
     err-of c.from_residual.result c.in_err-how.field-0.0 _ c.from_residual.ensures.1 (rw c.in_err-how.ensures.unchanged refused)
 
 pub loop-entry-preserved : goal.loop-entry-preserved
 loop-entry-preserved g c =
     let i = c.loop-entry.entry-index in
     let j = c.loop-entry.number in
-    let x : Replica = replica_of c.args.dispatcher.now.held in
-    let now : Replica = replica_of c.loop-entry.dispatcher.held in
-    let next : Replica = replica_of c.take_one.new.dispatcher.held in
+    let x : Replica = replica_of c.args.dispatcher.now.replica in
+    let now : Replica = replica_of c.loop-entry.dispatcher.replica in
+    let next : Replica = replica_of c.take_one.new.dispatcher.replica in
     let number : j ≡ c.args.first + i = c.loop-entry.invariant.0 in
     let inside : i < length c.args.entries.now = omega (arith, c.loop-entry-test.true, c.loop-entry.auto.entry-index-end) in
     let state = c.loop-entry.invariant.4 in

@@ -1,5 +1,5 @@
 use Rattle.std.proofs.Common.{◌≡◌, ◌+◌, take}
-use Rattle.pfair_replica.specs.HeldRows.{replica_of}
+use Rattle.pfair_replica.specs.ReplicaRows.{replica_of}
 use Rattle.pfair_c.specs.Taking.{AreOfLog, all_taken, untaken}
 use Rattle.pfair_c.proofs.take.take_entries.Given as goal
 
@@ -7,6 +7,6 @@ use Rattle.pfair_c.proofs.take.take_entries.Given as goal
 abbrev pub invariant-loop-entry : goal.invariant-loop-entry
 invariant-loop-entry g l =
     (l.number ≡ l.first + l.entry-index) × (l.counted.taken ≡ l.entry-index) × (l.counted.fresh + l.counted.known + l.counted.torn ≡ l.counted.taken)
-    × AreOfLog (replica_of l.fn.dispatcher.held) l.processor l.first (take l.entry-index l.entries)
-    × (record { held = replica_of l.dispatcher.held; counted = l.counted } ≡ all_taken l.processor l.first (take l.entry-index l.entries) (untaken (replica_of l.fn.dispatcher.held)))
-    × (l.dispatcher ≡ record l.fn.dispatcher { held = l.dispatcher.held })
+    × AreOfLog (replica_of l.fn.dispatcher.replica) l.processor l.first (take l.entry-index l.entries)
+    × (record { replica = replica_of l.dispatcher.replica; counted = l.counted } ≡ all_taken l.processor l.first (take l.entry-index l.entries) (untaken (replica_of l.fn.dispatcher.replica)))
+    × (l.dispatcher ≡ record l.fn.dispatcher { replica = l.dispatcher.replica })

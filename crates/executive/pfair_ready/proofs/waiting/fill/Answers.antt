@@ -1,7 +1,7 @@
 use Rattle.std.proofs.Common.{◌≡◌, Some, sym, ap, ◌∙◌}
 use Rattle.std.specs.Prelude.{is_some}
 use Rattle.std.specs.FinMap as finmap
-use Rattle.pfair_ready.specs.declared.waiting.Held.{Held}
+use Rattle.pfair_ready.specs.declared.waiting.HeldKey.{HeldKey}
 use Rattle.pfair_ready.specs.Waiting.{held_under, queue_in}
 use Rattle.pfair_ready.proofs.WaitingLemmas.{entry_read, entry_kept, entry_filled, is_some_under}
 use Rattle.pfair_ready.proofs.waiting.fill.Goals as goal
@@ -22,4 +22,4 @@ returns-clause-answer c = ap is_some (waits ((goal.at.returns-clause-answer c).I
 pub returns-clause-content : goal.returns-clause-content
 returns-clause-content c =
     entry_filled c.args.entries.now c.args.index c.args.key.now.name c.get_index_mut.ensures.unique c.requires (record { held = Some c.of.result; member = c.args.member }) (c.args.release, c.args.key.now)
-    (ap (λ (h : Held). held_under c.args.key.now.name (Some h)) c.of.ensures)
+    (ap (λ (h : HeldKey). held_under c.args.key.now.name (Some h)) c.of.ensures)

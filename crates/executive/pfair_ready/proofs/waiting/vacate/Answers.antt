@@ -4,7 +4,7 @@ use Rattle.std.specs.FinMap as finmap
 use Rattle.std.proofs.lemmas.Option.{same_Some}
 use Rattle.pfair_order.specs.declared.Key.{Key}
 use Rattle.pfair_ready.specs.declared.waiting.Entry.{Entry}
-use Rattle.pfair_ready.specs.declared.waiting.Held.{Held}
+use Rattle.pfair_ready.specs.declared.waiting.HeldKey.{HeldKey}
 use Rattle.pfair_ready.specs.Names.{NameValue}
 use Rattle.pfair_ready.specs.Waiting.{held_under, is_due, key_under, queue_in}
 use Rattle.pfair_ready.proofs.Taking.{due_held}
@@ -19,7 +19,7 @@ waits c =
 
 pub returns-in_err-held-clause-answer : goal.returns-in_err-held-clause-answer
 returns-in_err-held-clause-answer c =
-    ap is_some c.from_residual-in_err-held.ensures ∙ sym (ap (λ (o : Option Held). is_due c.args.turn.now.0 c.args.slot (held_under c.args.turn.now.0.name o)) c.in_err-held.was)
+    ap is_some c.from_residual-in_err-held.ensures ∙ sym (ap (λ (o : Option HeldKey). is_due c.args.turn.now.0 c.args.slot (held_under c.args.turn.now.0.name o)) c.in_err-held.was)
     ∙ waits ((goal.at.returns-in_err-held-clause-answer c).After-branch-held)
 
 pub returns-in_err-held-clause-content : goal.returns-in_err-held-clause-content
@@ -30,7 +30,7 @@ returns-in_err-held-clause-content c =
 pub returns-then-not-is_due-clause-answer : goal.returns-then-not-is_due-clause-answer
 returns-then-not-is_due-clause-answer c =
     sym c.if-not-is_due.true ∙ c.is_due.ensures
-    ∙ sym (ap (λ (o : Option Held). is_due c.args.turn.now.0 c.args.slot (held_under c.args.turn.now.0.name o)) c.in_ok-held.was) ∙ waits ((goal.at.returns-then-not-is_due-clause-answer c).After-branch-held)
+    ∙ sym (ap (λ (o : Option HeldKey). is_due c.args.turn.now.0 c.args.slot (held_under c.args.turn.now.0.name o)) c.in_ok-held.was) ∙ waits ((goal.at.returns-then-not-is_due-clause-answer c).After-branch-held)
 
 pub returns-then-not-is_due-clause-content : goal.returns-then-not-is_due-clause-content
 returns-then-not-is_due-clause-content c =
@@ -39,7 +39,7 @@ returns-then-not-is_due-clause-content c =
 pub returns-clause-answer : goal.returns-clause-answer
 returns-clause-answer c =
     sym c.if-not-is_due.false ∙ c.is_due.ensures
-    ∙ sym (ap (λ (o : Option Held). is_due c.args.turn.now.0 c.args.slot (held_under c.args.turn.now.0.name o)) c.in_ok-held.was) ∙ waits ((goal.at.returns-clause-answer c).After-branch-held)
+    ∙ sym (ap (λ (o : Option HeldKey). is_due c.args.turn.now.0 c.args.slot (held_under c.args.turn.now.0.name o)) c.in_ok-held.was) ∙ waits ((goal.at.returns-clause-answer c).After-branch-held)
 
 pub returns-clause-key : goal.returns-clause-key
 returns-clause-key c =

@@ -1,10 +1,10 @@
 use Rattle.std.proofs.Common.{◌≡◌, List, [], ◌∷◌, ◌++◌, take, Some, slice_get}
 use Rattle.pfair_entry.specs.Entry.{Logged}
-use Rattle.pfair_replica.specs.HeldRows.{replica_of}
+use Rattle.pfair_replica.specs.ReplicaRows.{replica_of}
 use Rattle.pfair_table.specs.Script.{held_of}
 use Rattle.pfair_table.proofs.single.take_log.Given as goal
 
 abbrev pub invariant-loop-index : goal.invariant-loop-index
-invariant-loop-index g l = (l.dispatcher ≡ record l.fn.dispatcher { held = l.dispatcher.held })
-    × ((logs : List (List Logged)) → slice_get logs l.processor ≡ Some l.log → replica_of l.fn.dispatcher.held ≡ held_of logs (take l.processor logs)
-    → replica_of l.dispatcher.held ≡ held_of logs (take l.processor logs ++ take l.index l.log ∷ []))
+invariant-loop-index g l = (l.dispatcher ≡ record l.fn.dispatcher { replica = l.dispatcher.replica })
+    × ((logs : List (List Logged)) → slice_get logs l.processor ≡ Some l.log → replica_of l.fn.dispatcher.replica ≡ held_of logs (take l.processor logs)
+    → replica_of l.dispatcher.replica ≡ held_of logs (take l.processor logs ++ take l.index l.log ∷ []))

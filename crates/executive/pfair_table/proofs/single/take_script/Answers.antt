@@ -18,13 +18,13 @@ loop-processor-init g c =
       is = λ i. record {
         settings = (c.in_ok-dispatcher.ensures.settings ∙ settings_are) i;
         origin = (course i).origin;
-        held = c.in_ok-dispatcher.dispatcher.held;
+        replica = c.in_ok-dispatcher.dispatcher.replica;
         tables = (course i).tables;
         decided = (course i).decided;
         forgotten = c.in_ok-dispatcher.ensures.standing i;
         spent = c.in_ok-dispatcher.ensures.spent i;
       };
-      held = ap (λ (x : Course). x.held) course ∙ (λ i. empty_replica (count i) (c.capacity.ensures.value i));
+      replica = ap (λ (x : Course). x.replica) course ∙ (λ i. empty_replica (count i) (c.capacity.ensures.value i));
     }
 
 pub take_log-requires : goal.take_log-requires
@@ -36,7 +36,7 @@ returns-clause-held g c =
     let settings_are = c.settings-settings.ensures.value in
     let count : c.settings-settings.result.processors ≡ length logs = ap (λ (s : Settings). s.processors) settings_are ∙ sym c.settings-settings.ensures.run.one_each in
     let all : c.loop-processor.processor ≡ length logs = omega (arith, c.loop-processor-test.false, c.loop-processor.auto.processor-end, c.processors-processor-end.ensures.value, count) in
-    c.loop-processor.invariant.held ∙ ap (λ k. held_of logs (take k logs)) all ∙ ap (held_of logs) (take-length logs)
+    c.loop-processor.invariant.replica ∙ ap (λ k. held_of logs (take k logs)) all ∙ ap (held_of logs) (take-length logs)
 
 pub returns-clause-settings : goal.returns-clause-settings
 returns-clause-settings g c = ap (λ (d : Dispatch). d.settings) c.loop-processor.invariant.is
@@ -58,6 +58,6 @@ returns-clause-able g c = ap (λ (d : Dispatch). d.spent) c.loop-processor.invar
 
 pub loop-processor-preserved : goal.loop-processor-preserved
 loop-processor-preserved g c = record {
-  is = c.in_ok-take_log.ensures.rest ∙ (λ i. record (c.loop-processor.invariant.is i) { held = c.take_log.new.dispatcher.held });
-  held = c.in_ok-take_log.ensures.held c.args.script.now.logs c.log.ensures.value c.loop-processor.invariant.held;
+  is = c.in_ok-take_log.ensures.rest ∙ (λ i. record (c.loop-processor.invariant.is i) { replica = c.take_log.new.dispatcher.replica });
+  replica = c.in_ok-take_log.ensures.held c.args.script.now.logs c.log.ensures.value c.loop-processor.invariant.replica;
 }

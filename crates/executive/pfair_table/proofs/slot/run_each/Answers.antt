@@ -5,7 +5,7 @@ use Rattle.std.proofs.lemmas.Option.{none-some, same_Some}
 use Rattle.pfair_admission.specs.declared.quantum.Quantum.{Quantum}
 use Rattle.pfair_admission.specs.Admission.{ran, quantum_of, seatless}
 use Rattle.pfair_table.specs.Queue.{MayRun}
-use Rattle.pfair_table.proofs.GivingQuanta.{key_inside, key_item, key_among, may_run, runs_next, told_on, run_turn}
+use Rattle.pfair_table.proofs.GivingQuanta.{key_inside, key_item, key_among, may_run, runs_next, notified_on, run_turn}
 use Rattle.pfair_table.proofs.slot.run_each.Goals as goal
 
 pub ran_on-requires : goal.ran_on-requires
@@ -33,6 +33,6 @@ loop-seated-preserved g c =
     let after_is : c.ran_on.new.self ≡ record c.loop-seated.members { members = ran key.name c.loop-seated.members.members } =
     c.ran_on.ensures.members ∙ ap (λ (o : Option Quantum). if is_some o then record c.loop-seated.members { members = ran key.name c.loop-seated.members.members } else c.loop-seated.members) c.in-Some.is in (
       run_turn c.requires.apart so inside item may (ap (λ (q : Quantum). q.index) quantum_is) after_is c.in_ok-push.ensures.items
-          (told_on c.requires.apart so inside item may c.in-Some.quantum quantum_is after_is c.in_ok-insert_seated.ensures.answer c.in_ok-insert_seated.ensures.content),
+          (notified_on c.requires.apart so inside item may c.in-Some.quantum quantum_is after_is c.in_ok-insert_seated.ensures.answer c.in_ok-insert_seated.ensures.content),
       c.insert_seated.ensures.time ∙ c.loop-seated.invariant.1,
     )

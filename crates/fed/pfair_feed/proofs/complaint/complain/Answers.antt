@@ -1,5 +1,5 @@
 use Rattle.std.proofs.Common.{arith}
-use Rattle.pfair_feed.proofs.Telling.{all_or_cut}
+use Rattle.pfair_feed.proofs.Writing.{all_or_cut}
 use Rattle.pfair_feed.proofs.complaint.complain.Goals as goal
 
 pub returns-then-eq-clause-answered : goal.returns-then-eq-clause-answered

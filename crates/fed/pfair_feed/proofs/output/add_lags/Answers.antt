@@ -8,14 +8,14 @@ pub returns-clause-book : goal.returns-clause-book
 returns-clause-book g c =
     let d = c.args.dispatcher.now in
     let same = sym c.next_slot.ensures.value ∙ c.next_slot.ensures.decided in
-    let caught : c.tell_slots.new.book ≡ book_before d.origin c.args.from d.tables d.decided =
-    caught_up d.origin d.decided d.tables same c.args.from c.in_ok-known.known c.tell_slots.new.book c.in_ok-known.ensures c.in_ok-tell_slots.ensures in
-    book_whole d.origin d.decided d.tables same c.args.from c.tell_slots.new.book c.add_lags_from.new.book caught c.in_ok-add_lags_from.ensures.book
+    let caught : c.book_slots.new.book ≡ book_before d.origin c.args.from d.tables d.decided =
+    caught_up d.origin d.decided d.tables same c.args.from c.in_ok-known.known c.book_slots.new.book c.in_ok-known.ensures c.in_ok-book_slots.ensures in
+    book_whole d.origin d.decided d.tables same c.args.from c.book_slots.new.book c.add_lags_from.new.book caught c.in_ok-add_lags_from.ensures.book
 
 pub returns-clause-text : goal.returns-clause-text
 returns-clause-text g c =
     let d = c.args.dispatcher.now in
     let same = sym c.next_slot.ensures.value ∙ c.next_slot.ensures.decided in
-    let caught : c.tell_slots.new.book ≡ book_before d.origin c.args.from d.tables d.decided =
-    caught_up d.origin d.decided d.tables same c.args.from c.in_ok-known.known c.tell_slots.new.book c.in_ok-known.ensures c.in_ok-tell_slots.ensures in
-    c.in_ok-add_lags_from.ensures.text ∙ ap (λ rows. text_so_far c.args.text.now ++ lines_text rows) (rows_on d.origin d.decided d.tables same c.args.from c.tell_slots.new.book caught)
+    let caught : c.book_slots.new.book ≡ book_before d.origin c.args.from d.tables d.decided =
+    caught_up d.origin d.decided d.tables same c.args.from c.in_ok-known.known c.book_slots.new.book c.in_ok-known.ensures c.in_ok-book_slots.ensures in
+    c.in_ok-add_lags_from.ensures.text ∙ ap (λ rows. text_so_far c.args.text.now ++ lines_text rows) (rows_on d.origin d.decided d.tables same c.args.from c.book_slots.new.book caught)

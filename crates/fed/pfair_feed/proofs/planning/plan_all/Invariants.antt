@@ -1,5 +1,5 @@
 use Rattle.std.proofs.Common.{◌≡◌, ◌-◌, true, length}
-use Rattle.pfair_replica.specs.HeldRows.{replica_of}
+use Rattle.pfair_replica.specs.ReplicaRows.{replica_of}
 use Rattle.pfair_replica.specs.Replica.{has_torn}
 use Rattle.pfair_feed.specs.Follow.{IsGrown}
 use Rattle.pfair_feed.proofs.planning.plan_all.Given as goal
@@ -10,7 +10,7 @@ invariant-slots g l = record {
   grown : IsGrown l.fn.dispatcher l.dispatcher;
   forgotten : l.dispatcher.forgotten ≡ l.fn.dispatcher.forgotten;
   able : l.dispatcher.spent ≡ l.fn.dispatcher.spent;
-  torn : has_torn (replica_of l.fn.dispatcher.held) ≡ true → l.dispatcher ≡ l.fn.dispatcher;
+  torn : has_torn (replica_of l.fn.dispatcher.replica) ≡ true → l.dispatcher ≡ l.fn.dispatcher;
   spent : l.fn.dispatcher.spent ≡ true → l.dispatcher ≡ l.fn.dispatcher;
 }
 

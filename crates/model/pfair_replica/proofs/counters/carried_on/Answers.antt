@@ -1,6 +1,6 @@
 use Rattle.std.proofs.Common.{ℕ, ◌≡◌, sym, ap, ◌∙◌, arith, inl, inr}
 use Rattle.pfair_replica.specs.declared.counters.Beginning.{Beginning}
-use Rattle.pfair_replica.specs.HeldRows.{held_in}
+use Rattle.pfair_replica.specs.ReplicaRows.{held_in}
 use Rattle.pfair_replica.proofs.Beginnings.{part_more, part_whole}
 use Rattle.pfair_replica.proofs.counters.carried_on.Goals as goal
 

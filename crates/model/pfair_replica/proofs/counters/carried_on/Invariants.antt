@@ -1,4 +1,4 @@
-use Rattle.pfair_replica.specs.HeldRows.{held_in}
+use Rattle.pfair_replica.specs.ReplicaRows.{held_in}
 use Rattle.pfair_replica.specs.Counters.{IsPart}
 use Rattle.pfair_replica.proofs.counters.carried_on.Given as goal
 

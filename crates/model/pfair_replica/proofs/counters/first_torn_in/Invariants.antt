@@ -1,5 +1,5 @@
 use Rattle.std.proofs.Common.{ℕ, ◌≤◌}
-use Rattle.pfair_replica.specs.HeldRows.{held_in}
+use Rattle.pfair_replica.specs.ReplicaRows.{held_in}
 use Rattle.pfair_replica.specs.Counters.{IsTornAt}
 use Rattle.pfair_replica.proofs.counters.first_torn_in.Given as goal
 

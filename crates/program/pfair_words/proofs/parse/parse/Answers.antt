@@ -9,27 +9,27 @@ use Rattle.clap.specs.declared.error.kind.ErrorKind.TheVariants.{OutOfMemory}
 use Rattle.clap.specs.declared.parser.matches.ArgMatches.{ArgMatches}
 use Rattle.pfair_words.specs.Parse.{IsParsed, IsUntakenAs, texts}
 use Rattle.pfair_words.specs.declared.parse.Parsed.{Parsed}
-use Rattle.pfair_words.specs.declared.parse.Parsed.TheVariants.{Taken, Help, Refused}
+use Rattle.pfair_words.specs.declared.parse.Parsed.TheVariants.{Matches, Help, Refused}
 use Rattle.pfair_words.proofs.parse.parse.Goals as goal
 
 left_of : (a b : Bool) → (a && b) ≡ true → a ≡ true
 left_of true b h = refl
 left_of false b h = h
 
-taken : (line : App) (words : List Text) (m : ArgMatches) → is_simple_and_free line ≡ true → HasMatchesOf line words m → (is_simple_and_free line ≡ true → fault_of line words ≡ []) → IsParsed line words (Taken m)
+taken : (line : App) (words : List Text) (m : ArgMatches) → is_simple_and_free line ≡ true → HasMatchesOf line words m → (is_simple_and_free line ≡ true → fault_of line words ≡ []) → IsParsed line words (Matches m)
 taken line words m simple matches faults = (faults simple, (matches (left_of (is_simple line) _ simple)).1)
 
 -- an error out of memory leaves only want of memory to answer
 wanting : (line : App) (words : List Text) (r : Result Parsed AllocError) → IfOk r (IsUntakenAs OutOfMemory) → IfOk r (IsParsed line words)
 wanting line words (Err e) h = tt
-wanting line words (Ok (Taken m)) h = absurd h
+wanting line words (Ok (Matches m)) h = absurd h
 wanting line words (Ok (Help text)) (inl h) = absurd (search rules)
 wanting line words (Ok (Help text)) (inr h) = absurd (search rules)
 wanting line words (Ok Refused) h = absurd (h.2 refl)
 
 among : (line : App) (words : List Text) (kind : ErrorKind) (r : Result Parsed AllocError) → IsAmong kind (fault_of line words) → IfOk r (IsUntakenAs kind) → IfOk r (IsParsed line words)
 among line words kind (Err e) is h = tt
-among line words kind (Ok (Taken m)) is h = absurd h
+among line words kind (Ok (Matches m)) is h = absurd h
 among line words kind (Ok (Help text)) is h = (kind, is, h)
 among line words kind (Ok Refused) is h = (kind, is, h)
 

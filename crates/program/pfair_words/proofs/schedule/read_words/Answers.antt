@@ -18,8 +18,8 @@ together words r h = record { parsed = h; plain = plain_answer words r h; count 
 pub parse-requires : goal.parse-requires
 parse-requires c = subst (λ a. is_simple_and_free a ≡ true) (sym c.in_ok-command_line.ensures.0) refl
 
-pub returns-in-Taken : goal.returns-in-Taken
-returns-in-Taken c = together _ _ (taken line IsAnswerTo IsAnswerToKind (texts c.args.words.now) _ _ c.in-Taken.matches c.read_matches.result c.in_ok-command_line.ensures.0 c.in_ok-matches.ensures c.in-Taken.is c.read_matches.ensures)
+pub returns-in-Matches : goal.returns-in-Matches
+returns-in-Matches c = together _ _ (taken line IsAnswerTo IsAnswerToKind (texts c.args.words.now) _ _ c.in-Matches.matches c.read_matches.result c.in_ok-command_line.ensures.0 c.in_ok-matches.ensures c.in-Matches.is c.read_matches.ensures)
 
 pub returns-in-Help : goal.returns-in-Help
 returns-in-Help c = together _ _ (inr (parsed_at (texts c.args.words.now) _ line _ (Help c.in-Help.text) c.in_ok-command_line.ensures.0 c.in_ok-matches.ensures c.in-Help.is))

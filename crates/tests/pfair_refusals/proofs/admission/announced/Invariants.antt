@@ -3,4 +3,4 @@ use Rattle.pfair_entry.specs.Entry.{IsWithinLimits}
 use Rattle.pfair_refusals.proofs.admission.announced.Given as goal
 
 abbrev pub invariant-loop-letter : goal.invariant-loop-letter
-invariant-loop-letter l = AllByRecursion (λ a. IsWithinLimits a.2) l.all.items
+invariant-loop-letter l = AllByRecursion (λ a. IsWithinLimits a.announcement) l.all.items

@@ -1,14 +1,14 @@
 use Rattle.std.proofs.Common.{◌≡◌, ◌≤◌, ◌++◌, drop}
 use Rattle.pfair_text.specs.Rows.{IsOpen, lines_text, text_so_far}
-use Rattle.pfair_output.specs.Told.{all_slots_told, rows_told}
+use Rattle.pfair_output.specs.Booked.{all_slots_booked, rows_booked}
 use Rattle.pfair_output.proofs.lags.add_lags_from.Given as goal
 
 -- the book and the text so far, with the slots that are left, are the whole
 abbrev pub invariant-loop-slot : goal.invariant-loop-slot
 invariant-loop-slot g l = IsOpen l.writer
-    × (text_so_far l.writer ++ lines_text (rows_told l.book (drop l.slot l.dispatcher.decided) (drop l.slot l.dispatcher.tables))
-    ≡ text_so_far l.fn.writer ++ lines_text (rows_told l.fn.book (drop l.fn.book.time l.dispatcher.decided) (drop l.fn.book.time l.dispatcher.tables)))
+    × (text_so_far l.writer ++ lines_text (rows_booked l.book (drop l.slot l.dispatcher.decided) (drop l.slot l.dispatcher.tables))
+    ≡ text_so_far l.fn.writer ++ lines_text (rows_booked l.fn.book (drop l.fn.book.time l.dispatcher.decided) (drop l.fn.book.time l.dispatcher.tables)))
     × (l.book.time ≡ l.slot)
-    × (all_slots_told l.book (drop l.slot l.dispatcher.decided) (drop l.slot l.dispatcher.tables)
-    ≡ all_slots_told l.fn.book (drop l.fn.book.time l.dispatcher.decided) (drop l.fn.book.time l.dispatcher.tables))
+    × (all_slots_booked l.book (drop l.slot l.dispatcher.decided) (drop l.slot l.dispatcher.tables)
+    ≡ all_slots_booked l.fn.book (drop l.fn.book.time l.dispatcher.decided) (drop l.fn.book.time l.dispatcher.tables))
     × (l.fn.book.time ≤ l.slot)

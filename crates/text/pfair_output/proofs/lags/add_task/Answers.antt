@@ -6,7 +6,7 @@ use Rattle.pfair_text.specs.Rows.{is_plain, line, text_so_far}
 use Rattle.pfair_text.proofs.RowFacts.{is_plain-decimal}
 use Rattle.pfair_text.proofs.NameFacts.{is_plain-name}
 use Rattle.pfair_output.proofs.SignedFacts.{is_plain-signed}
-use Rattle.pfair_output.proofs.ToldFacts.{named_at, lag_at, row_is}
+use Rattle.pfair_output.proofs.BookedFacts.{named_at, lag_at, row_is}
 use Rattle.pfair_output.proofs.lags.add_task.Goals as goal
 
 pub add_row-requires-clause-plain : goal.add_row-requires-clause-plain

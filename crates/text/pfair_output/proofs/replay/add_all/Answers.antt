@@ -20,11 +20,11 @@ loop-slot-preserved c =
     let rows : slice_get (map (λ (t : Vec Pick Global). t.items) c.args.tables.now) slot ≡ Some table.items =
     slice_get-map (λ (t : Vec Pick Global). t.items) c.args.tables.now slot ∙ ap (option_map (λ (t : Vec Pick Global). t.items)) here in
     let within : slot < length (map (λ (t : Vec Pick Global). t.items) c.args.tables.now) = rw length-map inside in
-    let told : text_so_far c.add_table.new.writer ≡ text_so_far c.loop-slot.writer ++ lines_text (placed_table_rows places slot c.deref.result.now) =
+    let booked : text_so_far c.add_table.new.writer ≡ text_so_far c.loop-slot.writer ++ lines_text (placed_table_rows places slot c.deref.result.now) =
     c.in_ok-add_table.ensures.text ∙ ap (λ (here : List ℕ). text_so_far c.loop-slot.writer ++ lines_text (placed_rows_from here slot 0 c.deref.result.now)) c.slot_places.ensures in (
       c.in_ok-add_table.ensures.open,
       slot_more (placed_table_rows places) (map (λ (t : Vec Pick Global). t.items) c.args.tables.now) slot (text_so_far c.loop-slot.writer) (text_so_far c.add_table.new.writer) within
           (λ x e. subst (λ (table : List Pick). text_so_far c.add_table.new.writer ≡ text_so_far c.loop-slot.writer ++ lines_text (placed_table_rows places slot table))
-          (c.deref.ensures.value ∙ same_Some _ _ (sym rows ∙ e)) told)
+          (c.deref.ensures.value ∙ same_Some _ _ (sym rows ∙ e)) booked)
           ∙ c.loop-slot.invariant.1,
     )

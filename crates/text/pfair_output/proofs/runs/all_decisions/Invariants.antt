@@ -1,5 +1,5 @@
 use Rattle.std.proofs.Common.{◌≡◌, ◌++◌, None, length}
-use Rattle.pfair_replica.specs.HeldRows.{replica_of}
+use Rattle.pfair_replica.specs.ReplicaRows.{replica_of}
 use Rattle.pfair_table.specs.ScriptRun.{IsBySlot}
 use Rattle.pfair_text.specs.Rows.{IsOpen, line, lines_text, text_so_far}
 use Rattle.pfair_output.specs.Decisions.{decided_rows, decisions_header}

@@ -1,17 +1,17 @@
 use Rattle.std.proofs.Common.{◌≡◌, ◌∙◌, ap, arith}
 use Rattle.pfair_lag.specs.Book.{Book}
-use Rattle.pfair_replica.specs.HeldRows.{replica_of}
+use Rattle.pfair_replica.specs.ReplicaRows.{replica_of}
 use Rattle.pfair_replica.specs.Replica.{Replica}
 use Rattle.pfair_table.specs.Table.{Settings, table, decisions}
 use Rattle.pfair_text.specs.Rows.{line, text_so_far}
 use Rattle.pfair_output.specs.Lags.{lags_header}
-use Rattle.pfair_output.specs.Told.{slot_told}
+use Rattle.pfair_output.specs.Booked.{slot_booked}
 use Rattle.pfair_output.proofs.RunFacts.{book_more, lags_more}
 use Rattle.pfair_output.proofs.WorldFacts.{after_first}
 use Rattle.pfair_output.proofs.runs.all_lags.Goals as goal
 
-pub tell_slot-requires : goal.tell_slot-requires
-tell_slot-requires g c =
+pub book_slot-requires : goal.book_slot-requires
+book_slot-requires g c =
     let time = ap (λ (b : Book). b.time) c.slots.invariant.book ∙ (after_first c.args.planner.now.settings (replica_of c.args.replica.now) c.slots.slot).time_is in
     omega (arith, time)
 
@@ -23,15 +23,15 @@ slots-preserved g c =
     let next = c.in_ok-plan.ensures in
     let decided : c.deref.result.now ≡ decisions s x n = c.deref.ensures.value ∙ next.decided ∙ (λ i. decisions (c.slots.invariant.settings i) x (c.slots.invariant.planned i)) in
     let rows : c.deref-in-slots.result.now ≡ table s x n = c.deref-in-slots.ensures.value ∙ next.table ∙ (λ i. table (c.slots.invariant.settings i) x (c.slots.invariant.planned i)) in
-    let book : Book = c.tell_slot.new.book in
-    let told = book_more s x n (line lags_header) (text_so_far c.slots.writer) (text_so_far c.add_lags.new.writer) c.slots.book book c.slots.invariant.book
-    (c.in_ok-tell_slot.ensures ∙ (λ i. slot_told (decided i) (rows i) c.slots.book)) in
+    let book : Book = c.book_slot.new.book in
+    let booked = book_more s x n (line lags_header) (text_so_far c.slots.writer) (text_so_far c.add_lags.new.writer) c.slots.book book c.slots.invariant.book
+    (c.in_ok-book_slot.ensures ∙ (λ i. slot_booked (decided i) (rows i) c.slots.book)) in
     record {
       is_open = c.in_ok-add_lags.ensures.open;
       able = next.able;
       first = next.first;
       settings = next.settings ∙ c.slots.invariant.settings;
       planned = omega (arith, next.planned, c.slots.invariant.planned);
-      book = told;
-      text = lags_more s x n (line lags_header) (text_so_far c.slots.writer) (text_so_far c.add_lags.new.writer) book told c.slots.invariant.text c.in_ok-add_lags.ensures.text;
+      book = booked;
+      text = lags_more s x n (line lags_header) (text_so_far c.slots.writer) (text_so_far c.add_lags.new.writer) book booked c.slots.invariant.text c.in_ok-add_lags.ensures.text;
     }

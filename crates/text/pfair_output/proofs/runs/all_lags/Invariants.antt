@@ -1,6 +1,6 @@
 use Rattle.std.proofs.Common.{◌≡◌, ◌++◌, None, length}
 use Rattle.std.specs.List.{flat_map}
-use Rattle.pfair_replica.specs.HeldRows.{replica_of}
+use Rattle.pfair_replica.specs.ReplicaRows.{replica_of}
 use Rattle.pfair_table.specs.ScriptRun.{IsBySlot}
 use Rattle.pfair_replica.specs.Replica.{numbers_below}
 use Rattle.pfair_text.specs.Rows.{IsOpen, line, lines_text, text_so_far}

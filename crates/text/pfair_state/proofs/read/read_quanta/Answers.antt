@@ -12,9 +12,9 @@ returns-then-not-branch c = record {
       let rows = c.args.rows.now in
       let here = quantum_is (slice_get rows c.loop-pick.at) (c.in-Some.pick, c.in-Some.place) (sym c.quantum_at.ensures ∙ c.in-Some.is) in
       let may = can rows c.args.state.now c.args.from c.loop-pick.state c.loop-pick.at c.loop-pick.invariant.1 (c.in-Some.pick, c.in-Some.place) here table places behind none fit are is ends in
-      let told = c.in_ok-add_row.ensures.able in
+      let shown = c.in_ok-add_row.ensures.able in
       let not_added = c.if-not-branch.true in
-      absurd (let both : false ≡ true = sym not_added ∙ told ∙ may in cc);
+      absurd (let both : false ≡ true = sym not_added ∙ shown ∙ may in cc);
 }
 
 pub loop-pick-smaller : goal.loop-pick-smaller

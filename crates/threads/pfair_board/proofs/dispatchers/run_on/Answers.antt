@@ -1,6 +1,6 @@
 use Rattle.std.proofs.Common.{◌≡◌, ◌∙◌, sym, subst, None, IfOk, length}
 use Rattle.pfair_table.specs.Table.{plan}
-use Rattle.pfair_replica.specs.HeldRows.{replica_of}
+use Rattle.pfair_replica.specs.ReplicaRows.{replica_of}
 use Rattle.pfair_table.specs.Script.{capacity_of, replica_of_logs}
 use Rattle.pfair_board.specs.FirstFault.{IsFirstFault}
 use Rattle.pfair_board.proofs.FirstFaults.{first_of, run_fault}

@@ -4,8 +4,8 @@ use Rattle.pfair_admission.specs.declared.members.TheConstants.Members.{MAX_HEAR
 use Rattle.pfair_admission.specs.Admission.{announcements}
 use Rattle.pfair_admission.specs.Roster.{EachBounded, Roster}
 use Rattle.pfair_admission.specs.Removal.{NoneFreed}
-use Rattle.pfair_admission.specs.Standing.{Standing}
-use Rattle.pfair_admission.specs.Ledger.{all_told, is_there, listed, standing}
+use Rattle.pfair_admission.specs.Membership.{Membership}
+use Rattle.pfair_admission.specs.Ledger.{decisions_on, is_there, listed, membership}
 use Rattle.pfair_admission.proofs.Boundaries.{begun, bounded_later, bounded_present, decided_err, decided_ok, with_heard}
 use Rattle.pfair_admission.proofs.Deciding.{stood}
 use Rattle.pfair_admission.proofs.Kept.{kept_less, unswept_rest}
@@ -27,35 +27,35 @@ decide_all-decisions-requires-clause-able c =
     }
 
 pub sweep-requires : goal.sweep-requires
-sweep-requires c = unswept_rest c.args.slot c.decide_all-decisions.new.self c.decide_all-decisions.ensures.heard.kept
+sweep-requires c = unswept_rest c.args.slot c.decide_all-decisions.new.self c.decide_all-decisions.ensures.ledger.kept
 
 -- who is decided on is who isn't freed
-start : (c : After-sweep) → standing c.args.slot c.self.inside.ledger ≡ begun c.args.slot c.args.self.now
+start : (c : After-sweep) → membership c.args.slot c.self.inside.ledger ≡ begun c.args.slot c.args.self.now
 start c = ap (begun c.args.slot) (c.self.view_is ∙ c.pass.ensures) ∙ stood _ (filter_again (is_there c.args.slot) c.args.self.now.members)
 
 -- who is left is who stood last
-left : (c : After-sweep) → record { machine = record { processors = c.sweep.new.self.processors; frame = c.sweep.new.self.frame }; members = listed c.sweep.new.self } ≡ standing c.args.slot c.decide_all-decisions.new.self
+left : (c : After-sweep) → record { machine = record { processors = c.sweep.new.self.processors; frame = c.sweep.new.self.frame }; members = listed c.sweep.new.self } ≡ membership c.args.slot c.decide_all-decisions.new.self
 left c = stood _ (sym (present_all c.args.slot (listed c.sweep.new.self) c.sweep.ensures.gone)) ∙ c.sweep.ensures.same
 
 after : (c : After-sweep) → record { machine = record { processors = c.sweep.new.self.processors; frame = c.sweep.new.self.frame }; members = listed c.sweep.new.self; heard = c.self.inside.heard + length c.args.announced.now; last_slot = c.self.inside.last_slot }
-    ≡ with_heard c.args.slot c.args.announced.now c.args.self.now (standing c.args.slot c.decide_all-decisions.new.self)
-after c = let was = c.self.view_is ∙ c.pass.ensures in let heard = ap (λ (r : Roster). r.heard) was in let last = ap (λ (r : Roster). r.last_slot) was in let so = left c in let machine = ap (λ (s : Standing). s.machine) so in let members = ap (λ (s : Standing). s.members) so in cc
+    ≡ with_heard c.args.slot c.args.announced.now c.args.self.now (membership c.args.slot c.decide_all-decisions.new.self)
+after c = let was = c.self.view_is ∙ c.pass.ensures in let heard = ap (λ (r : Roster). r.heard) was in let last = ap (λ (r : Roster). r.last_slot) was in let so = left c in let machine = ap (λ (s : Membership). s.machine) so in let members = ap (λ (s : Membership). s.members) so in cc
 
 pub invariant_of-self : goal.invariant_of-self
 invariant_of-self c =
     let heard = ap (λ (r : Roster). r.heard) (c.self.view_is ∙ c.pass.ensures) in
     record {
       few_heard = omega (arith, heard, c.requires.heard);
-      admitted = omega (arith, c.decide_all-decisions.ensures.heard.admitted, c.sweep.ensures.admitted, c.self.invariant.admitted);
+      admitted = omega (arith, c.decide_all-decisions.ensures.ledger.admitted, c.sweep.ensures.admitted, c.self.invariant.admitted);
       begun = (let last = ap (λ (r : Roster). r.last_slot) (c.self.view_is ∙ c.pass.ensures) in λ none. absurd (cc));
-      bounded = subst (λ (s : Standing). EachBounded (c.self.inside.heard + length c.args.announced.now) s.members) (sym (left ((goal.at.invariant_of-self c).After-sweep)))
-          (c.decide_all-decisions.ensures.heard.bounded c.self.inside.heard (bounded_present c.self.inside.heard c.args.slot (listed c.self.inside.ledger) c.self.invariant.bounded));
+      bounded = subst (λ (s : Membership). EachBounded (c.self.inside.heard + length c.args.announced.now) s.members) (sym (left ((goal.at.invariant_of-self c).After-sweep)))
+          (c.decide_all-decisions.ensures.ledger.bounded c.self.inside.heard (bounded_present c.self.inside.heard c.args.slot (listed c.self.inside.ledger) c.self.invariant.bounded));
       kept = c.sweep.ensures.kept;
     }
 
 pub returns-clause-decisions : goal.returns-clause-decisions
 returns-clause-decisions c =
-    subst (λ (s : Standing). IfOk c.decide_all-decisions.result (λ all. all.items ≡ all_told c.args.slot (announcements c.args.announced.now) s)) (start ((goal.at.returns-clause-decisions c).After-sweep)) c.decide_all-decisions.ensures.decisions
+    subst (λ (s : Membership). IfOk c.decide_all-decisions.result (λ all. all.items ≡ decisions_on c.args.slot (announcements c.args.announced.now) s)) (start ((goal.at.returns-clause-decisions c).After-sweep)) c.decide_all-decisions.ensures.decisions
 
 pub returns-clause-members : goal.returns-clause-members
 returns-clause-members c =

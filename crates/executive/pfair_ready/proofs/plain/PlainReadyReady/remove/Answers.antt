@@ -3,12 +3,12 @@ use Rattle.std.proofs.lemmas.Fn.{filter_same}
 use Rattle.pfair_weight.proofs.NamesApart.{apart_filter}
 use Rattle.pfair_ready.specs.Names.{name_eq}
 use Rattle.std.specs.FinMap as finmap
-use Rattle.pfair_ready.specs.declared.plain.Waiting.{Waiting}
+use Rattle.pfair_ready.specs.declared.plain.PlainEntry.{PlainEntry}
 use Rattle.pfair_ready.specs.PlainList.{queue_of}
 use Rattle.pfair_ready.proofs.PlainListLemmas.{name_of, contained, queue_of_filter, retain_but}
 use Rattle.pfair_ready.proofs.plain.PlainReadyReady.remove.Goals as goal
 
-kept : (c : goal.After-retain) → c.retain.new.self.items ≡ filter (λ (w : Waiting). not (name_eq w.key.name c.args.name.now)) c.self.inside.waiting.items
+kept : (c : goal.After-retain) → c.retain.new.self.items ≡ filter (λ (w : PlainEntry). not (name_eq w.key.name c.args.name.now)) c.self.inside.waiting.items
 kept c = filter_same _ _ _ (λ x b f' k. search rules) _ _ c.retain.ensures.filtered
 
 pub invariant_of-self : goal.invariant_of-self

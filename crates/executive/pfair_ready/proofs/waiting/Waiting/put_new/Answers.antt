@@ -1,7 +1,7 @@
 use Rattle.std.proofs.Common.{Some, ap, ◌∙◌}
 use Rattle.std.specs.FinMap as finmap
 use Rattle.pfair_ready.specs.Queue.{Queue}
-use Rattle.pfair_ready.specs.declared.waiting.Held.{Held}
+use Rattle.pfair_ready.specs.declared.waiting.HeldKey.{HeldKey}
 use Rattle.pfair_ready.specs.Waiting.{held_under}
 use Rattle.pfair_ready.proofs.WaitingLemmas.{queue_put}
 use Rattle.pfair_ready.proofs.waiting.Waiting.put_new.Goals as goal
@@ -9,6 +9,6 @@ use Rattle.pfair_ready.proofs.waiting.Waiting.put_new.Goals as goal
 pub returns-clause-put : goal.returns-clause-put
 returns-clause-put c =
     queue_put c.self.inside.entries.entries c.insert.new.self.entries c.len.ensures.unique c.in_ok-insert.ensures.unique c.args.key.now.name (record { held = Some c.of.result; member = c.args.member }) (c.args.release, c.args.key.now)
-    (ap (λ (h : Held). held_under c.args.key.now.name (Some h)) c.of.ensures)
+    (ap (λ (h : HeldKey). held_under c.args.key.now.name (Some h)) c.of.ensures)
     c.in_ok-insert.ensures.updates.0
     ∙ ap (λ (h : Queue). finmap.insert h c.args.key.now.name (c.args.release, c.args.key.now)) (c.self.view_is ∙ c.drop_vacant.ensures)

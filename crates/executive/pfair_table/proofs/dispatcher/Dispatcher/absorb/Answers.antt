@@ -13,4 +13,4 @@ invariant_of-self g c = (
 )
 
 pub returns-clause-fault : goal.returns-clause-fault
-returns-clause-fault g c = subst (λ (d : Dispatch). IfErr c.merge.result (IsMergeFaultOf d.held c.args.other.now)) c.self.view_is c.merge.ensures.fault
+returns-clause-fault g c = subst (λ (d : Dispatch). IfErr c.merge.result (IsMergeFaultOf d.replica c.args.other.now)) c.self.view_is c.merge.ensures.fault

@@ -1,6 +1,6 @@
 use Rattle.std.proofs.Common.{◌≡◌, ◌∙◌, sym, ap, subst, arith, Bool}
 use Rattle.pfair_replica.specs.Replica.{Replica, empty_replica}
-use Rattle.pfair_replica.specs.HeldRows.{replica_of}
+use Rattle.pfair_replica.specs.ReplicaRows.{replica_of}
 use Rattle.pfair_table.specs.Planned.{PlannedSlots}
 use Rattle.pfair_table.specs.Refinement.{IsKept}
 use Rattle.pfair_table.specs.Table.{Settings}

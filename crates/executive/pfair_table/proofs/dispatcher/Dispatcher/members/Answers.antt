@@ -1,5 +1,5 @@
 use Rattle.std.proofs.Common.{◌≡◌, subst, false, length}
-use Rattle.pfair_replica.specs.HeldRows.{replica_of}
+use Rattle.pfair_replica.specs.ReplicaRows.{replica_of}
 use Rattle.pfair_replica.specs.Replica.{has_torn}
 use Rattle.pfair_table.specs.Refinement.{Dispatch, members_after}
 use Rattle.pfair_table.proofs.Keeping.{step_now}
@@ -7,5 +7,5 @@ use Rattle.pfair_table.proofs.dispatcher.Dispatcher.members.Goals as goal
 
 pub returns-clause-whole : goal.returns-clause-whole
 returns-clause-whole g c =
-    subst (λ (d : Dispatch). has_torn (replica_of d.held) ≡ false → c.self.inside.planner.members.members ≡ members_after d.origin d.settings (replica_of d.held) (length d.tables)) c.self.view_is
+    subst (λ (d : Dispatch). has_torn (replica_of d.replica) ≡ false → c.self.inside.planner.members.members ≡ members_after d.origin d.settings (replica_of d.replica) (length d.tables)) c.self.view_is
     (λ test. (step_now c.self.invariant.0 c.processors.ensures.rows.entries test c.if-self.false).members_are)

@@ -1,7 +1,7 @@
 use Rattle.std.proofs.Common.{◌≡◌, ◌++◌, ◌∷◌, ◌+◌, [], ◌∙◌, sym, ap, subst, false, length}
 use Rattle.std.specs.Prelude.{if◌then◌else◌}
 use Rattle.std.proofs.lemmas.List.{length-append}
-use Rattle.pfair_replica.specs.HeldRows.{replica_of}
+use Rattle.pfair_replica.specs.ReplicaRows.{replica_of}
 use Rattle.pfair_replica.proofs.TornKeys.{untorn_by_test}
 use Rattle.pfair_table.specs.Events.{is_plannable, with_next_slot}
 use Rattle.pfair_table.specs.Planned.{PlannedSlots}
@@ -56,15 +56,15 @@ returns-in_ok-plan_onto-clause-course g c =
     let a = c.self.inside in
     let there = next_planned c.self.inside.planner.settings (replica_of c.self.inside.replica) (length c.self.inside.planned.tables) c.in-Planned.field-0 c.in_ok-step.step
     (subst (λ n. IsNextStep c.self.inside.planner.settings (replica_of c.self.inside.replica) n c.in_ok-step.step) c.len-planned.ensures.tables c.in_ok-step.ensures.step) c.in-Planned.is in
-    ap (λ (d : PlannedSlots). record { origin = d.origin; held = replica_of a.replica; tables = d.tables; decided = d.decided }) c.in_ok-plan_onto.ensures.planned
+    ap (λ (d : PlannedSlots). record { origin = d.origin; replica = replica_of a.replica; tables = d.tables; decided = d.decided }) c.in_ok-plan_onto.ensures.planned
     ∙ course_next a.planner.settings a.planned a.replica c.self.invariant.2 there.3
-    ∙ ap (λ (d : Dispatch). if is_plannable d.settings (replica_of d.held) (length d.tables) then with_next_slot d.settings (course_of d) else course_of d) c.self.view_is
+    ∙ ap (λ (d : Dispatch). if is_plannable d.settings (replica_of d.replica) (length d.tables) then with_next_slot d.settings (course_of d) else course_of d) c.self.view_is
 
 pub returns-in_default-clause-course : goal.returns-in_default-clause-course
 returns-in_default-clause-course g c =
     let none = next_none c.self.inside.planner.settings (replica_of c.self.inside.replica) (length c.self.inside.planned.tables) c.in_ok-step.step
     (subst (λ n. IsNextStep c.self.inside.planner.settings (replica_of c.self.inside.replica) n c.in_ok-step.step) c.len-planned.ensures.tables c.in_ok-step.ensures.step) c.in_default.not-Planned in
-    course_same c.args.self.now (subst (λ (d : Dispatch). is_plannable d.settings (replica_of d.held) (length d.tables) ≡ false) c.self.view_is none.0)
+    course_same c.args.self.now (subst (λ (d : Dispatch). is_plannable d.settings (replica_of d.replica) (length d.tables) ≡ false) c.self.view_is none.0)
 
 pub returns-in_default-clause-settled : goal.returns-in_default-clause-settled
 returns-in_default-clause-settled g c = λ last.

@@ -2,8 +2,8 @@ use Rattle.std.proofs.Common.{List, Ok, false, ◌≤◌, ◌<◌, ◌≡◌, �
 use Rattle.std.specs.List.{AllByRecursion}
 use Rattle.pfair_weight.specs.Name.{NamesApart}
 use Rattle.pfair_weight.specs.declared.window.TheConstants.{MAX_INDEX}
-use Rattle.pfair_entry.specs.Said.{Said}
-use Rattle.pfair_replica.specs.HeldRows.{replica_of}
+use Rattle.pfair_entry.specs.declared.said.Said.{Said}
+use Rattle.pfair_replica.specs.ReplicaRows.{replica_of}
 use Rattle.pfair_replica.specs.Replica.{Replica}
 use Rattle.pfair_admission.specs.Admission.{announcements, member_named}
 use Rattle.pfair_admission.specs.Member.{Member}
@@ -33,14 +33,14 @@ decide_all-requires-clause-heard g c =
     let limit = c.processors-processors.ensures.limits.processors.1 in
     let so_far = c.requires.step.heard_is in
     let fits : heard_before x (suc c.args.slot) ≤ 262144 = heard_fits x (suc c.args.slot) (omega (arith, many, limit)) c.requires.able.room in
-    subst (λ (h : List Said). c.args.self.now.members.heard + length h ≤ 262144) (sym (c.deref.ensures.value ∙ c.in_ok-announced.ensures.heard)) (omega (arith, fits, so_far))
+    subst (λ (h : List Said). c.args.self.now.members.heard + length h ≤ 262144) (sym (c.deref.ensures.value ∙ c.in_ok-announced.ensures.announced)) (omega (arith, fits, so_far))
 
 pub decide_all-requires-clause-limits : goal.decide_all-requires-clause-limits
 decide_all-requires-clause-limits g c =
-    subst AreWithinLimits (sym (c.deref.ensures.value ∙ c.in_ok-announced.ensures.heard)) (said_within (replica_of c.args.replica.now) c.requires.able.is_of.replica c.args.slot)
+    subst AreWithinLimits (sym (c.deref.ensures.value ∙ c.in_ok-announced.ensures.announced)) (said_within (replica_of c.args.replica.now) c.requires.able.is_of.replica c.args.slot)
 
-pub tell_ready-requires : goal.tell_ready-requires
-tell_ready-requires g c = λ name e.
+pub notify_ready-requires : goal.notify_ready-requires
+notify_ready-requires g c = λ name e.
     (let before = c.args.self.now.members in
     let same = c.deref-2.ensures.value ∙ sym c.deref.ensures.value in
     queue_after_boundary before.machine c.slot_of-at.result c.deref.result.now before.members (g.R.Ready.held c.args.self.now.ready) c.requires.step.steady.named c.requires.step.steady.queue name
@@ -71,7 +71,7 @@ returns-clause-step g c =
     let steady = subst (λ n. IsSteady n before.members (g.R.Ready.now before.ready) (g.R.Ready.held before.ready)) (sym c.slot_of-at.ensures) c.requires.step.steady in
     let ran_are = ap (λ (r : Roster). r.members) c.in_ok-table.ensures.members ∙ ap (all_ran rows.items) world_is in
     step_after after (g.R.Ready.now c.give_quanta.new.ready) (g.R.Ready.held c.give_quanta.new.ready) (Ok (record { table = rows; decided = c.in_ok-decided.decided })) c.requires.step c.slot_of-at.ensures
-    (c.deref.ensures.value ∙ c.in_ok-announced.ensures.heard) c.processors-processors.ensures.value
+    (c.deref.ensures.value ∙ c.in_ok-announced.ensures.announced) c.processors-processors.ensures.value
     (c.in_ok-table.ensures.table ∙ ap (rows_at c.processors-processors.result c.slot_of-at.result) world_is)
     ran_are
     (ap (λ (r : Roster). r.machine) c.in_ok-table.ensures.members ∙ ap (λ (r : Roster). r.machine) c.in_ok-decided.ensures.members)

@@ -1,5 +1,5 @@
 use Rattle.std.proofs.Common.{◌≡◌}
-use Rattle.pfair_replica.specs.HeldRows.{replica_of}
+use Rattle.pfair_replica.specs.ReplicaRows.{replica_of}
 use Rattle.pfair_table.specs.Readings.{AreReadingsOf}
 use Rattle.pfair_table.proofs.ReadOn.{AreWholeBelow}
 use Rattle.pfair_table.proofs.readings.Readings.read_on.Given as goal

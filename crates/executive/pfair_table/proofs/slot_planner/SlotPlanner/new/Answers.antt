@@ -1,7 +1,7 @@
 use Rattle.std.proofs.Common.{refl, sym, subst, arith, Bool, false, [], None}
 use Rattle.std.proofs.lemmas.Option.{none-some}
 use Rattle.pfair_replica.specs.Replica.{Replica, empty_replica}
-use Rattle.pfair_replica.specs.HeldRows.{HeldRows, replica_of}
+use Rattle.pfair_replica.specs.ReplicaRows.{ReplicaRows, replica_of}
 use Rattle.pfair_table.specs.Refinement.{IsKept}
 use Rattle.pfair_table.specs.Readings.{AreReadingsOf}
 use Rattle.pfair_table.specs.Table.{Settings}
@@ -20,7 +20,7 @@ invariant_of-result g c =
     kept_above
     (start_kept {o = None} {x = nothing} tt refl (omega (arith, room)) (c.in_ok-planner.ensures.step nothing))
     (λ k n e h. absurd (none-some e h)) c.requires refl in (
-      subst (λ (q : HeldRows × Settings × Bool). IsKept None q.1 (replica_of q.0) [] [] q.2 p.members (g.R.Ready.now p.ready) (g.R.Ready.held p.ready))
+      subst (λ (q : ReplicaRows × Settings × Bool). IsKept None q.1 (replica_of q.0) [] [] q.2 p.members (g.R.Ready.now p.ready) (g.R.Ready.held p.ready))
           (λ i. (sym c.of.ensures i, sym c.in_ok-planner.ensures.settings i, sym c.in_ok-planner.ensures.able i)) kept,
-      subst (λ (h : HeldRows). AreReadingsOf (replica_of h) p.readings.by_processor.items) (sym c.of.ensures) (c.in_ok-planner.ensures.readings x c.requires),
+      subst (λ (h : ReplicaRows). AreReadingsOf (replica_of h) p.readings.by_processor.items) (sym c.of.ensures) (c.in_ok-planner.ensures.readings x c.requires),
     )

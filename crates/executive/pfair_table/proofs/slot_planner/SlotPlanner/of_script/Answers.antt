@@ -1,5 +1,5 @@
 use Rattle.std.proofs.Common.{◌≡◌, ◌∙◌, sym, ap, subst, arith, false}
-use Rattle.pfair_replica.specs.HeldRows.{replica_of}
+use Rattle.pfair_replica.specs.ReplicaRows.{replica_of}
 use Rattle.pfair_replica.specs.Replica.{frontier, has_torn}
 use Rattle.pfair_replica.proofs.TornKeys.{test_by_untorn}
 use Rattle.pfair_table.specs.Refinement.{Dispatch}
@@ -25,7 +25,7 @@ returns-clause-able g c =
     let limit = ap (λ (d : Dispatch). d.settings.slots) start in
     let enough = c.in_ok-check_settled.ensures.settled in
     record {
-      held_is = ap (λ (d : Dispatch). d.held) start;
+      held_is = ap (λ (d : Dispatch). d.replica) start;
       whole = subst (λ r. has_torn r ≡ false) (sym held_is) (test_by_untorn (replica_of_logs script.logs) (script_whole script.logs));
       settled = omega (arith, limit, enough, c.slots.ensures.value, c.frontier.ensures.value);
     }

@@ -1,5 +1,5 @@
 use Rattle.std.proofs.Common.{◌+◌, ◌∙◌, sym, ap, subst, arith, None}
-use Rattle.pfair_replica.specs.HeldRows.{HeldRows, replica_of}
+use Rattle.pfair_replica.specs.ReplicaRows.{ReplicaRows, replica_of}
 use Rattle.pfair_replica.proofs.TornKeys.{untorn_by_test}
 use Rattle.pfair_table.specs.Readings.{AreReadingsOf}
 use Rattle.pfair_table.specs.Planned.{tables_to, decided_to}
@@ -32,7 +32,7 @@ plan-requires-clause-able g c =
       is_of = is_of_held kept c.next_step.ensures.replica;
       whole = untorn_by_test (replica_of c.args.replica.now) c.next_step.ensures.replica test;
       room = kept.capacity;
-      read = subst (λ (h : HeldRows). AreReadingsOf (replica_of h) a.planner.readings.by_processor.items) (ap (λ (d : Dispatch). d.held) (c.self.view_is ∙ c.see.ensures)) c.self.invariant.1;
+      read = subst (λ (h : ReplicaRows). AreReadingsOf (replica_of h) a.planner.readings.by_processor.items) (ap (λ (d : Dispatch). d.replica) (c.self.view_is ∙ c.see.ensures)) c.self.invariant.1;
     }
 
 pub plan-requires-clause-slot : goal.plan-requires-clause-slot
@@ -64,7 +64,7 @@ invariant_of-self-2 g c =
       subst (λ (s : Settings). IsKept None s (replica_of a.seen.value) (tables_to None s c.of.result.value (a.planned + 1)) (decided_to None s c.of.result.value (a.planned + 1)) next.spent next.members (g.R.Ready.now next.ready) (g.R.Ready.held next.ready)) (sym c.plan.ensures.settings)
           (kept_seen a.of.value a.planned c.self.invariant.0 (c.self.view_is ∙ c.see.ensures) c.next_step.ensures.replica c.in_ok-slot.ensures.able.0 c.of.ensures there.0 there.1
           (subst (λ n. IsInStep None a.planner.settings (replica_of c.args.replica.now) (n + 1) next.members (g.R.Ready.now next.ready) (g.R.Ready.held next.ready)) there.2 c.in_ok-next.ensures.step)),
-      subst (λ (h : HeldRows). AreReadingsOf (replica_of h) next.readings.by_processor.items) (sym (ap (λ (d : Dispatch). d.held) (c.self.view_is ∙ c.see.ensures))) c.plan.ensures.readings,
+      subst (λ (h : ReplicaRows). AreReadingsOf (replica_of h) next.readings.by_processor.items) (sym (ap (λ (d : Dispatch). d.replica) (c.self.view_is ∙ c.see.ensures))) c.plan.ensures.readings,
     )
 
 pub returns-clause-next : goal.returns-clause-next

@@ -1,5 +1,5 @@
 use Rattle.std.proofs.Common.{sym, ap, subst, None}
-use Rattle.pfair_replica.specs.HeldRows.{HeldRows, SameShape, replica_of}
+use Rattle.pfair_replica.specs.ReplicaRows.{ReplicaRows, SameShape, replica_of}
 use Rattle.pfair_replica.specs.Replica.{Below}
 use Rattle.pfair_table.specs.Readings.{AreReadingsOf}
 use Rattle.pfair_table.specs.Refinement.{Dispatch, IsKept}
@@ -11,9 +11,9 @@ use Rattle.pfair_table.proofs.slot_planner.SlotPlanner.see.Goals as goal
 pub invariant_of-self : goal.invariant_of-self
 invariant_of-self g c =
     let a = c.self.inside in
-    let held_is = sym (ap (λ (d : Dispatch). d.held) c.self.view_is) in
-    let above = subst (λ (h : HeldRows). Below (replica_of h) (replica_of c.args.replica.now)) held_is c.requires.above in
-    let shape = subst (λ (h : HeldRows). SameShape h c.args.replica.now) held_is c.requires.shape in
-    subst (λ (h : HeldRows). IsKept None a.planner.settings (replica_of h) (tables_to None a.planner.settings a.of.value a.planned) (decided_to None a.planner.settings a.of.value a.planned) a.planner.spent a.planner.members (g.R.Ready.now a.planner.ready) (g.R.Ready.held a.planner.ready)
+    let held_is = sym (ap (λ (d : Dispatch). d.replica) c.self.view_is) in
+    let above = subst (λ (h : ReplicaRows). Below (replica_of h) (replica_of c.args.replica.now)) held_is c.requires.above in
+    let shape = subst (λ (h : ReplicaRows). SameShape h c.args.replica.now) held_is c.requires.shape in
+    subst (λ (h : ReplicaRows). IsKept None a.planner.settings (replica_of h) (tables_to None a.planner.settings a.of.value a.planned) (decided_to None a.planner.settings a.of.value a.planned) a.planner.spent a.planner.members (g.R.Ready.now a.planner.ready) (g.R.Ready.held a.planner.ready)
     × AreReadingsOf (replica_of h) a.planner.readings.by_processor.items) (sym c.of.ensures)
     (kept_above c.self.invariant.0 above (sym shape.0) (sym shape.1), readings_above c.self.invariant.1 above (sym shape.0) (sym shape.1))

@@ -5,30 +5,30 @@ use Rattle.pfair_file.specs.declared.program_fault.ProgramFault.TheVariants.{Wri
 use Rattle.pfair_feed.specs.Follow.{Follow, news}
 use Rattle.pfair_feed.proofs.Going.{own_err}
 use Rattle.pfair_table.specs.Refinement.{Dispatch}
-use Rattle.pfair_feed.specs.Rows.{IsTold, rows_in}
+use Rattle.pfair_feed.specs.Rows.{KeepsUnwritten, rows_in}
 use Rattle.pfair_feed.proofs.Books.{book_after_plans}
 use Rattle.pfair_feed.proofs.follower.Follower.take.Goals as goal
 
 pub invariant_of-self-in_err-plan_all : goal.invariant_of-self-in_err-plan_all
 invariant_of-self-in_err-plan_all g c = (
-  book_after_plans c.self.inside.told c.self.inside.dispatcher c.take.new.self c.plan_all.new.dispatcher c.self.inside.book
+  book_after_plans c.self.inside.unwritten c.self.inside.dispatcher c.take.new.self c.plan_all.new.dispatcher c.self.inside.book
       (sym c.next_slot.ensures.value ∙ c.next_slot.ensures.decided) c.take.ensures.rest c.plan_all.ensures.grown c.self.invariant.0,
-  subst (λ n. IsTold c.self.inside.output n c.self.inside.told) (sym (c.plan_all.ensures.forgotten ∙ ap (λ (d : Dispatch). d.forgotten) c.take.ensures.rest)) c.self.invariant.1,
+  subst (λ n. KeepsUnwritten c.self.inside.output n c.self.inside.unwritten) (sym (c.plan_all.ensures.forgotten ∙ ap (λ (d : Dispatch). d.forgotten) c.take.ensures.rest)) c.self.invariant.1,
 )
 
 pub invariant_of-self-2 : goal.invariant_of-self-2
 invariant_of-self-2 g c = (
-  book_after_plans c.self.inside.told c.self.inside.dispatcher c.take.new.self c.plan_all.new.dispatcher c.self.inside.book
+  book_after_plans c.self.inside.unwritten c.self.inside.dispatcher c.take.new.self c.plan_all.new.dispatcher c.self.inside.book
       (sym c.next_slot.ensures.value ∙ c.next_slot.ensures.decided) c.take.ensures.rest c.plan_all.ensures.grown c.self.invariant.0,
-  subst (λ n. IsTold c.self.inside.output n c.self.inside.told) (sym (c.plan_all.ensures.forgotten ∙ ap (λ (d : Dispatch). d.forgotten) c.take.ensures.rest)) c.self.invariant.1,
+  subst (λ n. KeepsUnwritten c.self.inside.output n c.self.inside.unwritten) (sym (c.plan_all.ensures.forgotten ∙ ap (λ (d : Dispatch). d.forgotten) c.take.ensures.rest)) c.self.invariant.1,
 )
 
-pub returns-in_err-tell-clause-cut : goal.returns-in_err-tell-clause-cut
-returns-in_err-tell-clause-cut g c is =
-    let there : Follow = record { output = c.self.inside.output; dispatch = c.plan_all.new.dispatcher; told = c.self.inside.told } in
-    let stands : c.tell.new.self ≡ there = c.in_err-tell.ensures.stands in
+pub returns-in_err-write_rows-clause-cut : goal.returns-in_err-write_rows-clause-cut
+returns-in_err-write_rows-clause-cut g c is =
+    let there : Follow = record { output = c.self.inside.output; dispatch = c.plan_all.new.dispatcher; unwritten = c.self.inside.unwritten } in
+    let stands : c.write_rows.new.self ≡ there = c.in_err-write_rows.ensures.stands in
     let view = c.self.view_is in
-    let same : news there there ≡ news c.args.self.now c.tell.new.self =
-    (λ i. lines_text (rows_in (sym stands i).dispatch.origin (view i).output (view i).told (sym stands i).dispatch.tables (sym stands i).dispatch.decided)) in
-    subst (λ (text : List ℕ). TakesPrefix (g.W.Write.contents c.args.writer.now) (g.W.Write.contents c.tell.new.writer) text) same
-    (c.in_err-tell.ensures.cut (ap Err (own_err c.from_residual-in_err-tell.result c.in_err-tell.field-0.0 WriteFailed c.from_residual-in_err-tell.ensures.1 is)))
+    let same : news there there ≡ news c.args.self.now c.write_rows.new.self =
+    (λ i. lines_text (rows_in (sym stands i).dispatch.origin (view i).output (view i).unwritten (sym stands i).dispatch.tables (sym stands i).dispatch.decided)) in
+    subst (λ (text : List ℕ). TakesPrefix (g.W.Write.contents c.args.writer.now) (g.W.Write.contents c.write_rows.new.writer) text) same
+    (c.in_err-write_rows.ensures.cut (ap Err (own_err c.from_residual-in_err-write_rows.result c.in_err-write_rows.field-0.0 WriteFailed c.from_residual-in_err-write_rows.ensures.1 is)))

@@ -5,7 +5,7 @@ use Rattle.std.specs.Ordering.{nat_cmp}
 use Rattle.pfair_lattice.specs.Entries.{get}
 use Rattle.pfair_lattice.specs.Held.{HeldBelow}
 use Rattle.pfair_lattice.specs.HeldLaws.{none_below}
-use Rattle.pfair_replica.specs.HeldRows.{Row, held}
+use Rattle.pfair_replica.specs.ReplicaRows.{Row, held}
 use Rattle.pfair_replica.proofs.replica.Replica.le.Goals as goal
 
 pub returns-then-not-row_le : goal.returns-then-not-row_le

@@ -1,7 +1,7 @@
 use Rattle.std.proofs.lemmas.Grind.{common_steps}
 use Rattle.std.proofs.Common.{rules, arith}
 use Rattle.pfair_replica.specs.Faults.{HoldsMore}
-use Rattle.pfair_replica.specs.HeldRows.{held_in, replica_of}
+use Rattle.pfair_replica.specs.ReplicaRows.{held_in, replica_of}
 use Rattle.pfair_replica.proofs.Comparing.{rows_outgrown}
 use Rattle.pfair_replica.proofs.Merging.{joined_held, between_held, between_below, partly_merged, merged_rows, partly_rows, between_rows, either_held, on_err_here}
 use Rattle.pfair_replica.proofs.Following.{before_join}
@@ -43,9 +43,3 @@ returns-clause-grows c = rw (← c.self.view_is) (grind (arith, between_below, j
 
 pub returns-clause-offered : goal.returns-clause-offered
 returns-clause-offered c = grind (arith, common_steps, joined_held)
-
-pub returns-in_err-joined-clause-within : goal.returns-in_err-joined-clause-within
-returns-in_err-joined-clause-within c = rw (← c.self.view_is, ← c.other.view_is) (grind (arith, between_held, common_steps))
-
-pub returns-clause-within : goal.returns-clause-within
-returns-clause-within c = rw (← c.self.view_is, ← c.other.view_is) (grind (arith, joined_held, common_steps))

@@ -1,6 +1,6 @@
 use Rattle.std.proofs.Common.{◌+◌, ◌<◌, ◌++◌, refl, sym, ap, ◌∙◌, arith, length, append_assoc, Some}
 use Rattle.pfair_replica.specs.Agenda.{said_at}
-use Rattle.pfair_replica.specs.HeldRows.{replica_of}
+use Rattle.pfair_replica.specs.ReplicaRows.{replica_of}
 use Rattle.pfair_replica.specs.Replica.{Replica, sound_beginning, said_behind, said_by}
 use Rattle.pfair_replica.proofs.Merging.{on_err_here}
 use Rattle.pfair_replica.proofs.SoundEntries.{entry_there, entry_is}
@@ -22,12 +22,12 @@ loop-place-preserved c = λ t.
     let so_far = c.loop-place.invariant t in
     let next = said_by t c.args.proc (c.loop-place.place + 1) c.in-Some-One.entry.said in (
       so_far.0 ++ next,
-      c.in_ok-note_said_by-in-Some-One.ensures.heard t ∙ ap (λ xs. xs ++ next) so_far.1 ∙ append_assoc (said_at c.args.agenda.now t) so_far.0 next,
+      c.in_ok-note_said_by-in-Some-One.ensures.noted t ∙ ap (λ xs. xs ++ next) so_far.1 ∙ append_assoc (said_at c.args.agenda.now t) so_far.0 next,
       noted_next x c.args.proc c.loop-place.place t c.in-Some-One.entry (said_behind x t c.args.proc c.args.from) so_far.0 (so_far.0 ++ next) is refl so_far.2,
     ))
 
-pub returns-clause-heard : goal.returns-clause-heard
-returns-clause-heard c = λ t.
+pub returns-clause-noted : goal.returns-clause-noted
+returns-clause-noted c = λ t.
     (let x : Replica = replica_of c.args.self.now in
     let so_far = c.loop-place.invariant t in
     so_far.1 ∙ ap (λ xs. said_at c.args.agenda.now t ++ xs) (all_noted x c.args.proc c.loop-place.place t so_far.0 (said_behind x t c.args.proc c.args.from) (omega arith) so_far.2))

@@ -1,6 +1,6 @@
 use Rattle.std.proofs.Common.{◌≡◌, ap, sym, ◌∙◌, subst, refl, Some, arith}
 use Rattle.pfair_lattice.specs.declared.flat.Flat.TheVariants.{One}
-use Rattle.pfair_replica.specs.HeldRows.{held, replica_of}
+use Rattle.pfair_replica.specs.ReplicaRows.{held, replica_of}
 use Rattle.pfair_desk.specs.Boards.{IsKey}
 use Rattle.pfair_desk.specs.Knowledge.{Knowledge}
 use Rattle.pfair_desk.proofs.NotedLemmas.{in_order_after, in_order_only, keeps_after, now_one, place_there}

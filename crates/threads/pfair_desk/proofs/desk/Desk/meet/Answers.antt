@@ -1,6 +1,7 @@
-use Rattle.std.proofs.Common.{arith, ◌≡◌, ap, sym, refl, ◌∙◌}
-use Rattle.pfair_replica.specs.Replica.{join}
-use Rattle.pfair_replica.specs.HeldRows.{replica_of}
+use Rattle.std.proofs.Common.{arith, ◌≡◌, ap, sym, refl, ◌∙◌, subst, inl, Result, Ok, Err, OnOk, OnErr}
+use Rattle.pfair_replica.specs.Replica.{Replica, Below, join}
+use Rattle.pfair_replica.specs.Faults.{IsPartlyMerged}
+use Rattle.pfair_replica.specs.ReplicaRows.{replica_of}
 use Rattle.pfair_desk.specs.Noted.{AllNoted}
 use Rattle.pfair_desk.proofs.NotedLemmas.{all_noted_more, join_noted, below_noted, noted_whole, kept_noted, in_order_met, holds_more}
 use Rattle.pfair_desk.proofs.desk.Desk.meet.Goals.{After-merge, in-Ok, in-Err}
@@ -14,8 +15,14 @@ join_known c =
     (all_noted_more (replica_of c.self.inside.replica) c.self.inside.notes.known c.share.new.self.known c.share.ensures.mine.grows c.self.invariant.noted)
     (all_noted_more (replica_of c.other.inside.replica) c.other.inside.notes.known c.share.new.self.known c.share.ensures.theirs c.other.invariant.noted)
 
+-- however much of the other is merged in, no more is
+merged_within : {A E : Type 0} (r : Result A E) (x y z : Replica) → OnOk r (z ≡ join x y) → OnErr r (IsPartlyMerged x y z) → Below z (join x y)
+merged_within (Ok a) x y z is part = subst (λ (w : Replica). Below w (join x y)) (sym is) (λ k n f h. inl h)
+merged_within (Err e) x y z is part = part.within
+
 now_known : (c : After-merge) → AllNoted (replica_of c.merge.new.self) c.share.new.self.known
-now_known c = below_noted (replica_of c.merge.new.self) (join (replica_of c.self.inside.replica) (replica_of c.other.inside.replica)) c.share.new.self.known (sym c.merge.ensures.shape.1) c.merge.ensures.within (join_known c)
+now_known c = below_noted (replica_of c.merge.new.self) (join (replica_of c.self.inside.replica) (replica_of c.other.inside.replica)) c.share.new.self.known (sym c.merge.ensures.shape.1)
+    (merged_within c.merge.result (replica_of c.self.inside.replica) (replica_of c.other.inside.replica) (replica_of c.merge.new.self) c.merge.ensures.merged c.merge.ensures.partly) (join_known c)
 
 pub invariant_of-self : goal.invariant_of-self
 invariant_of-self c = in_order_met c.self.inside.processor c.self.inside.next_number (replica_of c.self.inside.replica) (replica_of c.merge.new.self) c.self.inside.notes c.share.new.self c.self.invariant c.share.ensures.mine c.merge.ensures.shape (now_known (goal.at.invariant_of-self c).After-merge)

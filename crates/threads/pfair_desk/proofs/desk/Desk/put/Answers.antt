@@ -1,6 +1,6 @@
 use Rattle.std.proofs.Common.{◌≡◌, ◌≤◌, ap, sym, subst, arith, refl}
 use Rattle.pfair_replica.specs.Replica.{Replica}
-use Rattle.pfair_replica.specs.HeldRows.{replica_of}
+use Rattle.pfair_replica.specs.ReplicaRows.{replica_of}
 use Rattle.pfair_desk.specs.Boards.{IsKey}
 use Rattle.pfair_desk.specs.Desks.{DeskView}
 use Rattle.pfair_desk.specs.Knowledge.{Knowledge}

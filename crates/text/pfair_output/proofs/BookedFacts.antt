@@ -1,0 +1,129 @@
+-- The rows of a book that is notified of one slot after another.
+use Rattle.std.proofs.Common.{ℕ, suc, ◌+◌, ◌-◌, ◌<◌, ◌≤◌, ◌≡◌, refl, sym, ap, ◌∙◌, arith, true, false, cond, List, [], ◌∷◌, ◌++◌, Some, map, length, min, take, drop, append_assoc}
+use Rattle.std.specs.Prelude.{slice_get, is_some, ℤ}
+use Rattle.std.specs.Option.{option_map}
+use Rattle.std.proofs.lemmas.List.{append-nil, drop_all, length-drop, length-take}
+use Rattle.std.proofs.lemmas.Option.{same_Some}
+use Rattle.std.specs.Fmt.{decimal, signed_decimal}
+use Rattle.pfair_text.specs.Rows.{line, lines_text}
+use Rattle.pfair_text.proofs.RowFacts.{first_left, lines_text-append}
+use Rattle.pfair_weight.specs.Share.{Share}
+use Rattle.pfair_entry.specs.declared.announcement.Announcement.{Announcement}
+use Rattle.pfair_entry.specs.declared.announcement.Announcement.TheVariants.{Arrive, Depart, Late}
+use Rattle.pfair_admission.specs.declared.decision.Decision.{Decision}
+use Rattle.pfair_table.specs.declared.pick.Decided.{Decided}
+use Rattle.pfair_table.specs.Table.{Table}
+use Rattle.pfair_weight.specs.Name.{NameValue}
+use Rattle.pfair_lag.specs.Book.{Tally, Book, tally_of, lag_of, entered_with, left}
+use Rattle.pfair_output.specs.Booked.{is_admitted, is_leave, booked, all_booked, slot_booked, all_slots_booked, tally_row, book_rows, rows_booked}
+
+-- ---- time
+
+entered_time : (name : NameValue) (weight : Share) (book : Book) → (entered_with name weight book).time ≡ book.time
+entered_time name weight book =
+    elim (is_some (tally_of name book)) as (λ b. (cond b book (record book { entered = book.entered ++ (name, record { weight = weight; slots = 0; ran = 0 }) ∷ [] })).time ≡ book.time) [ true ↦ refl | false ↦ refl ]
+
+time-booked : (a : Announcement) (d : Decision) (book : Book) → (booked a d book).time ≡ book.time
+time-booked (Arrive name weight early) d book =
+    elim (is_admitted d) as (λ b. (cond b (entered_with name weight book) book).time ≡ book.time) [ true ↦ entered_time name weight book | false ↦ refl ]
+time-booked (Depart name) d book = elim (is_leave d) as (λ b. (cond b (left name book) book).time ≡ book.time) [ true ↦ refl | false ↦ refl ]
+time-booked (Late name index by) d book = refl
+
+pub time-all_booked : (ds : List Decided) (book : Book) → (all_booked ds book).time ≡ book.time
+time-all_booked [] book = refl
+time-all_booked (d ∷ ds) book = time-all_booked ds (booked d.announcement d.decision book) ∙ time-booked d.announcement d.decision book
+
+-- ---- the task at a place
+
+pub named_at : (book : Book) (place : ℕ) (name : NameValue) (e : NameValue × Tally) → Some name ≡ option_map (λ (e : NameValue × Tally). e.0) (slice_get book.entered place) → slice_get book.entered place ≡ Some e → name ≡ e.0
+named_at book place name e named at = same_Some name e.0 (named ∙ ap (option_map (λ (e : NameValue × Tally). e.0)) at)
+
+pub lag_at : (book : Book) (place : ℕ) (e : NameValue × Tally) (numerator : ℤ) (period : ℕ) → Some (numerator, period) ≡ option_map (λ (e : NameValue × Tally). lag_of e.1) (slice_get book.entered place) → slice_get book.entered place ≡ Some e → (numerator, period) ≡ lag_of e.1
+lag_at book place e numerator period shown at = same_Some (numerator, period) (lag_of e.1) (shown ∙ ap (option_map (λ (e : NameValue × Tally). lag_of e.1)) at)
+
+pub row_is : (time time' : ℕ) (name : NameValue) (e : NameValue × Tally) (numerator : ℤ) (period : ℕ) → time' ≡ time → name ≡ e.0 → (numerator, period) ≡ lag_of e.1
+    → (decimal time' ∷ name ∷ signed_decimal numerator ∷ decimal period ∷ []) ≡ tally_row time e
+row_is time time' name e numerator period t n same = λ i. decimal (t i) ∷ n i ∷ signed_decimal (same i).0 ∷ decimal (same i).1 ∷ []
+
+-- ---- rows
+
+one_line : (row : List (List ℕ)) → lines_text (row ∷ []) ≡ line row
+one_line row = append-nil (line row)
+
+-- one task more
+pub task_more : (row : NameValue × Tally → List (List ℕ)) (es : List (NameValue × Tally)) (place : ℕ) (before after : List ℕ) → place < length es
+    → ((e : NameValue × Tally) → slice_get es place ≡ Some e → after ≡ before ++ line (row e))
+    → after ++ lines_text (map row (drop (place + 1) es)) ≡ before ++ lines_text (map row (drop place es))
+task_more row es place before after inside grown =
+    let t = first_left es place inside in
+    let rest : List (List (List ℕ)) = map row (drop (place + 1) es) in
+    ap (λ text. text ++ lines_text rest) (grown t.0 t.1 ∙ ap (λ text. before ++ text) (sym (one_line (row t.0))))
+    ∙ append_assoc before (lines_text (row t.0 ∷ [])) (lines_text rest)
+    ∙ ap (λ text. before ++ text) (sym (lines_text-append (row t.0 ∷ []) rest))
+    ∙ ap (λ (l : List (NameValue × Tally)). before ++ lines_text (map row l)) (sym t.2)
+
+-- one slot more
+pub booked_more : (ds : List (List Decided)) (ts : List Table) (slot : ℕ) (book book' : Book) (before after : List ℕ) → slot < length ds → slot < length ts
+    → ((d : List Decided) (t : Table) → slice_get ds slot ≡ Some d → slice_get ts slot ≡ Some t → book' ≡ slot_booked d t book)
+    → ((d : List Decided) (t : Table) → slice_get ds slot ≡ Some d → slice_get ts slot ≡ Some t → after ≡ before ++ lines_text (book_rows (slot_booked d t book)))
+    → after ++ lines_text (rows_booked book' (drop (slot + 1) ds) (drop (slot + 1) ts)) ≡ before ++ lines_text (rows_booked book (drop slot ds) (drop slot ts))
+booked_more ds ts slot book book' before after inside inside' moved grown =
+    let d = first_left ds slot inside in
+    let t = first_left ts slot inside' in
+    let next : Book = slot_booked d.0 t.0 book in
+    let rest : List (List (List ℕ)) = rows_booked next (drop (slot + 1) ds) (drop (slot + 1) ts) in
+    ap (λ (b : Book). after ++ lines_text (rows_booked b (drop (slot + 1) ds) (drop (slot + 1) ts))) (moved d.0 t.0 d.1 t.1)
+    ∙ ap (λ text. text ++ lines_text rest) (grown d.0 t.0 d.1 t.1)
+    ∙ append_assoc before (lines_text (book_rows next)) (lines_text rest)
+    ∙ ap (λ text. before ++ text) (sym (lines_text-append (book_rows next) rest))
+    ∙ ap (λ (l : List (List Decided)). before ++ lines_text (rows_booked book l (t.0 ∷ drop (slot + 1) ts))) (sym d.2)
+    ∙ ap (λ (l : List Table). before ++ lines_text (rows_booked book (drop slot ds) l)) (sym t.2)
+
+pub booked_time : (ds : List (List Decided)) (ts : List Table) (slot : ℕ) (book book' : Book) → slot < length ds → slot < length ts
+    → ((d : List Decided) (t : Table) → slice_get ds slot ≡ Some d → slice_get ts slot ≡ Some t → book' ≡ slot_booked d t book)
+    → book'.time ≡ book.time + 1
+booked_time ds ts slot book book' inside inside' moved =
+    let d = first_left ds slot inside in
+    let t = first_left ts slot inside' in
+    ap (λ (b : Book). b.time) (moved d.0 t.0 d.1 t.1) ∙ ap (λ n. n + 1) (time-all_booked d.0 book)
+
+-- after the last slot nothing is left
+pub booked_done : (ds : List (List Decided)) (ts : List Table) (slot : ℕ) (book : Book) (text : List ℕ) → length ds ≤ slot → text ++ lines_text (rows_booked book (drop slot ds) (drop slot ts)) ≡ text
+booked_done ds ts slot book text past = ap (λ (l : List (List Decided)). text ++ lines_text (rows_booked book l (drop slot ts))) (drop_all slot ds past) ∙ append-nil text
+
+-- ---- the book, slot after slot
+
+pub over_more : (ds : List (List Decided)) (ts : List Table) (slot : ℕ) (book book' : Book) → slot < length ds → slot < length ts
+    → ((d : List Decided) (t : Table) → slice_get ds slot ≡ Some d → slice_get ts slot ≡ Some t → book' ≡ slot_booked d t book)
+    → all_slots_booked book' (drop (slot + 1) ds) (drop (slot + 1) ts) ≡ all_slots_booked book (drop slot ds) (drop slot ts)
+over_more ds ts slot book book' inside inside' moved =
+    let d = first_left ds slot inside in
+    let t = first_left ts slot inside' in
+    ap (λ (b : Book). all_slots_booked b (drop (slot + 1) ds) (drop (slot + 1) ts)) (moved d.0 t.0 d.1 t.1)
+    ∙ ap (λ (l : List (List Decided)). all_slots_booked book l (t.0 ∷ drop (slot + 1) ts)) (sym d.2)
+    ∙ ap (λ (l : List Table). all_slots_booked book (drop slot ds) l) (sym t.2)
+
+pub over_done : (ds : List (List Decided)) (ts : List Table) (slot : ℕ) (book : Book) → length ds ≤ slot → all_slots_booked book (drop slot ds) (drop slot ts) ≡ book
+over_done ds ts slot book past = ap (λ (l : List (List Decided)). all_slots_booked book l (drop slot ts)) (drop_all slot ds past)
+
+-- of the slots up to `to` some are left
+pub over_more_to : (ds : List (List Decided)) (ts : List Table) (slot to : ℕ) (book book' : Book) → slot < to → slot < length ds → slot < length ts
+    → ((d : List Decided) (t : Table) → slice_get ds slot ≡ Some d → slice_get ts slot ≡ Some t → book' ≡ slot_booked d t book)
+    → all_slots_booked book' (take (to - (slot + 1)) (drop (slot + 1) ds)) (take (to - (slot + 1)) (drop (slot + 1) ts)) ≡ all_slots_booked book (take (to - slot) (drop slot ds)) (take (to - slot) (drop slot ts))
+over_more_to ds ts slot to book book' early inside inside' moved =
+    let d = first_left ds slot inside in
+    let t = first_left ts slot inside' in
+    let n : ℕ = to - (slot + 1) in
+    let next : to - slot ≡ suc n = omega arith in
+    ap (λ (b : Book). all_slots_booked b (take n (drop (slot + 1) ds)) (take n (drop (slot + 1) ts))) (moved d.0 t.0 d.1 t.1)
+    ∙ ap (λ (l : List (List Decided)). all_slots_booked book (take (suc n) l) (take (suc n) (t.0 ∷ drop (slot + 1) ts))) (sym d.2)
+    ∙ ap (λ (l : List Table). all_slots_booked book (take (suc n) (drop slot ds)) (take (suc n) l)) (sym t.2)
+    ∙ ap (λ (m : ℕ). all_slots_booked book (take m (drop slot ds)) (take m (drop slot ts))) (sym next)
+
+pub over_done_to : (ds : List (List Decided)) (ts : List Table) (slot to : ℕ) (book : Book) → min (length ds) to ≤ slot
+    → all_slots_booked book (take (to - slot) (drop slot ds)) (take (to - slot) (drop slot ts)) ≡ book
+over_done_to ds ts slot to book past = none (take (to - slot) (drop slot ds)) (take (to - slot) (drop slot ts)) (length-take (to - slot) (drop slot ds) ∙ (let size = length-drop slot ds in let zero_left : min (to - slot) (length (drop slot ds)) ≡ 0 = omega arith in zero_left))
+  where
+    none : (ds : List (List Decided)) (ts : List Table) → length ds ≡ 0 → all_slots_booked book ds ts ≡ book
+    none [] ts e = refl
+    none (d ∷ ds) ts e = absurd (omega arith)
