@@ -18,6 +18,8 @@ KEYS = (*KEYS_OF["arrive"], "early", "index", "by")
 TEXTS = ("kind", "name")
 TWO_BRACKETS = "entries are tables: write [[entry]], with two brackets"
 MOST_ENTRIES, LAST_SLOT, LONGEST_DELAY = 4_095, 10**6, 1_048_576
+# what refuses an arrival, in rows of `decisions`; other refusals are of departures and late releases
+OF_ARRIVALS = ("20", "21", "22")
 
 
 class Fault(Exception):

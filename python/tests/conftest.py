@@ -16,6 +16,7 @@ from hypothesis import configuration, settings
 
 TOP = pathlib.Path(__file__).resolve().parents[2]
 EXAMPLES = pathlib.Path(os.environ.get("PFAIR_EXAMPLES", TOP / "examples"))
+HEADER = (EXAMPLES.parent / "include" / "pfair.h").read_text()
 SCRIPTS = pathlib.Path(os.environ.get("PFAIR_SCRIPTS", TOP / "scripts"))
 # what the scripts share
 sys.path.append(str(SCRIPTS))

@@ -7,11 +7,10 @@ import sys
 import pytest
 
 import pfair
-from conftest import EXAMPLES
+from conftest import HEADER
 from pfair import errors
 
 # the numbers and texts of the header, which says of two more than an exception does
-HEADER = (EXAMPLES.parent / "include" / "pfair.h").read_text()
 ENUM = re.search(r"enum pfair_answer {(.*?)};", HEADER, re.S)[1]
 TEXTS = {int(number): text.replace("pfair_", "") for number, text in re.findall(r"= (\d+),? +/\* (.*) \*/", ENUM)}
 TEXTS |= {52: "the logs settle fewer slots than are wanted", 100: "a number is out of its range"}
@@ -19,8 +18,7 @@ TEXTS |= {102: "the dispatcher is closed"}
 # the names there, where they aren't those of the exceptions
 NAMES = {60: "FILE_NOT_TOML", 61: "FILE_MISSING", 62: "FILE_WRONG_KIND", 63: "FILE_RANGE", 64: "FILE_ENTRY"}
 NAMES |= {65: "FILE_VERSION", 90: "MEMORY"}
-VALUES = {*range(1, 16), 40, 41, 68, 69, 100}
-FILES = {*range(60, 67)}
+VALUES, FILES = {*range(1, 16), 40, 41, 68, 69, 100}, {*range(60, 67)}
 
 
 def test_each_answer_has_its_exception():

@@ -7,11 +7,11 @@ import re
 import numpy as np
 import pytest
 
+import conftest
 import pfair
-from conftest import EXAMPLES
 from pfair import _dispatcher, _entries, _library, _plans, _take
 
-HEADER = re.sub(r"/\*.*?\*/", "", (EXAMPLES.parent / "include" / "pfair.h").read_text(), flags=re.S)
+HEADER = re.sub(r"/\*.*?\*/", "", conftest.HEADER, flags=re.S)
 STRUCTS = {name: body for name, body in re.findall(r"struct pfair_(\w+) \{(.*?)\n\};", HEADER, re.S)}
 ENUMS = {name: body for name, body in re.findall(r"enum pfair_(\w+) \{(.*?)\}", HEADER, re.S)}
 SIMPLE = {"uint64_t": "u8", "int64_t": "i8"}

@@ -1,11 +1,12 @@
 """scripts/misses: its sums against the test's own, and each status and complaint."""
 import os
+import re
 import subprocess
 import sys
 from fractions import Fraction
 
 import pytest
-from conftest import SCRIPTS, failing, module_of
+from conftest import HEADER, SCRIPTS, failing, module_of
 from hypothesis import given, settings
 from hypothesis import strategies as some
 
@@ -14,6 +15,8 @@ DECISIONS = "slot,processor,number,task,outcome,value\n"
 LAGS = "time,task,numerator,period\n"
 HEAD = "task,times,least,greatest,first,delays\n"
 JOINED = DECISIONS + "0,0,1,a,admitted,-\n"
+# each refusal, and whether it is of an arrival
+REFUSALS = dict(re.findall(r"PFAIR_OUTCOME_\w+ = (2\d),? +/\* (of an arrival:)?", HEADER))
 
 
 def rows_of_lags(lags):
@@ -21,9 +24,8 @@ def rows_of_lags(lags):
 
 
 def rows_of_decisions(decided):
-    return DECISIONS + "".join(
-        f"{slot},0,{slot + 1},{task},{outcome},{value}\n" for slot, (task, outcome, value) in enumerate(decided)
-    )
+    rows = (f"{slot},0,{slot + 1},{task},{outcome},{value}\n" for slot, (task, outcome, value) in enumerate(decided))
+    return DECISIONS + "".join(rows)
 
 
 def wanted_of(decided, lags, bound):
@@ -40,7 +42,7 @@ def wanted_of(decided, lags, bound):
     missed = sum(bool(past[task]) and not late[task] for task in tasks)
     lines.append(f"all {len(tasks)} tasks,{len(lags)},{min(every)},{max(every)},{missed} at or past {bound},")
     lines.append(f"{sum(count > 0 for count in late.values())} with late releases\n")
-    refused = sum(outcome == "refused" and value in "20 21 22".split() for _, outcome, value in decided)
+    refused = sum(outcome == "refused" and bool(REFUSALS[value]) for _, outcome, value in decided)
     arrivals = refused + sum(outcome == "admitted" for _, outcome, _ in decided)
     lines.append(f"arrivals: {arrivals}, of which {refused} refused\n")
     status = 1 if missed else 3 if refused or not tasks else 0
@@ -48,7 +50,7 @@ def wanted_of(decided, lags, bound):
 
 
 KINDS = [("admitted", "-"), ("delayed", "-"), ("departing", "20"), ("departing", "7")]
-OUTCOMES = some.sampled_from([*KINDS, *(("refused", str(number)) for number in range(20, 26))])
+OUTCOMES = some.sampled_from([*KINDS, *(("refused", number) for number in REFUSALS)])
 DECIDED = some.lists(some.tuples(some.sampled_from("abcde"), OUTCOMES).map(lambda row: (row[0], *row[1])), max_size=8)
 LAG = some.tuples(some.integers(1, 9), some.sampled_from("abcd"), some.integers(-8, 8), some.integers(1, 6))
 LAGGED = some.lists(LAG, max_size=10)
@@ -70,8 +72,7 @@ def test_sums(decided, lags, bound):
 
 
 MISSED = [(1, "a", 1, 2), (2, "a", 1, 1), (3, "b", 5, 4), (4, "b", -1, 4), (5, "c", 0, 3)]
-FINE = [(1, "a", 1, 2)]
-ONE = [("a", "admitted", "-")]
+FINE, ONE = [(1, "a", 1, 2)], [("a", "admitted", "-")]
 TWO = [*ONE, ("b", "admitted", "-"), ("c", "refused", "20"), ("d", "refused", "21"), ("b", "refused", "22")]
 STATUSES = [(ONE, FINE, []), (ONE, MISSED, []), (TWO, FINE, []), (TWO, MISSED, []), ([], [], [])]
 STATUSES += [([*ONE, ("a", "refused", "23")], FINE, []), (ONE, MISSED, ["--bound", "3/2"])]
