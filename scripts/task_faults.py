@@ -3,7 +3,7 @@ import os
 import re
 import stat
 
-from word_faults import near
+from word_faults import LONGEST_PERIOD, fault_of_weight, near
 
 LONGEST_FILE = 67_108_864
 HEAD = {"version": (1, 2), "processors": (1, 64), "frame": (1, 10**9), "slots": (1, 10**6)}
@@ -229,11 +229,13 @@ def wrong_name(name):
 
 def wrong_weight(entry):
     cost, period = entry["cost"], entry["period"]
-    if cost == 0:
-        return "4 zero cost", "cost is at least 1: the quanta in each period"
-    if cost > period:
-        return "5 cost over period", f"{cost} quanta don't fit into a period of {period} slots"
-    return ("6 period too long", f"a period is at most {10**9} slots") if period > 10**9 else ()
+    reasons = {
+        "4": "cost is at least 1: the quanta in each period",
+        "5": f"{cost} quanta don't fit into a period of {period} slots",
+        "6": f"a period is at most {LONGEST_PERIOD} slots",
+    }
+    fault = fault_of_weight(cost, period)
+    return (fault, reasons[fault[0]]) if fault else ()
 
 
 def wrong_stamps(entry, kind):

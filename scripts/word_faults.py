@@ -165,19 +165,27 @@ def wrong_words(name, words):
     return why if why or words[0].startswith("-") else Line(name, words[0], words[1:]).why
 
 
+def fault_of_weight(cost, period):
+    """The fault by which a weight is refused, or nothing if it isn't."""
+    if cost == 0:
+        return "4 zero cost"
+    if cost > period:
+        return "5 cost over period"
+    return "6 period too long" if period > LONGEST_PERIOD else ""
+
+
 def wrong_weight(words):
     """The fault of a weight of `windows` and why, or nothing, of words that are taken."""
     if words[:1] != ["windows"] or set(words) & set(HELP):
         return ()
     cost, period = (int(word) for word in Line("pfair", "windows", words[1:]).given[:2])
-    if cost == 0:
-        return "4 zero cost", "E is the cost, at least 1: the quanta in each period of P slots"
-    if cost > period:
-        why = f"E is the cost and P the period, in this order, and {cost} quanta don't fit into {period} slots"
-        return "5 cost over period", why
-    if period > LONGEST_PERIOD:
-        return "6 period too long", f"P is at most {LONGEST_PERIOD}"
-    return ()
+    reasons = {
+        "4": "E is the cost, at least 1: the quanta in each period of P slots",
+        "5": f"E is the cost and P the period, in this order, and {cost} quanta don't fit into {period} slots",
+        "6": f"P is at most {LONGEST_PERIOD}",
+    }
+    fault = fault_of_weight(cost, period)
+    return (fault, reasons[fault[0]]) if fault else ()
 
 
 def file_of(name, words):
