@@ -64,9 +64,9 @@
  *
  *     49,000  pfair_resume
  *     43,500  pfair_state
- *      7,000  pfair_open
  *     14,500  pfair_next_run
  *     13,500  pfair_read_file, and 4,000 for each level of nested keys; it reads at most 80 levels
+ *      7,000  pfair_open
  *      3,600  pfair_reopen
  *      2,300  pfair_plan_next, pfair_plan_to
  *      2,200  pfair_close
