@@ -3,7 +3,7 @@
  *
  * The library computes windows of subtasks, and plans by the PD2 order which subtask runs on which processor in each
  * slot. It computes schedules; it does not execute tasks. docs/SPECIFICATION.md has the rules and docs/GLOSSARY.md the
- * words.
+ * words; docs/ is in the repository, and in /usr/share/doc/pfair if the Debian package is installed.
  *
  * Each processor has a log, whose entries announce that tasks arrive or depart, or that subtasks are released late. An
  * announcement has a stamp, the slot at which it takes effect. An entry has a floor, a slot below which neither it nor
