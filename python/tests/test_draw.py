@@ -83,7 +83,7 @@ def test_faults(command, monkeypatch):
     assert command("lags", "file", "0", "131") == (1, b"", b"pfair_picture: " + past + b"\n")
     raised = {
         b"70 reading failed": (OSError(), 5), b"90 out of memory": (MemoryError(), 4),
-        b"60 not TOML": (draw.Fault("60 not TOML", 2), 2),
+        b"60 not TOML": (draw.Refused.by(60), 2),
         b"52 stalled at slot 4": (draw.Refused("52 stalled at slot 4", 3), 3),
     }  # fmt: skip
     for said, (fault, status) in raised.items():
@@ -206,7 +206,7 @@ def test_sources(monkeypatch):
     for kind, status in ((pfair.NotToml, 2), (pfair.EntryRefused, 2), (pfair.Stalled, 3), (pfair.OutOfMemory, 4)):
         fault = kind("said so")
         monkeypatch.setattr(_task_file, "read_task_file", failing(fault))
-        with pytest.raises(draw.Fault, match=f"^{kind.number} said so$") as refused:
+        with pytest.raises(draw.Refused, match=f"^{kind.number} said so$") as refused:
             draw.source_of("file", None)
         assert refused.value.status == status
 

@@ -13,12 +13,25 @@ from ._rows import Decision, PictureRows
 from ._trace import Decided, Lag, Quantum, quanta_of, words_of
 
 
+# the faults of the program that are found here too, each with its text and its exit status
+FAULTS = {
+    60: ("not TOML", 2), 70: ("reading failed", 5), 71: ("writing failed", 5), 80: ("command line refused", 1),
+    90: ("out of memory", 4),
+}
+
+
 class Refused(Exception):
-    """A refusal by the program: the number and text of its fault, and its exit status."""
+    """A refusal, as by the program: the number and text of its fault, and its exit status."""
 
     def __init__(self, text: str, status: int) -> None:
         super().__init__(text)
         self.status = status
+
+    @classmethod
+    def by(cls, number: int, why: str = "") -> "Refused":
+        """Returns the refusal by a fault of FAULTS."""
+        text, status = FAULTS[number]
+        return cls(f"{number} {text}{': ' if why else ''}{why}", status)
 
 
 class Program(PictureRows):
@@ -59,7 +72,7 @@ class Program(PictureRows):
             none, pipe = subprocess.DEVNULL, subprocess.PIPE
             made = subprocess.Popen(words, stdin=none, stdout=pipe, stderr=complaint, errors="replace")
         except OSError:
-            raise Refused(f"70 reading failed: the program {self.program} can't be run", 5) from None
+            raise Refused.by(70, f"the program {self.program} can't be run") from None
         with made as running, complaint:
             assert running.stdout
             try:
@@ -106,9 +119,9 @@ def tables_of(path: str) -> Any:
         except ModuleNotFoundError:
             pass
     else:
-        raise Refused("70 reading failed: Python 3.11 is needed, or Python's module tomli", 5)
+        raise Refused.by(70, "Python 3.11 is needed, or Python's module tomli")
     try:
         with open(path, "rb") as file:
             return reader.load(file)
     except ValueError:
-        raise Refused("60 not TOML", 2) from None
+        raise Refused.by(60) from None

@@ -51,18 +51,10 @@ Exit status, by the numbers of the faults:
   5  reading or writing failed (70, 71)"""
 
 
-class Fault(Exception):
-    """Ends the command: the number and text of a fault, and the exit status."""
-
-    def __init__(self, text: str, status: int) -> None:
-        super().__init__(text)
-        self.status = status
-
-
 class Parser(argparse.ArgumentParser):
     def error(self, message: str) -> NoReturn:
         # FROM and TO may be left out
-        raise Fault(f"80 command line refused: {message.replace(', FROM TO', '')}", 1)
+        raise Refused.by(80, message.replace(", FROM TO", ""))
 
 
 def slots_of(text: str) -> tuple[int, int]:
@@ -125,14 +117,14 @@ def source_of(file: str, program: Optional[str]) -> PictureRows:
         return ScheduleSource(Schedule(read_task_file(file)))
     except PfairError as fault:
         status = 2 if isinstance(fault, TaskFileError) else 3 if isinstance(fault, Stalled) else 4
-        raise Fault(f"{fault.number} {fault}", status) from None
+        raise Refused(f"{fault.number} {fault}", status) from None
 
 
 def drawn(words: argparse.Namespace, source: PictureRows) -> bytes:
     """Returns the bytes of the picture."""
     start, stop = words.slots or (0, source.slots)
     if refused := picture.refusal(start, stop, source.slots):
-        raise Fault(f"81 {refused}", 1)
+        raise Refused(f"81 {refused}", 1)
     svg = picture.svg(source, words.picture, start, stop, words.title, words.legend)
     if words.format == "html":
         return picture.page(svg).encode()
@@ -145,13 +137,12 @@ def converted(svg: str, format: str) -> bytes:
         words = ["rsvg-convert", "--unlimited", "--format", format, *(["--zoom", "2"] if format == "png" else [])]
         done = subprocess.run(words, input=svg.encode(), stdout=subprocess.PIPE, stderr=subprocess.PIPE)
         if done.returncode:
-            raise Fault(f"71 writing failed: rsvg-convert: {done.stderr.decode(errors='replace').strip()[:200]!r}", 5)
+            raise Refused.by(71, f"rsvg-convert: {done.stderr.decode(errors='replace').strip()[:200]!r}")
         return done.stdout
     try:
         from ._plot import file_of
     except ImportError:
-        lacks = f"--{format} needs the command rsvg-convert or Python's matplotlib"
-        raise Fault(f"80 command line refused: {lacks}", 1) from None
+        raise Refused.by(80, f"--{format} needs the command rsvg-convert or Python's matplotlib") from None
     return file_of(svg, format)
 
 
@@ -190,11 +181,11 @@ def draw(argv: Optional[list[str]], program: Optional[str]) -> None:
         source = source_of(words.file, words.program or program)
         content = drawn(words, source)
     except OSError:
-        raise Fault("70 reading failed", 5) from None
+        raise Refused.by(70) from None
     try:
         write(content, words.out)
     except OSError:
-        raise Fault("71 writing failed", 5) from None
+        raise Refused.by(71) from None
 
 
 def main(argv: Optional[list[str]] = None, program: Optional[str] = None) -> int:
@@ -219,16 +210,16 @@ def main(argv: Optional[list[str]] = None, program: Optional[str] = None) -> int
     """
     try:
         draw(argv, program)
-    except (Fault, Refused) as fault:
-        text, status = str(fault), fault.status
+    except Refused as refused:
+        fault = refused
     except MemoryError:
-        text, status = "90 out of memory", 4
+        fault = Refused.by(90)
     except KeyboardInterrupt:
         return 130
     else:
         return 0
-    os.write(2, f"{NAME}: {text}\n".encode())
-    return status
+    os.write(2, f"{NAME}: {fault}\n".encode())
+    return fault.status
 
 
 if __name__ == "__main__":
