@@ -169,7 +169,7 @@ def test_object(call, tmp_path):
 def test_tasks_that_are_refused(call, tmp_path):
     script = script_with(1, 60, ("a", 1, 2), ("b", 3, 5), ("c", 1, 7), ("a", 1, 60), ("d", 1, 3))
     done, file = written(call, tmp_path, script)
-    for word, refused in (("b", "no room"), ("c", "period outside frame"), ("a", "name taken")):
+    for word, refused in (("b", pfair.OUTCOMES[22]), ("c", pfair.OUTCOMES[21]), ("a", pfair.OUTCOMES[20])):
         assert f"scripts/cycle: {file}: {word} is refused, and not in the table: {refused}\n" in done.err
     assert done.status == 0 and done.err.count("\n") == 3 and read_header(done.out)[:3] == (
         {"SLOTS": 6, "PROCESSORS": 1, "TASKS": 2, "IDLE": 2},

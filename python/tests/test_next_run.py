@@ -182,14 +182,14 @@ def test_a_next_run_is_refused():
 def test_a_state_is_refused():
     resume, member = pfair.Dispatcher.resume, "state,1,9,1,6\nmember,a,1,4,true,0,1,-\nend,3\n"
     for text, kind, where in (
-        ("state,1,0,1,6\n", pfair.NoStateRow, "line 2"), (member, pfair.StateRefused, "line 2: period outside frame"),
+        ("state,1,0,1,6\n", pfair.NoStateRow, "line 2"), ("state,1,824633720832,1,6\nend,2\n", pfair.PastLastSlot, ""),
         ("state,2,0,1,6\nend,2\n", pfair.StateRefused, "line 1: another form"),
         ("state,1,0,65,6\nend,2\n", pfair.StateRefused, "line 1: out of range"),
-        (member.replace("true,0", "true,10"), pfair.StateRefused, "line 2: period outside frame"),
+        (member, pfair.StateRefused, f"line 2: {pfair.OUTCOMES[21]}"),
+        (member.replace("true,0", "true,10"), pfair.StateRefused, f"line 2: {pfair.OUTCOMES[21]}"),
         (member.replace("1,6", "1,8").replace("true,0", "true,10"), pfair.StateRefused, "line 2: not left by a run"),
         ("state,1,9,1,6\nran,a,1,1\nend,3\n", pfair.StateRefused, "line 2: no such quantum"),
         ("state,1,0,1,6\nend,3\n", pfair.StateRefused, "line 2: rows are missing"),
-        ("state,1,824633720832,1,6\nend,2\n", pfair.PastLastSlot, ""),
     ):
         told = ": ".join(filter(None, (kind.text, where)))
         refusal(kind, told, resume, text.encode(), 1)

@@ -188,7 +188,7 @@ def test_pandas():
             else:
                 assert frame[name].dtype == np.int64 and frame[name].tolist() == rows[name].tolist()
     assert isinstance(frames[1]["outcome"].dtype, pandas.CategoricalDtype)
-    assert set(frames[1]["outcome"]) == {"admitted", "departing", "delayed", "period outside frame", "no such task"}
+    assert set(frames[1]["outcome"]) == {pfair.OUTCOMES[outcome] for outcome in (0, 1, 2, 21, 23)}
 
 
 def test_schedules_can_be_pickled():

@@ -59,9 +59,9 @@ IN_LOG = "the log of processor"
 REFUSED = {
     f"{IN_LOG} 1 has 6 numbers, and 7 entries are needed": (GAP, FULL, 6, None, None),
     f"{IN_LOG} 1 has 7 numbers, and 9 entries are needed": ({7: GAP[3]}, FULL, 7, None, None),
-    "a isn't admitted at slot 6: name taken": (GAP, FULL, 7, "a", None),
-    "down_1 isn't admitted at slot 6: no room": (GAP, FULL, 7, None, []),
-    "down_1 isn't admitted at slot 7: no room": (GAP, FULL, 7, None, ["a"]),
+    f"a isn't admitted at slot 6: {pfair.OUTCOMES[20]}": (GAP, FULL, 7, "a", None),
+    f"down_1 isn't admitted at slot 6: {pfair.OUTCOMES[22]}": (GAP, FULL, 7, None, []),
+    f"down_1 isn't admitted at slot 7: {pfair.OUTCOMES[22]}": (GAP, FULL, 7, None, ["a"]),
     "down_1 isn't admitted in this run: its victims are free at slot 21": (LATE, FULL, 7, None, None),
     f"{IN_LOG} 1 ends the run: it can be closed in the next one": (ENDED, FULL, 7, None, None),
     f"{IN_LOG} 0 has at number 2 a gap: a survivor's entries aren't joined": (GAP, FULL[:1], 7, None, None),
