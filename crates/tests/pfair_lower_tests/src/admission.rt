@@ -65,18 +65,11 @@ fn as_many_as_there_may_be(rt: HostRuntime) {
     hears(&rt, rt.alloc(), &mut members, &announced);
 }
 
+// The other texts are compared with the specification's table.
 #[test]
-fn refusals_have_texts(rt: HostRuntime) {
-    for (refusal, text) in [
-        (Refusal::NameTaken, "20 name taken"),
-        (Refusal::PeriodOutsideFrame, "21 period outside frame"),
-        (Refusal::NoRoom, "22 no room"),
-        (Refusal::NoSuchTask, "23 no such task"),
-        (Refusal::AlreadyDeparting, "24 already departing"),
-        (Refusal::AlreadyReleased, "25 already released"),
-    ] {
-        let number = refusal.number();
-        let shown = format!(in rt.alloc(); "{number} {refusal}").expect(&rt, "memory");
-        assert!(&rt; shown.as_str() == text, "{text}");
-    }
+fn a_refusal_has_a_number_and_a_text(rt: HostRuntime) {
+    let refusal = Refusal::NoRoom;
+    let number = refusal.number();
+    let shown = format!(in rt.alloc(); "{number} {refusal}").expect(&rt, "memory");
+    assert!(&rt; shown.as_str() == "22 no room", "another text");
 }
