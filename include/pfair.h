@@ -88,8 +88,8 @@
  * pfair_close; pfair_forget frees some of it earlier. The caller owns what its pointers lead to: the library copies
  * what it needs, and keeps no pointer of the caller's after a call.
  *
- * The calendar of releases takes 920 KB of each dispatcher, in blocks of at most 14 KB. The plan that admits the first
- * task allocates it, or pfair_reserve before that.
+ * The calendar of releases takes 1,150 KB of each dispatcher, in blocks of at most 18 KB. The plan that admits the
+ * first task allocates it, or pfair_reserve before that.
  *
  * pfair_reserve allocates ahead for plans, and not for takes. An entry needs up to 190 bytes on average. Of 8 takes of
  * new entries one allocates, or fewer if they come out of order: in at most 3 calls of malloc, for blocks of at most
@@ -550,7 +550,7 @@ uint32_t pfair_plan_to(struct pfair_dispatcher *d, uint64_t until, struct pfair_
  * until its time comes. pfair_reopen drops what was allocated for tasks.
  *
  * Time and memory are O(M slots + tasks): 25 M bytes and some 120 more for a slot, 1,300 to 2,000 bytes for a task, and
- * once 920 KB for the calendar of releases, which the first tasks need anyway. Room that is there isn't made again.
+ * once 1,150 KB for the calendar of releases, which the first tasks need anyway. Room that is there isn't made again.
  */
 uint32_t pfair_reserve(struct pfair_dispatcher *d, uint64_t slots, uint64_t tasks);
 

@@ -11,7 +11,7 @@ use std::alloc::{AllocError, Global};
 const NEAR: u64 = 64;
 
 // The most dates in the list of a near slot, which never grows.
-const NEAR_MOST: usize = 256;
+const NEAR_MOST: usize = 320;
 
 /// Dates: those of the next 64 slots in a list for each slot, and the others in a heap.
 #[derive(Drop)]
@@ -66,7 +66,7 @@ impl Calendar {
     fn bucket_of(&self, slot: u64) -> Option<usize>
         ensures near { IfSome result (λ bucket.
             (bucket ≡ slot % 64) × (bucket < length self.now.near.items) × (self.now.turned < slot) × (slot ≤ self.now.turned + 64)) }
-        ensures room { OnSome result (length (under self.now.near.items slot) < 256) }
+        ensures room { OnSome result (length (under self.now.near.items slot) < 320) }
     {
         let bucket = (slot % NEAR) as usize;
         let is_near = self.turned < slot && slot - self.turned <= NEAR;

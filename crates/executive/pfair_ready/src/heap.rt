@@ -21,13 +21,13 @@ use std::marker::Model;
 /// keys that wait or were left behind:
 ///
 /// - `new`, `now`: O(1). `held`, `remove`: a look-up of the name, O(1) on average.
-/// - `insert`, `insert_seated`: O(1) on average if the release is within 64 slots and fewer than 256
+/// - `insert`, `insert_seated`: O(1) on average if the release is within 64 slots and fewer than 320
 ///   keys are released at that slot, else O(log n). The name is looked up, unless the seats say where
 ///   it stands.
 /// - `take_first`, `take_seated`: O(log n) for each key that it gives, for each whose release has come
 ///   since the last selection, and for each that was left behind and surfaces; and up to 64 steps.
 ///
-/// Growth is amortized. After `reserve(k)`, which takes 920 KB and some 380 bytes for each key, no call
+/// Growth is amortized. After `reserve(k)`, which takes 1,150 KB and some 380 bytes for each key, no call
 /// allocates as long as no more than k keys wait and no more than k were left behind.
 #[derive(Drop)]
 pub struct HeapReady {

@@ -273,7 +273,7 @@ impl<R: Ready> Dispatcher<R> {
     /// and else for what was announced alone: entries by their slots, decisions and delays.
     /// [`PlainReady`](pfair_ready::PlainReady) allocates in each slot. Time and memory are O(M `slots` +
     /// `tasks`) for M processors: 25 M bytes and some 120 more for each slot, 1,300 to 2,000 for each
-    /// task, and once 920 KB for the calendar of releases.
+    /// task, and once 1,150 KB for the calendar of releases.
     ///
     /// # Errors
     /// Returns [`AllocError`] if an allocation fails. All is as before, and the room that was made is
