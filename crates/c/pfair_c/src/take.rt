@@ -179,8 +179,7 @@ fn take_one<R: Ready>(
     entry: &PfairEntry,
 ) -> Result<Taken, u32>
     ensures answer { IfOk result (λ how. how ≡ met (held dispatcher.old.replica processor number) (logged_of entry.now)) }
-    ensures meant { OnOk result (IsMeant entry.now) }
-    ensures key { OnOk result (has_key (replica_of dispatcher.old.replica) processor number ≡ true) }
+    ensures meant { OnOk result (IsMeant entry.now × (has_key (replica_of dispatcher.old.replica) processor number ≡ true)) }
     ensures few { OnOk result (number ≤ Script.LONGEST_LOG) }
     ensures offered { OnOk result (replica_of dispatcher.new.replica ≡ offered_to (replica_of dispatcher.old.replica) processor number (logged_of entry.now)) }
     ensures rest { OnOk result (dispatcher.new ≡ record dispatcher.old { replica = dispatcher.new.replica }) }

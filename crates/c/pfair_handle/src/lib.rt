@@ -73,8 +73,8 @@ impl Handle {
     pub fn absorb(&mut self, alloc: Global, other: &mut Handle) -> Result<(), MergeFault>
         requires open { is_kept self.old.owner.kept ≡ true }
         requires other_open { is_kept other.old.owner.kept ≡ true }
-        ensures joined { OnOk result (IsAbsorbedTo self.old.owner.kept other.old.owner.kept self.new.owner.kept) }
-        ensures same_shape { OnOk result (Between self.old.owner.kept other.old.owner.kept (λ d o. SameShape d.replica o.replica)) }
+        ensures joined { OnOk result (IsAbsorbedTo self.old.owner.kept other.old.owner.kept self.new.owner.kept
+            × Between self.old.owner.kept other.old.owner.kept (λ d o. SameShape d.replica o.replica)) }
         ensures fault { IfErr result (λ fault.
             Between self.old.owner.kept other.old.owner.kept (λ d o. IsMergeFaultOf d.replica o.replica fault)) }
         ensures unchanged { result ≡ Err MergeFault.OtherShape → self.new.owner.kept ≡ self.old.owner.kept }

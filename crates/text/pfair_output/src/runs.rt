@@ -118,8 +118,7 @@ fn plan_one<R: Ready>(
     ensures decided { IfOk result (λ plan. plan.decided.items ≡ decisions planner.old.settings (replica_of replica.now) (length planner.old.tables)) }
     ensures planned { OnOk result (length planner.new.tables ≡ length planner.old.tables + 1) }
     ensures able { OnOk result (IsBySlot replica.now planner.new) }
-    ensures first { OnOk result (planner.new.origin ≡ None) }
-    ensures settings { OnOk result (planner.new.settings ≡ planner.old.settings) }
+    ensures run { OnOk result ((planner.new.origin ≡ None) × (planner.new.settings ≡ planner.old.settings)) }
 {
     match planner.plan_next(replica, room) {
         Ok(Some(plan)) => Ok(plan),

@@ -23,12 +23,12 @@ loop-entry-preserved g c =
     let number : j ≡ c.args.first + i = c.loop-entry.invariant.0 in
     let inside : i < length c.args.entries.now = omega (arith, c.loop-entry-test.true, c.loop-entry.auto.entry-index-end) in
     let state = c.loop-entry.invariant.4 in
-    let key = same-key c.args.processor c.args.first i j c.args.entries.now x now c.loop-entry.counted state c.in_ok-how.ensures.key in
+    let key = same-key c.args.processor c.args.first i j c.args.entries.now x now c.loop-entry.counted state c.in_ok-how.ensures.meant.1 in
     let counts = counted-more c.in_ok-how.how c.loop-entry.counted c.one_more.result i c.one_more.ensures c.loop-entry.invariant.1 c.loop-entry.invariant.2 in (
       omega arith,
       counts.0,
       counts.1,
-      next-of-log x c.args.processor c.args.first c.args.entries.now i j _ inside number c.loop-entry.invariant.3 c.in_ok-how.ensures.meant key,
+      next-of-log x c.args.processor c.args.first c.args.entries.now i j _ inside number c.loop-entry.invariant.3 c.in_ok-how.ensures.meant.0 key,
       next-taking c.args.processor c.args.first i j c.args.entries.now _ x now next c.loop-entry.counted c.one_more.result c.in_ok-how.how inside number state c.in_ok-how.ensures.offered c.in_ok-how.ensures.answer c.one_more.ensures,
       search rules,
     )

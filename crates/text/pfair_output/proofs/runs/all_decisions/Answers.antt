@@ -16,8 +16,8 @@ slots-preserved g c =
     record {
       is_open = c.in_ok-add_decisions.ensures.open;
       able = next.able;
-      first = next.first;
-      settings = next.settings ∙ c.slots.invariant.settings;
+      first = next.run.0;
+      settings = next.run.1 ∙ c.slots.invariant.settings;
       planned = omega (arith, next.planned, c.slots.invariant.planned);
       text = decisions_more s x c.slots.slot (line decisions_header) (text_so_far c.slots.writer) (text_so_far c.add_decisions.new.writer) c.slots.invariant.text
           (c.in_ok-add_decisions.ensures.text ∙ ap (λ d. text_so_far c.slots.writer ++ lines_text (decided_rows c.slots.slot d)) decided);

@@ -29,8 +29,8 @@ slots-preserved g c =
     record {
       is_open = c.in_ok-add_lags.ensures.open;
       able = next.able;
-      first = next.first;
-      settings = next.settings ∙ c.slots.invariant.settings;
+      first = next.run.0;
+      settings = next.run.1 ∙ c.slots.invariant.settings;
       planned = omega (arith, next.planned, c.slots.invariant.planned);
       book = booked;
       text = lags_more s x n (line lags_header) (text_so_far c.slots.writer) (text_so_far c.add_lags.new.writer) book booked c.slots.invariant.text c.in_ok-add_lags.ensures.text;
