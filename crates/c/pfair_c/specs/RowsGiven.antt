@@ -1,4 +1,4 @@
--- What the calls tell that write rows of an open dispatcher.
+-- What the calls give that write rows of an open dispatcher.
 use Rattle.std.specs.Prelude.{ℕ, ◌≡◌, ◌≤◌, ◌<◌, Bool, true, false, ◌&&◌, ◌||◌, nat_eq, nat_le, nat_lt, min, if◌then◌else◌, List, length, map, slice_get, Option}
 use Rattle.std.specs.declared.option.Option.TheVariants.{None, Some}
 use Rattle.std.specs.Option.{option_map}
@@ -47,7 +47,7 @@ abbrev pub rows_laid : {B : Type 0} → Option (List B) → List B → List B
 rows_laid None rows = rows
 rows_laid (Some laid) rows = if nat_le (length laid) (length rows) then written_over laid rows else rows
 
--- the answer, and the count and the rows before and after, are those of a call that tells these rows, or nothing
+-- the answer, and the count and the rows before and after, are those of a call that gives these rows, or nothing
 abbrev pub AreGiven : {B : Type 0} → (counted : Option (List B) → ℕ → ℕ) → (given : Dispatch → Option (List B)) → Dispatch
     → (answer : ℕ) → (old new : ℕ × List B) → Type 0
 AreGiven counted given d answer old new =

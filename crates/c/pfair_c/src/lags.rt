@@ -95,7 +95,7 @@ fn collect_lags<R: Ready>(
     to: u64,
     room: usize,
 ) -> Result<(u64, Vec<PfairLag>), AllocError>
-    requires standing { dispatcher.now.forgotten ≡ 0 }
+    requires unforgotten { dispatcher.now.forgotten ≡ 0 }
     requires planned { to ≤ length dispatcher.now.tables }
     requires forward { from ≤ to }
     ensures count { IfOk result (λ found. found.0 ≡ min (length (lags_of dispatcher.now from to)) 18446744073709551615) }
@@ -120,7 +120,7 @@ fn book_after<R: Ready>(
     dispatcher: &Dispatcher<R>,
     slots: u64,
 ) -> Result<LagBook, AllocError>
-    requires standing { dispatcher.now.forgotten ≡ 0 }
+    requires unforgotten { dispatcher.now.forgotten ≡ 0 }
     ensures { IfOk result (λ book. book ≡ book_after dispatcher.now slots) }
 {
     let mut book = first_book(alloc, dispatcher)?;

@@ -68,7 +68,7 @@ fn write_quanta<R: Ready>(
     to: u64,
     rows: &mut [PfairQuantum],
 ) -> u64
-    requires standing { dispatcher.now.forgotten ≤ from }
+    requires unforgotten { dispatcher.now.forgotten ≤ from }
     requires few { to ≤ Settings.MAX_SLOTS }
     ensures count { result ≡ length (quanta_of dispatcher.now.origin dispatcher.now.tables from to) }
     ensures rows { length (quanta_of dispatcher.now.origin dispatcher.now.tables from to) ≤ length rows.old →
@@ -89,7 +89,7 @@ fn write_slot<R: Ready>(
     at: u64,
     rows: &mut [PfairQuantum],
 ) -> u64
-    requires standing { dispatcher.now.forgotten ≤ slot }
+    requires unforgotten { dispatcher.now.forgotten ≤ slot }
     requires few { at ≤ Settings.MAX_PROCESSORS * Settings.MAX_SLOTS }
     ensures next { result ≡ at + length (slot_of dispatcher.now.tables slot) }
     ensures few { result ≤ at + Settings.MAX_PROCESSORS }

@@ -16,7 +16,7 @@ pub(crate) fn are_readable(dispatcher: &Dispatcher<HeapReady>, from: u64, to: u6
     ensures tables { result ≡ are_readable dispatcher.now.forgotten (length dispatcher.now.tables) from to }
     ensures decided { result ≡ are_readable dispatcher.now.forgotten (length dispatcher.now.decided) from to }
     ensures within { result ≡ true → (to ≤ length dispatcher.now.tables) × (to ≤ Settings.MAX_SLOTS) }
-    ensures standing { result ≡ true → from < to → dispatcher.now.forgotten ≤ from }
+    ensures unforgotten { result ≡ true → from < to → dispatcher.now.forgotten ≤ from }
 {
     to <= dispatcher.next_slot() && (to <= from || dispatcher.forgotten() <= from)
 }

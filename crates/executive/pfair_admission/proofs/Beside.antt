@@ -315,8 +315,8 @@ module _ (left : List Member) (begin : ℕ) where
   later_paired L S a = record { pairs = map waits a.pairs; longs_are = map-map long_of waits a.pairs ∙ a.longs_are; shorts_are = map-map short_of waits a.pairs ∙ a.shorts_are }
 
   -- what a key and a freeing slot give
-  pub membership_paired : {A : Type 0} {t : ℕ} (f : Key → Option ℕ → A) (L S : List Member) → ArePaired t L S → map (λ m. f (next_key m) m.freed_at) S ≡ map (λ m. f (next_key m) m.freed_at) L
-  membership_paired {A} {t} f L S a = ap (map given) (sym a.shorts_are) ∙ all a.pairs ∙ ap (map given) a.longs_are
+  pub keys_paired : {A : Type 0} {t : ℕ} (f : Key → Option ℕ → A) (L S : List Member) → ArePaired t L S → map (λ m. f (next_key m) m.freed_at) S ≡ map (λ m. f (next_key m) m.freed_at) L
+  keys_paired {A} {t} f L S a = ap (map given) (sym a.shorts_are) ∙ all a.pairs ∙ ap (map given) a.longs_are
     where
       given : Member → A
       given m = f (next_key m) m.freed_at

@@ -54,7 +54,7 @@ bounded_ran n name ms h = bounded_change n n name with_quantum (omega arith) (λ
 pub bounded_run : (n : ℕ) (name : List ℕ) (ms after : List Member) (b : Bool) → after ≡ (if b then ran name ms else ms) → EachBounded n ms → EachBounded n after
 bounded_run n name ms after b is h = grind (arith, bounded_ran)
 
--- while fewer announcements are heard than can be, each member has room for one delay more
+-- while fewer announcements are counted than can be, each member has room for one delay more
 pub has_room : (n : ℕ) (ms : List Member) → n < MAX_HEARD → EachBounded n ms → EachHasRoom ms
 has_room n [] few h = tt
 has_room n (x ∷ ms) few h = (let o = h.0 in omega arith, has_room n ms few h.1)
@@ -94,11 +94,11 @@ one_more start t n announced now after all a d s in_time limits within at is lef
           (subst (λ k. EachBounded k (decided now.machine t now.members a)) count (bounded_decided now.machine (heard + n) t now.members a in_time limits (s.bounded heard h)));
     }
 
--- and more may be heard
+-- and more may come
 pub bounded_so_far : (start : Membership) (t n m : ℕ) (announced : List Announcement) (now : Membership) (all : List Decision) → SoFar start t n announced now all → n ≤ m → (heard : ℕ) → EachBounded heard start.members → EachBounded (heard + m) now.members
 bounded_so_far start t n m announced now all s more heard h = bounded_later (heard + n) (heard + m) (omega arith) now.members (s.bounded heard h)
 
--- while there is more to hear each member has room for one delay more
+-- while more may come each member has room for one delay more
 pub room_so_far : (start : Membership) (t n m : ℕ) (announced : List Announcement) (now : Membership) (all : List Decision) → SoFar start t n announced now all → n < m → m ≤ MAX_HEARD → EachBounded (MAX_HEARD - m) start.members → EachHasRoom now.members
 room_so_far start t n m announced now all s more few h = has_room (MAX_HEARD - m + n) now.members (omega arith) (s.bounded (MAX_HEARD - m) h)
 
@@ -122,7 +122,7 @@ limits_item xs i x h within is = subst (λ (a : Said). IsWithinLimits a.announce
 abbrev pub begun : ℕ → Roster → Membership
 begun t r = record { machine = r.machine; members = present t r.members }
 
--- with what was heard
+-- with the announcements counted
 abbrev pub with_heard : ℕ → List Said → Roster → Membership → Roster
 with_heard t announced old s = record { machine = s.machine; members = s.members; heard = old.heard + length announced; last_slot = Some t }
 

@@ -110,6 +110,6 @@ ledger_carried a b admitted k is register =
           (each_map (λ (m : Member). IsNotBefore a.first_freeing m.freed_at) (λ (m : Member). IsNotBefore a.first_freeing m.freed_at) carried (λ m h. h) (listed a) k.first);
     }
 
--- with nothing heard the offsets are within the last slot of a boundary
+-- with no announcement counted the offsets are within the last slot of a boundary
 pub bounded_carried : (ms : List Member) → AllByRecursion CanBeCarried ms → EachBounded 0 (map carried ms)
 bounded_carried ms able = each_map CanBeCarried (λ (m : Member). last_offset m ≤ LAST_SLOT + LONGEST_DELAY * 0) carried (λ m k. (let fits = k.offset in omega (arith, fits))) ms able

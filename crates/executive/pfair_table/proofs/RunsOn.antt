@@ -27,7 +27,7 @@ use Rattle.pfair_admission.specs.declared.decision.Decision.{Decision}
 use Rattle.pfair_admission.specs.Admission.{Machine, announcements, all_decided, boundary_decisions, member_named, newcomer, present, ran, with_quantum}
 use Rattle.pfair_admission.specs.Carried.{all_raised, carried, carried_delays, jobs_done, subtasks_done, subtasks_of, taken_off}
 use Rattle.pfair_admission.proofs.CarriedAgain.{done_low, next_ran, none_done}
-use Rattle.pfair_admission.proofs.Beside.{AreDecided, ArePaired, Pair, all_paired, eligible_paired, index_paired, lags_paired, membership_paired, later_paired, present_paired, ran_paired}
+use Rattle.pfair_admission.proofs.Beside.{AreDecided, ArePaired, Pair, all_paired, eligible_paired, index_paired, lags_paired, keys_paired, later_paired, present_paired, ran_paired}
 use Rattle.pfair_admission.proofs.Each.{each, each_filter, each_map}
 use Rattle.pfair_admission.proofs.Effects.{by_effect, each_change}
 use Rattle.pfair_admission.proofs.Keeping.{eligible_at_job, one_each}
@@ -270,7 +270,7 @@ module _ (o : Origin) (s : Settings) (first : Story) (n : ℕ) (began : IsBegun 
   chosen_same t k e a =
       let L = world_over o s long k in
       let S = world_over next s second t in
-      ap (first_by_rank s.processors) (membership_paired left begin (λ key freed. key) (filter (is_eligible (begin + t)) L) (filter (is_eligible (begin + t)) S) (eligible_paired left begin (begin + t) L S a))
+      ap (first_by_rank s.processors) (keys_paired left begin (λ key freed. key) (filter (is_eligible (begin + t)) L) (filter (is_eligible (begin + t)) S) (eligible_paired left begin (begin + t) L S a))
       ∙ ap (λ slot. chosen s slot L) (sym (slot_at t k e))
 
   rows_paired : {t : ℕ} (ks : List Key) (M N L S : List Member) → ArePaired left begin t L S → ArePaired left begin t (all_ran (map (pick M) ks) L) (all_ran (map (pick N) ks) S)
@@ -355,8 +355,8 @@ module _ (o : Origin) (s : Settings) (first : Story) (n : ℕ) (began : IsBegun 
 
   pub slot_same : (t : ℕ) → IsSlotOf o s first n second t
   slot_same t = record {
-    members = membership_paired left begin (λ key freed. (key, freed)) (world_over o s long (n + t)) (world_over next s second t) (world_at t (n + t) refl);
-    left = membership_paired left begin (λ key freed. (key, freed)) (history_over o s long (suc (n + t))).members (history_over next s second (suc t)).members (members_paired (suc t) (suc (n + t)) (omega arith));
+    members = keys_paired left begin (λ key freed. (key, freed)) (world_over o s long (n + t)) (world_over next s second t) (world_at t (n + t) refl);
+    left = keys_paired left begin (λ key freed. (key, freed)) (history_over o s long (suc (n + t))).members (history_over next s second (suc t)).members (members_paired (suc t) (suc (n + t)) (omega arith));
     lags = (let paired = members_paired (suc t) (suc (n + t)) (omega arith) in
         lags_paired left begin (slot_of o (suc (n + t))) (let at = slot_at (suc t) (suc (n + t)) (omega arith) in omega (arith, at)) (history_over o s long (suc (n + t))).members (history_over next s second (suc t)).members paired);
     rows = rows_same t (n + t) refl;

@@ -54,18 +54,18 @@ abbrev pub raised_rows : List Member → ℕ → List Member → Table → Table
 raised_rows left begin members rows = map (λ (p : Pick). record p { index = p.index + taken_off left begin (member_named members p.name) }) rows
 
 -- what of a member is the same wherever its subtasks are counted from: the key of its next subtask, and its freeing slot
-abbrev pub standing : Member → Key × Option ℕ
-standing m = (next_key m, m.freed_at)
+abbrev pub key_and_freeing : Member → Key × Option ℕ
+key_and_freeing m = (next_key m, m.freed_at)
 
 -- Slot t of the next run is slot n + t of the long run: it has the same table, but that indexes are lower by the subtasks of the jobs that
 -- were taken off, the same decisions and the same places; before and after its quanta the members stand as they do there, and after
 -- them they have the same lags.
 pub record IsSlotOf (o : Origin) (s : Settings) (first : Story) (n : ℕ) (second : Story) (t : ℕ) : Type 0 where
-  pub members : map standing (world_over (Some (left_over o s first n)) s second t) ≡ map standing (world_over o s (both_stories o s first n second) (n + t))
+  pub members : map key_and_freeing (world_over (Some (left_over o s first n)) s second t) ≡ map key_and_freeing (world_over o s (both_stories o s first n second) (n + t))
   pub rows : raised_rows (history_over o s first n).members (slot_of o n) (world_over (Some (left_over o s first n)) s second t) (table_over (Some (left_over o s first n)) s second t)
       ≡ table_over o s (both_stories o s first n second) (n + t)
   pub lags : map (lag_at (slot_of o (suc (n + t)))) (history_over (Some (left_over o s first n)) s second (suc t)).members ≡ map (lag_at (slot_of o (suc (n + t)))) (history_over o s (both_stories o s first n second) (suc (n + t))).members
-  pub left : map standing (history_over (Some (left_over o s first n)) s second (suc t)).members ≡ map standing (history_over o s (both_stories o s first n second) (suc (n + t))).members
+  pub left : map key_and_freeing (history_over (Some (left_over o s first n)) s second (suc t)).members ≡ map key_and_freeing (history_over o s (both_stories o s first n second) (suc (n + t))).members
   pub decided : map (λ d. d.decision) (decisions_over (Some (left_over o s first n)) s second t) ≡ map (λ d. d.decision) (decisions_over o s (both_stories o s first n second) (n + t))
   pub places : last_places (Some (left_over o s first n)) (history_over (Some (left_over o s first n)) s second (suc t)) ≡ last_places o (history_over o s (both_stories o s first n second) (suc (n + t)))
 

@@ -73,7 +73,7 @@ impl<R: Ready> Dispatcher<R> {
         requires { IsShape settings.processors capacity }
         ensures settings { IfOk result (λ d. d.settings ≡ settings) }
         ensures course { IfOk result (λ d. course_of d ≡ start settings capacity) }
-        ensures standing { IfOk result (λ d. d.forgotten ≡ 0) }
+        ensures unforgotten { IfOk result (λ d. d.forgotten ≡ 0) }
         ensures spent { IfOk result (λ d. d.spent ≡ false) }
     {
         Dispatcher::begin(alloc, settings, capacity, None)

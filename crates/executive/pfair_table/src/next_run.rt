@@ -48,7 +48,7 @@ impl<R: Ready> Dispatcher<R> {
         ensures able { OnOk result (CanBeFollowed self.now slots) }
         ensures settings { IfOk result (λ next. next.settings ≡ record self.now.settings { slots = slots }) }
         ensures course { IfOk result (λ next. course_of next ≡ start_after self.now) }
-        ensures standing { IfOk result (λ next. next.forgotten ≡ 0) }
+        ensures unforgotten { IfOk result (λ next. next.forgotten ≡ 0) }
         ensures spent { IfOk result (λ next. next.spent ≡ false) }
         ensures fault { IfErr result (IsNextRunFault self.now slots) }
     {
@@ -91,7 +91,7 @@ impl<R: Ready> Dispatcher<R> {
         requires few { slots ≤ Settings.MAX_SLOTS }
         ensures settings { IfOk result (λ d. d.settings ≡ settings_from state slots) }
         ensures course { IfOk result (λ d. course_of d ≡ begin_at (Some state) (settings_from state slots) capacity) }
-        ensures standing { IfOk result (λ d. d.forgotten ≡ 0) }
+        ensures unforgotten { IfOk result (λ d. d.forgotten ≡ 0) }
         ensures spent { IfOk result (λ d. d.spent ≡ false) }
         ensures fault { IfErr result (IsResumeFault state slots) }
     {
@@ -155,7 +155,7 @@ impl<R: Ready> Dispatcher<R> {
         requires origin { IsOrigin origin settings }
         ensures settings { IfOk result (λ d. d.settings ≡ settings) }
         ensures course { IfOk result (λ d. course_of d ≡ begin_at origin settings capacity) }
-        ensures standing { IfOk result (λ d. d.forgotten ≡ 0) }
+        ensures unforgotten { IfOk result (λ d. d.forgotten ≡ 0) }
         ensures spent { IfOk result (λ d. d.spent ≡ false) }
     {
         let replica = Replica::new(alloc, settings.processors(), capacity)?;

@@ -31,7 +31,7 @@ pub fn run_events<R: Ready>(
     requires { IsShape settings.processors capacity }
     ensures settings { IfOk result (λ d. d.settings ≡ settings) }
     ensures course { IfOk result (λ d. course_of d ≡ run_of settings capacity events.now) }
-    ensures standing { IfOk result (λ d. d.forgotten ≡ 0) }
+    ensures unforgotten { IfOk result (λ d. d.forgotten ≡ 0) }
     ensures spent { IfOk result (λ d. d.spent ≡ false) }
     ensures events { OnOk result (AllByRecursion IsEvent events.now) }
 {
@@ -47,7 +47,7 @@ fn happen<R: Ready>(dispatcher: &mut Dispatcher<R>, event: &Event) -> Result<(),
     requires { dispatcher.old.spent ≡ false }
     ensures settings { dispatcher.new.settings ≡ dispatcher.old.settings }
     ensures course { OnOk result (course_of dispatcher.new ≡ happens dispatcher.old.settings (course_of dispatcher.old) event.now) }
-    ensures standing { dispatcher.new.forgotten ≡ dispatcher.old.forgotten }
+    ensures unforgotten { dispatcher.new.forgotten ≡ dispatcher.old.forgotten }
     ensures spent { OnOk result (dispatcher.new.spent ≡ false) }
     ensures event { IsEvent event.now }
     ensures memory { OnErr result (CanFail dispatcher.old event.now) }

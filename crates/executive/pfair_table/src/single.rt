@@ -24,7 +24,7 @@ pub fn take_script<R: Ready>(alloc: Global, script: &Script) -> Result<Dispatche
     ensures first { IfOk result (λ d. d.origin ≡ None) }
     ensures nothing { IfOk result (λ d. d.tables ≡ []) }
     ensures undecided { IfOk result (λ d. d.decided ≡ []) }
-    ensures standing { IfOk result (λ d. d.forgotten ≡ 0) }
+    ensures unforgotten { IfOk result (λ d. d.forgotten ≡ 0) }
     ensures able { IfOk result (λ d. d.spent ≡ false) }
 {
     let settings = script.settings();

@@ -52,7 +52,7 @@ pub record IsCaughtUp (f : Follow) : Type 0 where
   pub whole : IsWholePlan f.dispatch
   pub all_written : length f.dispatch.tables ≤ f.unwritten
 
--- more is planned and told, the writer has gained the rows of what is new, and nothing has become torn
+-- more is planned and written: the writer has gained the rows of what is new, and nothing has become torn
 pub record HasGoneOn (before after : Follow) (old new : Option (List ℕ)) : Type 0 where
   pub output_is : after.output ≡ before.output
   pub grown : IsGrown (record before.dispatch { replica = after.dispatch.replica }) after.dispatch
@@ -127,7 +127,7 @@ pub record IsRowOfStop (f g : Follow) (line : List ℕ) (fault : ProgramFault) :
 abbrev pub IsCauseIn : (f g : Follow) → List ℕ → ProgramFault → Type 0
 IsCauseIn f g line e = ((fault : RowFault) × (e ≡ Row fault) × IsRowFaultOf line fault × (g ≡ f)) ⊎ IsRowOfStop f g line e
 
--- What stands of a follower after a fault at a line: more may be planned, no row counts as told, and the contents are as before, or with the
+-- What stands of a follower after a fault at a line: more may be planned, no row counts as written, and the contents are as before, or with the
 -- entry whose row the line is.
 pub record HasStood (line : List ℕ) (before after : Follow) : Type 0 where
   pub output_is : after.output ≡ before.output

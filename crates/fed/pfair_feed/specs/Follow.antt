@@ -25,7 +25,7 @@ pub record Follow : Type 0 where
   pub dispatch : Dispatch
   pub unwritten : ℕ
 
--- the text of what is planned afterwards and was not told before
+-- the text of what is planned afterwards and was not written before
 abbrev pub news : Follow → Follow → List ℕ
 news before after = lines_text (rows_in after.dispatch.origin before.output before.unwritten after.dispatch.tables after.dispatch.decided)
 
@@ -62,7 +62,7 @@ pub record IsSameRun (before after : Follow) : Type 0 where
 abbrev pub IsAble : (before after : Follow) → Type 0
 IsAble before after = (has_torn (replica_of after.dispatch.replica) ≡ false) × (before.dispatch.spent ≡ false)
 
--- an entry was taken: all that is settled is planned, told and written, and it is forgotten unless lags count it
+-- an entry was taken: all that is settled is planned and written, and it is forgotten unless lags count it
 pub record HasFollowed (before after : Follow) (k n : ℕ) (old new : Option (List ℕ)) : Type 0 where
   pub key : IsKeyOf before.dispatch.replica k n
   pub able : IsAble before after

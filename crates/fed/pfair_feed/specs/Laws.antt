@@ -21,7 +21,7 @@ OrderIsNothing =
     (processors capacity : ℕ) (es fs : List Placed) (y z : Replica) → AllByRecursion IsPlaced es → AllByRecursion IsPlaced fs → AreAmong es fs → AreAmong fs es
     → AreTakenFrom (map row_of es) (empty_replica processors capacity) y → AreTakenFrom (map row_of fs) (empty_replica processors capacity) z → y ≡ z
 
--- The header, and what a first run's follower has written that had told nothing before, are the text that is written at once of what it holds.
+-- The header, and what a first run's follower has written that had written nothing before, are the text that is written at once of what it holds.
 abbrev pub WholeText : Type 0
 WholeText =
     (bytes rest : List ℕ) (f g : Follow) (old new : Option (List ℕ)) → f.dispatch.origin ≡ None → f.unwritten ≡ 0 → AreFedBytes bytes f g old new rest
@@ -58,7 +58,7 @@ FedEntriesGiveTheirText =
     → HaveTheRows run.settings.processors capacity (rows_of run.logs) lines → Appends before begun (line (header_of f.output)) → AreFedBytes bytes f g begun after rest
     → Appends before after (text_of f.output run.settings (replica_of_logs run.logs)) × HasScheduleOf run (replica_of g.dispatch.replica)
 
--- Of two followers that were new, of equal settings and outputs, whose runs begin alike, and that tell slots from the same one on: if what
+-- Of two followers that were new, of equal settings and outputs, whose runs begin alike, and that write slots from the same one on: if what
 -- they were fed agrees, what one has written begins with what the other has, or the other way round.
 abbrev pub RunsWriteAlike : Type 0
 RunsWriteAlike =

@@ -112,7 +112,7 @@ fn report_key<E: Write>(
     send(complaints, b"\n")
 }
 
-// Answers a line that is refused if it is the question, and else tells that it is refused, which ends a strict run.
+// Answers a line that is refused if it is the question, and else reports that it is refused, which ends a strict run.
 pub(crate) fn complain<R: Ready, E: Write>(
     follower: &Follower<R>,
     complaints: &mut E,

@@ -67,7 +67,7 @@ pub(crate) fn write_rows<R: Ready, W: Write>(
     writer: &mut W,
 ) -> Result<(), ProgramFault>
     requires book { IsBookIfAny dispatcher.now.origin from dispatcher.now.tables dispatcher.now.decided book.old }
-    requires standing { KeepsUnwritten output dispatcher.now.forgotten from }
+    requires unforgotten { KeepsUnwritten output dispatcher.now.forgotten from }
     ensures book { OnOk result (IsWholeBook dispatcher.now from book.new) }
     ensures written { OnOk result (Appends (W.contents writer.old) (W.contents writer.new) (rows_text dispatcher.now output from)) }
     ensures cut { IsErrOf result WriteFailed → TakesPrefix (W.contents writer.old) (W.contents writer.new) (rows_text dispatcher.now output from) }
@@ -92,7 +92,7 @@ fn add_rows<R: Ready>(
 ) -> Result<(), AllocError>
     requires open { IsOpen text.old }
     requires book { IsBookIfAny dispatcher.now.origin from dispatcher.now.tables dispatcher.now.decided book.old }
-    requires standing { KeepsUnwritten output dispatcher.now.forgotten from }
+    requires unforgotten { KeepsUnwritten output dispatcher.now.forgotten from }
     ensures open { OnOk result (IsOpen text.new) }
     ensures book { OnOk result (IsWholeBook dispatcher.now from book.new) }
     ensures text { OnOk result (text_so_far text.new ≡ text_so_far text.old
@@ -116,7 +116,7 @@ fn add_lags<R: Ready>(
 ) -> Result<(), AllocError>
     requires open { IsOpen text.old }
     requires book { IsBookIfAny dispatcher.now.origin from dispatcher.now.tables dispatcher.now.decided book.old }
-    requires standing { dispatcher.now.forgotten ≡ 0 }
+    requires unforgotten { dispatcher.now.forgotten ≡ 0 }
     ensures open { OnOk result (IsOpen text.new) }
     ensures book { OnOk result (IsWholeBook dispatcher.now from book.new) }
     ensures text { OnOk result (text_so_far text.new ≡ text_so_far text.old

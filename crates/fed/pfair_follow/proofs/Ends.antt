@@ -38,7 +38,7 @@ plan_rows o slot f g bytes rest old new begins unwritten fed =
     ∙ ap (λ (b : Origin). lines_text (rows_in o f.output slot (plan_from b g.dispatch.settings (replica_of g.dispatch.replica)) (map (decisions_from b g.dispatch.settings (replica_of g.dispatch.replica)) (numbers_below (min (frontier (replica_of g.dispatch.replica)) g.dispatch.settings.slots))))) origin
     ∙ ap (λ (t : Settings). rows_of_plan o f.output slot t (replica_of g.dispatch.replica)) set
 
--- of a follower that has told nothing before the first slot whose rows it writes
+-- of a follower that has written nothing before the first slot whose rows it writes
 whole_text : WholeText → (o : Origin) (slot : ℕ) (f g : Follow) (bytes rest : List ℕ) (old new : Option (List ℕ)) → f.dispatch.origin ≡ o → f.unwritten ≡ slot → AreFedBytes bytes f g old new rest
     → head_from o f.output slot ++ news f g ≡ text_from o f.output slot f.dispatch.settings (replica_of g.dispatch.replica)
 whole_text law None zero f g bytes rest old new begins unwritten fed =

@@ -124,7 +124,7 @@ impl Read for Failing {
     }
 }
 
-// What a run writes and tells, and the number of its fault, or 0.
+// What a run writes and complains of, and the number of its fault, or 0.
 #[derive(Drop)]
 struct End {
     rows: Vec<u8>,

@@ -25,7 +25,7 @@ enum Kind {
 // The letter of a task, what is said of it, and the decision.
 type Told = (u8, Kind, Decision);
 
-// A slot, what is heard at it, and the task that is then given a quantum with the subtask that runs,
+// A slot, what is announced at it, and the task that is then given a quantum with the subtask that runs,
 // if it may have one.
 type Step = (u64, &'static [Told], (u8, Option<u64>));
 
@@ -159,7 +159,7 @@ enum Heard {
     Otherwise,
 }
 
-// The boundary of a slot, which counts all that it heard, also if an allocation fails.
+// The boundary of a slot, which counts all that was announced, also if an allocation fails.
 fn hears(members: &mut Members, slot: u64, announced: &[Said], heard: &[Told]) -> Heard
     requires { AllByRecursion (λ a. IsWithinLimits a.announcement) announced.now }
 {

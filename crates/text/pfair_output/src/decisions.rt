@@ -45,7 +45,7 @@ pub fn add_decisions_from<R: Ready>(
     from: u64,
 ) -> Result<(), AllocError>
     requires open { IsOpen writer.old }
-    requires standing { dispatcher.now.forgotten ≤ from }
+    requires unforgotten { dispatcher.now.forgotten ≤ from }
     ensures open { OnOk result (IsOpen writer.new) }
     ensures text { OnOk result (text_so_far writer.new ≡ text_so_far writer.old
         ++ lines_text (slots_from decided_rows from (drop from dispatcher.now.decided))) }

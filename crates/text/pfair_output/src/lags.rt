@@ -43,7 +43,7 @@ pub fn add_lags_from<R: Ready>(
     dispatcher: &Dispatcher<R>,
 ) -> Result<(), AllocError>
     requires open { IsOpen writer.old }
-    requires standing { dispatcher.now.forgotten ≤ book.old.time }
+    requires unforgotten { dispatcher.now.forgotten ≤ book.old.time }
     ensures open { OnOk result (IsOpen writer.new) }
     ensures book { OnOk result (book.new ≡ all_slots_booked book.old (drop book.old.time dispatcher.now.decided) (drop book.old.time dispatcher.now.tables)) }
     ensures text { OnOk result (text_so_far writer.new ≡ text_so_far writer.old
@@ -69,7 +69,7 @@ pub fn book_slots<R: Ready>(
     to: u64,
 ) -> Result<(), AllocError>
     requires to { book.old.time ≤ to }
-    requires standing { dispatcher.now.forgotten ≤ book.old.time }
+    requires unforgotten { dispatcher.now.forgotten ≤ book.old.time }
     ensures { OnOk result (book.new ≡ all_slots_booked book.old
         (take (to - book.old.time) (drop book.old.time dispatcher.now.decided))
         (take (to - book.old.time) (drop book.old.time dispatcher.now.tables))) }
@@ -87,7 +87,7 @@ fn book_planned<R: Ready>(
     slot: u64,
 ) -> Result<(), AllocError>
     requires room { book.old.time < MAX_HORIZON }
-    requires standing { dispatcher.now.forgotten ≤ slot }
+    requires unforgotten { dispatcher.now.forgotten ≤ slot }
     ensures { OnOk result ((decided : List Decided) (table : Table)
         → slice_get dispatcher.now.decided slot ≡ Some decided → slice_get dispatcher.now.tables slot ≡ Some table
         → book.new ≡ slot_booked decided table book.old) }

@@ -89,7 +89,7 @@ pub fn add_tables_from<R: Ready>(
     from: u64,
 ) -> Result<(), AllocError>
     requires open { IsOpen writer.old }
-    requires standing { dispatcher.now.forgotten ≤ from }
+    requires unforgotten { dispatcher.now.forgotten ≤ from }
     ensures open { OnOk result (IsOpen writer.new) }
     ensures text { OnOk result (text_so_far writer.new ≡ text_so_far writer.old
         ++ lines_text (slots_from table_rows from (drop from dispatcher.now.tables))) }
@@ -111,7 +111,7 @@ pub fn add_placed_tables_from<R: Ready>(
     from: u64,
 ) -> Result<(), AllocError>
     requires open { IsOpen writer.old }
-    requires standing { dispatcher.now.forgotten ≤ from }
+    requires unforgotten { dispatcher.now.forgotten ≤ from }
     ensures open { OnOk result (IsOpen writer.new) }
     ensures text { OnOk result (text_so_far writer.new ≡ text_so_far writer.old
         ++ lines_text (slots_from (placed_table_rows (places_in dispatcher.now.origin dispatcher.now.tables)) from
@@ -131,7 +131,7 @@ fn add_slot<R: Ready>(
     places: &[u8],
 ) -> Result<(), AllocError>
     requires open { IsOpen writer.old }
-    requires standing { dispatcher.now.forgotten ≤ slot }
+    requires unforgotten { dispatcher.now.forgotten ≤ slot }
     ensures open { OnOk result (IsOpen writer.new) }
     ensures text { OnOk result ((table : Table) → slice_get dispatcher.now.tables slot ≡ Some table
         → text_so_far writer.new ≡ text_so_far writer.old ++ lines_text (placed_rows_from places.now slot 0 table)) }

@@ -18,7 +18,7 @@ use Rattle.pfair_admission.specs.Carried.{all_raised, raised, taken_off}
 use Rattle.pfair_admission.proofs.Keeping.{eligible_not_early}
 use Rattle.pfair_weight.proofs.NamesApart.{apart_nil}
 use Rattle.pfair_table.specs.declared.pick.Pick.{Pick}
-use Rattle.pfair_table.specs.RunsOn.{IsWeighedStory, IsBegun, IsSlotOf, both_stories, left_over, standing}
+use Rattle.pfair_table.specs.RunsOn.{IsWeighedStory, IsBegun, IsSlotOf, both_stories, left_over, key_and_freeing}
 use Rattle.pfair_table.specs.Table.{Settings, Origin, Story, machine, slot_of, chosen, index_of, pick, counted_one, history_over, world_over, table_over}
 use Rattle.pfair_table.proofs.FirstSubtasks.{found_own}
 use Rattle.pfair_table.proofs.FirstRuns.{world}
@@ -79,8 +79,8 @@ module _ (o : Origin) (s : Settings) (first : Story) (n : ℕ) (began : IsBegun 
   long = both_stories o s first n second
 
   -- a member of the one list, and the one of the other that stands as it does
-  alike : (these those : List Member) → map standing these ≡ map standing those → (m : Member) → Among these m → (l : Member) × Among those l × (standing m ≡ standing l)
-  alike these those same m h = among_map standing those (standing m) (subst (λ ks. Among ks (standing m)) same (map_among standing these m h))
+  alike : (these those : List Member) → map key_and_freeing these ≡ map key_and_freeing those → (m : Member) → Among these m → (l : Member) × Among those l × (key_and_freeing m ≡ key_and_freeing l)
+  alike these those same m h = among_map key_and_freeing those (key_and_freeing m) (subst (λ ks. Among ks (key_and_freeing m)) same (map_among key_and_freeing these m h))
 
   next_served : (t : ℕ) → IsServed next s second t
   next_served t = record { rows_in_time = in_time; none_misses = none_late }

@@ -15,7 +15,7 @@ returns-in-Ok-resume c =
     let settings = c.in-Ok-resume.ensures.settings in
     put_resumed c.args.bytes.now c.args.slots c.args.capacity c.args.fault.now runnable short c.args.handle.now.owner.kept c.put_new.new.handle.owner.kept c.put_new.result (Ok c.in-Ok-resume.dispatcher) c.in-Ok-resume.dispatcher
     closed (none_kept c.args.handle.now.owner.kept closed) refl
-    (record { state = c.in-Ok.state; writable = c.in-Ok.ensures.writable; text = c.in-Ok.ensures.text; settings = settings; course = c.in-Ok-resume.ensures.course; whole = (c.in-Ok-resume.ensures.standing, c.in-Ok-resume.ensures.spent) })
+    (record { state = c.in-Ok.state; writable = c.in-Ok.ensures.writable; text = c.in-Ok.ensures.text; settings = settings; course = c.in-Ok-resume.ensures.course; whole = (c.in-Ok-resume.ensures.unforgotten, c.in-Ok-resume.ensures.spent) })
     c.put_new.ensures.done c.put_new.ensures.only
 
 pub returns-in-Err-resume : goal.returns-in-Err-resume

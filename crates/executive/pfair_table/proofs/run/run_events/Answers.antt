@@ -12,7 +12,7 @@ loop-event-init g c = record {
   course = ap (λ (k : Course). run c.args.settings k c.args.events.now) c.in_ok-dispatcher.ensures.course;
   settings = c.in_ok-dispatcher.ensures.settings;
   spent = c.in_ok-dispatcher.ensures.spent;
-  standing = c.in_ok-dispatcher.ensures.standing;
+  unforgotten = c.in_ok-dispatcher.ensures.unforgotten;
   events = λ all. all;
 }
 
@@ -27,6 +27,6 @@ loop-event-preserved g c =
       course = ap (λ (k : Course). run c.args.settings k rest) next ∙ sym (ap (run c.args.settings was) items) ∙ c.loop-event.invariant.course;
       settings = c.in_ok-happen.ensures.settings ∙ c.loop-event.invariant.settings;
       spent = c.in_ok-happen.ensures.spent;
-      standing = c.happen.ensures.standing ∙ c.loop-event.invariant.standing;
+      unforgotten = c.happen.ensures.unforgotten ∙ c.loop-event.invariant.unforgotten;
       events = λ all. c.loop-event.invariant.events (subst (AllByRecursion IsEvent) (sym items) (c.happen.ensures.event, all));
     }

@@ -9,6 +9,6 @@ invariant-loop-event g l = record {
   course : run l.fn.settings (course_of l.dispatcher) (drop l.event-index l.events) ≡ run_of l.fn.settings l.capacity l.events;
   settings : l.dispatcher.settings ≡ l.fn.settings;
   spent : l.dispatcher.spent ≡ false;
-  standing : l.dispatcher.forgotten ≡ 0;
+  unforgotten : l.dispatcher.forgotten ≡ 0;
   events : AllByRecursion IsEvent (drop l.event-index l.events) → AllByRecursion IsEvent l.events;
 }

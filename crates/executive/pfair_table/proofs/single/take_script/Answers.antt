@@ -21,7 +21,7 @@ loop-processor-init g c =
         replica = c.in_ok-dispatcher.dispatcher.replica;
         tables = (course i).tables;
         decided = (course i).decided;
-        forgotten = c.in_ok-dispatcher.ensures.standing i;
+        forgotten = c.in_ok-dispatcher.ensures.unforgotten i;
         spent = c.in_ok-dispatcher.ensures.spent i;
       };
       replica = ap (λ (x : Course). x.replica) course ∙ (λ i. empty_replica (count i) (c.capacity.ensures.value i));
@@ -50,8 +50,8 @@ returns-clause-nothing g c = ap (λ (d : Dispatch). d.tables) c.loop-processor.i
 pub returns-clause-undecided : goal.returns-clause-undecided
 returns-clause-undecided g c = ap (λ (d : Dispatch). d.decided) c.loop-processor.invariant.is
 
-pub returns-clause-standing : goal.returns-clause-standing
-returns-clause-standing g c = ap (λ (d : Dispatch). d.forgotten) c.loop-processor.invariant.is
+pub returns-clause-unforgotten : goal.returns-clause-unforgotten
+returns-clause-unforgotten g c = ap (λ (d : Dispatch). d.forgotten) c.loop-processor.invariant.is
 
 pub returns-clause-able : goal.returns-clause-able
 returns-clause-able g c = ap (λ (d : Dispatch). d.spent) c.loop-processor.invariant.is

@@ -2,6 +2,6 @@ use Rattle.std.proofs.Common.{◌≡◌, drop}
 use Rattle.pfair_output.specs.Booked.{all_booked}
 use Rattle.pfair_output.proofs.lags.book_decisions.Given as goal
 
--- to tell what is left makes the whole
+-- booking what is left makes the whole
 abbrev pub invariant-loop-one : goal.invariant-loop-one
 invariant-loop-one l = all_booked (drop l.one-index l.decided) l.book ≡ all_booked l.decided l.fn.book

@@ -28,7 +28,7 @@ invariant_of-result c =
     let back = sym index in
     let joined : ℕ = c.args.state.joined in
     let up_to : ℕ → List Delay → ℕ = λ n ds. sum_by (λ d. d.by) (filter (λ d. nat_le d.index n) ds) in
-    let membership : ℕ → ℕ → Position = λ n by. record { weight = c.args.state.weight; index = n; theta = joined + by } in
+    let moved : ℕ → ℕ → Position = λ n by. record { weight = c.args.state.weight; index = n; theta = joined + by } in
     record {
       member = record {
         first = omega (arith, index, c.requires.first);
@@ -36,7 +36,7 @@ invariant_of-result c =
         offset = c.requires.offset;
       };
       stands = record {
-        position = c.at-stepper.ensures ∙ (λ i. membership (back i) (c.delay_up_to.ensures i)) ∙ (λ i. membership c.at-stepper.result.index (up_to (back i) (c.deref.ensures.value i)));
+        position = c.at-stepper.ensures ∙ (λ i. moved (back i) (c.delay_up_to.ensures i)) ∙ (λ i. moved c.at-stepper.result.index (up_to (back i) (c.deref.ensures.value i)));
         put_off = c.is_delayed_at-is_put_off.ensures ∙ (λ i. list_any (λ (d : Delay). d.index == back i) (c.deref-2.ensures.value i));
         coming = λ i later. c.in_ok-coming.ensures i (omega (arith, index, later)) ∙ ap (λ (ds : List Delay). own_delay ds i) c.deref-3.ensures.value;
       };

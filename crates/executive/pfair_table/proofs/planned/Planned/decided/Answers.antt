@@ -6,10 +6,10 @@ use Rattle.pfair_table.proofs.Kept.{get_kept}
 use Rattle.pfair_table.proofs.planned.Planned.decided.Goals as goal
 
 pub returns-clause-value : goal.returns-clause-value
-returns-clause-value c = λ standing.
+returns-clause-value c = λ unforgotten.
     (let a = c.self.inside in
     let forgotten = ap (λ (d : PlannedSlots). d.forgotten) c.self.view_is in
-    let here : a.forgotten ≤ c.args.slot = omega (arith, standing, forgotten) in
+    let here : a.forgotten ≤ c.args.slot = omega (arith, unforgotten, forgotten) in
     let past : a.first ≤ c.args.slot = omega (arith, here, c.self.invariant.forgets) in
     ap Some c.deref.ensures.value
     ∙ ap (option_map (λ p. p.plan.decided.items)) (c.in_ok-planned.ensures.value here)
