@@ -18,7 +18,6 @@ TOP = pathlib.Path(__file__).resolve().parents[2]
 EXAMPLES = pathlib.Path(os.environ.get("PFAIR_EXAMPLES", TOP / "examples"))
 HEADER = (EXAMPLES.parent / "include" / "pfair.h").read_text()
 SCRIPTS = pathlib.Path(os.environ.get("PFAIR_SCRIPTS", TOP / "scripts"))
-# what the scripts share
 sys.path.append(str(SCRIPTS))
 # weights that no call takes: the exception's name, cost and period
 WRONG_WEIGHTS = ("ZeroCost", 0, 2), ("CostOverPeriod", 3, 2), ("PeriodTooLong", 1, 10**9 + 1)
@@ -146,6 +145,7 @@ def assert_plain(value):
             assert_plain(part)
     else:
         assert value is None or type(value) in (bool, int, str), repr(value)
+    return value
 
 
 class Done(NamedTuple):

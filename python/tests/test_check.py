@@ -18,7 +18,7 @@ SETS = 300
 
 
 def found_in(script, rows, **more):
-    return [tuple(wrong[:4]) for wrong in pfair.check(script, rows, **more)]
+    return [tuple(wrong[:4]) for wrong in assert_plain(pfair.check(script, rows, **more))]
 
 
 @pytest.mark.parametrize("file", FILES, ids=lambda file: file.stem)
@@ -231,7 +231,7 @@ def test_order(ran, wanted):
     """What ran in slot 0 of two processors: the slot differs if it isn't a and z."""
     script = set_of(LINE, 2, 330)
     rows = [row[:2] for row in rows_of(pfair.schedule(script).quanta) if row[0] > 0]
-    found = pfair.check(script, [*((0, name) for name in ran), *rows], order=True)
+    found = assert_plain(pfair.check(script, [*((0, name) for name in ran), *rows], order=True))
     assert [one for one in found if one.kind == "order"] == ([wanted] if wanted else [])
 
 

@@ -142,7 +142,6 @@ RANGES = {
     **{name: ({"processor": BYTE}, False) for name in ("mark", "missing")},
     **{name: (SLOTS, False) for name in ("quanta", "decisions", "lags")},
 }
-# what else a call needs
 NEEDS = {
     "Dispatcher": {"processors": 1, "frame": 1, "slots": 1, "capacity": 1}, "reserve": {"slots": 0, "tasks": 0},
     "windows": {"cost": 1, "period": 2, "count": 1}, "take": {"processor": 0, "number": 1, "entry": pfair.promise(1)},
@@ -218,6 +217,7 @@ HEAD = b"version = 1\nprocessors = 2\nframe = 6\nslots = 6\n"
 ENTRY = b"[[entry]]\nprocessor = 1\nfloor = 3\n"
 LATE = ENTRY + b"kind = 'late'\nat = 4\nname = 'a'\nindex = 1\nby = 1\n"
 ARRIVE = ENTRY + b"kind = 'arrive'\nat = 4\nname = 'a'\ncost = 1\nperiod = 2\n"
+KEYS = "version processors frame slots processor floor at name cost period index by".split()
 
 
 def without(text, key):
@@ -225,9 +225,9 @@ def without(text, key):
 
 
 FAULTS = [
-    (pfair.KeyMissing, "slots at 0", without(HEAD, b"slots"), {"place": 0}),
-    (pfair.KeyMissing, "period at 1", HEAD + without(ARRIVE, b"period"), {"place": 1}),
-    (pfair.KeyMissing, "by at 2", HEAD + ENTRY + without(LATE, b"by"), {"place": 2}),
+    *((pfair.KeyMissing, f"{key} at 0", without(HEAD, key.encode()), {"place": 0}) for key in KEYS[:4]),
+    *((pfair.KeyMissing, f"{key} at 1", HEAD + without(ARRIVE, key.encode()), {"place": 1}) for key in KEYS[4:10]),
+    *((pfair.KeyMissing, f"{key} at 2", HEAD + ENTRY + without(LATE, key.encode()), {"place": 2}) for key in KEYS[10:]),
     (pfair.KeyWrongKind, "processors at 0", HEAD.replace(b"2", b"'2'"), {"place": 0}),
     (pfair.KeyWrongKind, "entry at 0", HEAD + b"entry = 3\n", {"place": 0}),
     (pfair.KeyWrongKind, "early at 1", HEAD.replace(b"1", b"2") + ARRIVE + b"early = 3\n", {"place": 1}),

@@ -101,7 +101,6 @@ SLOTS = near(0, 10**6)
 WEIGHT = {"cost": near(0, 10**9), "period": near(0, 10**9), "early": some.sampled_from((0, 1, 2))}
 FIELDS = {"arrive": {"name": NAME, **WEIGHT}, "depart": {"name": NAME}}
 FIELDS |= {"late": {"name": NAME, "index": near(0, 10**6), "by": near(0, 2**20)}}
-# the fields of each kind, with its slots; a promise has a floor alone
 FIELDS = {None: {"floor": SLOTS}} | {kind: {**more, "at": SLOTS, "floor": SLOTS} for kind, more in FIELDS.items()}
 ENTRIES = some.one_of(some.tuples(some.just(kind), some.fixed_dictionaries(FIELDS[kind])) for kind in FIELDS)
 MAKERS = {None: pfair.promise, "arrive": pfair.arrive, "depart": pfair.depart, "late": pfair.late}
@@ -126,6 +125,8 @@ def arrival(**fields):
 @example(arrival(cost=10**9 + 2, period=10**9 + 1))
 @example(arrival(cost=10**9, period=10**9, at=10**6, floor=10**6))
 @example(("late", {"name": "a" * 16, "index": 10**6, "by": 2**20, "at": 10**6, "floor": 10**6}))
+@example(("late", {"name": "a", "index": 10**6 + 1, "by": 1, "at": 0, "floor": 0}))
+@example(("late", {"name": "a", "index": 1, "by": 2**20 + 1, "at": 0, "floor": 0}))
 @example(arrival(cost=0, name=""))
 @example(arrival(cost=0, at=1, floor=2))
 @example(arrival(name="\u00c9" * 9))
@@ -149,7 +150,8 @@ def test_forms_of_makers():
     assert whole_ones == pfair.Entry(0, "arrive", 3, "a", 1, 2, True)
     assert {type(getattr(whole_ones, key)) for key in ("at", "cost", "period")} == {int} and whole_ones.early is True
     assert pfair.late("a", 2, 3, at=4) == pfair.Entry(0, "late", 4, "a", index=2, by=3)
-    assert pfair.depart("a", at=4, floor=1) == pfair.Entry(1, "depart", 4, "a") and pfair.promise(5) == pfair.Entry(5)
+    assert pfair.depart("a", at=4) == pfair.Entry(0, "depart", 4, "a") and pfair.promise(5) == pfair.Entry(5)
+    assert pfair.arrive("a", 1, 2) == pfair.Entry(0, "arrive", 0, "a", 1, 2, False)
     for words in ((pfair.arrive, "a", 1, 2, 3), (pfair.depart, "a", 3), (pfair.late, "a", 1, 2, 3)):
         with pytest.raises(TypeError, match="positional argument"):
             words[0](*words[1:])

@@ -15,7 +15,6 @@ DECISIONS = "slot,processor,number,task,outcome,value\n"
 LAGS = "time,task,numerator,period\n"
 HEAD = "task,times,least,greatest,first,delays\n"
 JOINED = DECISIONS + "0,0,1,a,admitted,-\n"
-# each refusal, and whether it is of an arrival
 REFUSALS = dict(re.findall(r"PFAIR_OUTCOME_\w+ = (2\d),? +/\* (of an arrival:)?", HEADER))
 
 

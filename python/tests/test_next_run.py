@@ -168,8 +168,7 @@ def begun(*entries, slots=4):
 
 def test_a_next_run_is_refused():
     one = begun(pfair.arrive("a", 1, 2))
-    for slots in (0, 1_000_001):
-        outside("slots", slots, one.next_run, slots, least=1, most=1_000_000)
+    outside("slots", 1_000_001, one.next_run, 1_000_001, least=1, most=1_000_000)
     refusal(pfair.Unfinished, "not all slots of the run are planned", one.next_run, 4)
     one.plan(3)
     refusal(pfair.Unfinished, "not all slots of the run are planned", one.next_run, 4)
@@ -185,8 +184,8 @@ def test_a_state_is_refused():
         ("state,1,0,1,6\n", pfair.NoStateRow, "line 2"), ("state,1,824633720832,1,6\nend,2\n", pfair.PastLastSlot, ""),
         ("state,2,0,1,6\nend,2\n", pfair.StateRefused, "line 1: another form"),
         ("state,1,0,65,6\nend,2\n", pfair.StateRefused, "line 1: out of range"),
-        (member, pfair.StateRefused, f"line 2: {pfair.OUTCOMES[21]}"),
         (member.replace("true,0", "true,10"), pfair.StateRefused, f"line 2: {pfair.OUTCOMES[21]}"),
+        ("state,1,9,1,6\n" + 2 * "member,a,1,6,true,0,1,-\n", pfair.StateRefused, f"line 3: {pfair.OUTCOMES[20]}"),
         (member.replace("1,6", "1,8").replace("true,0", "true,10"), pfair.StateRefused, "line 2: not left by a run"),
         ("state,1,9,1,6\nran,a,1,1\nend,3\n", pfair.StateRefused, "line 2: no such quantum"),
         ("state,1,0,1,6\nend,3\n", pfair.StateRefused, "line 2: rows are missing"),
@@ -194,7 +193,8 @@ def test_a_state_is_refused():
         told = ": ".join(filter(None, (kind.text, where)))
         refusal(kind, told, resume, text.encode(), 1)
         refusal(kind, told, pfair.State.of, text.encode())
-    outside("slots", 0, resume, b"", 0, least=1, most=1_000_000)
+    for name, most, *words in (("slots", 10**6, 10**6 + 1), ("capacity", 4_096, 1, 0), ("capacity", 4_096, 1, 4_097)):
+        outside(name, words[-1], resume, b"", *words, least=1, most=most)
 
 
 def test_the_fields_of_a_state():

@@ -9,7 +9,6 @@ from conftest import EXAMPLES, outside
 
 import pfair
 
-# so many deaths
 DEATHS = int(os.environ.get("PFAIR_DEATHS", 40))
 # a log with a gap; and three tasks that fill two processors
 GAP = {1: pfair.arrive("c", 3, 4), 3: pfair.promise(6)}
