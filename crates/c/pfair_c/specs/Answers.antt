@@ -23,7 +23,7 @@ use Rattle.pfair_table.specs.declared.script.TheConstants.Script.{LONGEST_LOG}
 use Rattle.pfair_table.specs.declared.settings.TheConstants.Settings.{MAX_SLOTS}
 use Rattle.pfair_table.specs.Table.{Settings}
 use Rattle.pfair_table.specs.Limits.{IsSettings}
-use Rattle.pfair_table.specs.Events.{start, happens}
+use Rattle.pfair_table.specs.Events.{begin_at, happens}
 use Rattle.pfair_handle.specs.Kept.{Kept, is_kept}
 use Rattle.pfair_handle.specs.Behind.{Between, IsAbsorbedTo, IsPartlyAbsorbedTo}
 use Rattle.pfair_c.specs.Planning.{IsPlannedOn, IsStopOf, IsStoppedBy, IsWhole}
@@ -56,7 +56,7 @@ IsOpenable s capacity = IsSettings s × (1 ≤ capacity) × (capacity ≤ LONGES
 abbrev pub IsStarted : Settings → ℕ → Kept → Type 0
 IsStarted s capacity None = ⊥
 IsStarted s capacity (Some x) =
-    (course_of x.dispatcher ≡ start s capacity) × (x.dispatcher.spent ≡ false) × (x.dispatcher.settings ≡ s)
+    (course_of x.dispatcher ≡ begin_at None s capacity) × (x.dispatcher.spent ≡ false) × (x.dispatcher.settings ≡ s)
 
 -- what `pfair_open` answers
 pub record IsOpenAnswer (s : Settings) (capacity : ℕ) (before after : Kept) (answer : ℕ) : Type 0 where

@@ -5,13 +5,13 @@ use Rattle.pfair_lattice.specs.declared.flat.Flat.TheVariants.{Torn}
 use Rattle.pfair_lattice.specs.HeldLaws.{join_second}
 use Rattle.pfair_entry.specs.Same.{entry_eq}
 use Rattle.pfair_entry.specs.Exact.{entry_exact}
-use Rattle.pfair_replica.specs.Replica.{Replica, IsReplica, Untorn, Agree}
+use Rattle.pfair_replica.specs.Replica.{Replica, IsReplica, Untorn, Agree, said}
 use Rattle.pfair_ready.specs.Queue.{Queue}
 use Rattle.pfair_admission.specs.Roster.{Roster}
 use Rattle.pfair_table.specs.declared.pick.Decided.{Decided}
-use Rattle.pfair_table.specs.Table.{Settings, Origin, Table, table_from, decisions_from}
+use Rattle.pfair_table.specs.Table.{Settings, Origin, Table, table, decisions}
 use Rattle.pfair_table.specs.Refinement.{IsPlanOf, IsKept}
-use Rattle.pfair_table.proofs.TableLaws.{one_table_from}
+use Rattle.pfair_table.proofs.TableLaws.{one_table}
 use Rattle.pfair_table.proofs.Runs.{get_numbers, untorn_left, one_schedule}
 use Rattle.pfair_table.proofs.Steps.{plan_of_held}
 use Rattle.pfair_table.specs.PlaceLaws.{OnePlacing}
@@ -23,23 +23,23 @@ pub untorn_right : (x y : Replica) → Agree x y → Untorn y
 untorn_right x y agree k n torn = elim (join_second entry_eq entry_exact (x.at k n) (y.at k n) Torn torn) [ inl h ↦ agree k n h | inr h ↦ agree k n h ]
 
 -- what a slot so far has been planned of the contents
-table_there : {o : Origin} {s : Settings} {x : Replica} {tables : List Table} {decided : List (List Decided)} → IsPlanOf o s x x tables decided → (t : ℕ) → t < length tables → slice_get tables t ≡ Some (table_from o s x t)
-table_there {o} {s} {x} {tables} plan t l = ap (λ (ts : List Table). slice_get ts t) (plan.tables_are ∙ tables_listed o s x (length tables)) ∙ get_numbers (table_from o s x) (length tables) t l
+table_there : {o : Origin} {s : Settings} {x : Replica} {tables : List Table} {decided : List (List Decided)} → IsPlanOf o s x x tables decided → (t : ℕ) → t < length tables → slice_get tables t ≡ Some (table o s (said x) t)
+table_there {o} {s} {x} {tables} plan t l = ap (λ (ts : List Table). slice_get ts t) (plan.tables_are ∙ tables_listed o s x (length tables)) ∙ get_numbers (table o s (said x)) (length tables) t l
 
-decided_there : {o : Origin} {s : Settings} {x : Replica} {tables : List Table} {decided : List (List Decided)} → IsPlanOf o s x x tables decided → (t : ℕ) → t < length tables → slice_get decided t ≡ Some (decisions_from o s x t)
-decided_there {o} {s} {x} {tables} plan t l = ap (λ (ds : List (List Decided)). slice_get ds t) plan.decided_are ∙ get_numbers (decisions_from o s x) (length tables) t l
+decided_there : {o : Origin} {s : Settings} {x : Replica} {tables : List Table} {decided : List (List Decided)} → IsPlanOf o s x x tables decided → (t : ℕ) → t < length tables → slice_get decided t ≡ Some (decisions o s (said x) t)
+decided_there {o} {s} {x} {tables} plan t l = ap (λ (ds : List (List Decided)). slice_get ds t) plan.decided_are ∙ get_numbers (decisions o s (said x)) (length tables) t l
 
 -- two dispatchers have the tables and decisions of what either holds, for each slot that both have planned
 pub kept_alike : {o q : Origin} {s r : Settings} {x y : Replica} {tx ty : List Table} {dx dy : List (List Decided)} {bx by : Bool} {mx my : Roster} {nx ny : ℕ} {hx hy : Queue}
     → IsKept o s x tx dx bx mx nx hx → IsKept q r y ty dy by my ny hy → IsReplica x → IsReplica y → s ≡ r → o ≡ q → Agree x y → (t : ℕ) → t < length tx → t < length ty
-    → (slice_get tx t ≡ Some (table_from o s x t)) × (slice_get ty t ≡ Some (table_from o s x t)) × (slice_get dx t ≡ Some (decisions_from o s x t)) × (slice_get dy t ≡ Some (decisions_from o s x t))
+    → (slice_get tx t ≡ Some (table o s (said x) t)) × (slice_get ty t ≡ Some (table o s (said x) t)) × (slice_get dx t ≡ Some (decisions o s (said x) t)) × (slice_get dy t ≡ Some (decisions o s (said x) t))
 kept_alike {o} {s} {x} {y} {tx} {ty} {dx} {dy} {by} {my} {ny} {hy} kx k sound_x sound_y same began agree t lx ly =
     let ky = subst (λ (a : Origin × Settings). IsKept a.0 a.1 y ty dy by my ny hy) (λ i. (sym began i, sym same i)) k in
     let of_x = is_of_held kx sound_x in
     let of_y = is_of_held ky sound_y in
     let px = plan_of_held kx.plan of_x (untorn_left x y agree) in
     let py = plan_of_held ky.plan of_y (untorn_right x y agree) in
-    let alike = one_table_from o s x y of_x of_y agree t (omega (arith, lx, px.early)) (omega (arith, ly, py.early)) in (
+    let alike = one_table o s x y of_x of_y agree t (omega (arith, lx, px.early)) (omega (arith, ly, py.early)) in (
       table_there px t lx,
       table_there py t ly ∙ ap Some (sym alike.0),
       decided_there px t lx,

@@ -5,7 +5,7 @@ use Rattle.std.proofs.lemmas.Bool.{le-ltb}
 use Rattle.std.proofs.lemmas.List.{map-append}
 use Rattle.std.proofs.lemmas.Option.{none-some}
 use Rattle.pfair_replica.specs.ReplicaRows.{ReplicaRows, replica_of}
-use Rattle.pfair_replica.specs.Replica.{Replica, IsReplica, has_torn, frontier, empty_replica, numbers_below}
+use Rattle.pfair_replica.specs.Replica.{Replica, IsReplica, has_torn, frontier, empty_replica, numbers_below, said}
 use Rattle.pfair_table.specs.Queue.{IsQueue}
 use Rattle.pfair_table.specs.Limits.{IsOrigin}
 use Rattle.pfair_table.proofs.Members.{named_before}
@@ -16,7 +16,7 @@ use Rattle.pfair_table.specs.declared.answer.Step.{Step}
 use Rattle.pfair_table.specs.declared.answer.Step.TheVariants.{Planned, Waiting, Done}
 use Rattle.pfair_table.specs.Events.{Course, is_plannable, with_next_slot}
 use Rattle.pfair_table.specs.Planned.{PlannedSlots, with_next}
-use Rattle.pfair_table.specs.Table.{Settings, Origin, Table, members_before, history_from, table_from, decisions_from, plan_from}
+use Rattle.pfair_table.specs.Table.{Settings, Origin, Table, members_before, history, table, decisions, plan, plan_decisions}
 use Rattle.pfair_table.specs.Laws.{IsOf}
 use Rattle.pfair_table.specs.Refinement.{Dispatch, IsPlanOf, IsInStep, IsKept, IsNextStep, IsWholePlan, course_of}
 use Rattle.pfair_replica.proofs.TornKeys.{untorn_by_test}
@@ -44,9 +44,9 @@ next_none s x n (Waiting from) is other =
 next_none s x n Done is other = (both_false (not (has_torn x)) (nat_lt n (frontier x)) (nat_lt n s.slots) (le-ltb n s.slots is), omega (arith, is))
 
 -- the tables of the slots so far, one for each
-pub tables_listed : (o : Origin) (s : Settings) (x : Replica) (n : ℕ) → (history_from o s x n).tables ≡ map (table_from o s x) (numbers_below n)
+pub tables_listed : (o : Origin) (s : Settings) (x : Replica) (n : ℕ) → (history o s (said x) n).tables ≡ map (table o s (said x)) (numbers_below n)
 tables_listed o s x zero = refl
-tables_listed o s x (suc n) = ap (λ (ts : List Table). ts ++ table_from o s x n ∷ []) (tables_listed o s x n) ∙ sym (map-append (table_from o s x) (numbers_below n) (n ∷ []))
+tables_listed o s x (suc n) = ap (λ (ts : List Table). ts ++ table o s (said x) n ∷ []) (tables_listed o s x n) ∙ sym (map-append (table o s (said x)) (numbers_below n) (n ∷ []))
 
 module _ {o : Origin} {s : Settings} {replica : Replica} {tables : List Table} {decided : List (List Decided)} {spent : Bool} {roster : Roster} {now : ℕ} {waiting : Queue} (kept : IsKept o s replica tables decided spent roster now waiting) (sound : IsReplica replica) where
   pub is_of_held : IsOf s replica
@@ -64,11 +64,11 @@ module _ {o : Origin} {s : Settings} {replica : Replica} {tables : List Table} {
     as_many : min (frontier replica) s.slots ≤ length tables → length tables ≡ min (frontier replica) s.slots
     as_many le = omega (arith, le, plan_now.early, plan_now.wanted)
 
-    pub tables_whole : min (frontier replica) s.slots ≤ length tables → tables ≡ plan_from o s replica
-    tables_whole le = plan_now.tables_are ∙ tables_listed o s replica (length tables) ∙ ap (λ (n : ℕ). map (table_from o s replica) (numbers_below n)) (as_many le)
+    pub tables_whole : min (frontier replica) s.slots ≤ length tables → tables ≡ plan o s replica
+    tables_whole le = plan_now.tables_are ∙ tables_listed o s replica (length tables) ∙ ap (λ (n : ℕ). map (table o s (said replica)) (numbers_below n)) (as_many le)
 
-    pub decided_whole : min (frontier replica) s.slots ≤ length tables → decided ≡ map (decisions_from o s replica) (numbers_below (min (frontier replica) s.slots))
-    decided_whole le = plan_now.decided_are ∙ ap (λ (n : ℕ). map (decisions_from o s replica) (numbers_below n)) (as_many le)
+    pub decided_whole : min (frontier replica) s.slots ≤ length tables → decided ≡ plan_decisions o s replica
+    decided_whole le = plan_now.decided_are ∙ ap (λ (n : ℕ). map (decisions o s (said replica)) (numbers_below n)) (as_many le)
 
     -- members and ready structure made anew
     pub kept_anew : {spent2 : Bool} {roster2 : Roster} {now2 : ℕ} {waiting2 : Queue} → IsInStep o s replica (length tables) roster2 now2 waiting2 → IsKept o s replica tables decided spent2 roster2 now2 waiting2
@@ -76,7 +76,7 @@ module _ {o : Origin} {s : Settings} {replica : Replica} {tables : List Table} {
 
     -- one more slot
     pub kept_next : {more : List Table} {more_decided : List (List Decided)} {spent2 : Bool} {roster2 : Roster} {now2 : ℕ} {waiting2 : Queue} → length tables < frontier replica → length tables < s.slots
-        → more ≡ tables ++ table_from o s replica (length tables) ∷ [] → more_decided ≡ decided ++ decisions_from o s replica (length tables) ∷ []
+        → more ≡ tables ++ table o s (said replica) (length tables) ∷ [] → more_decided ≡ decided ++ decisions o s (said replica) (length tables) ∷ []
         → IsInStep o s replica (length more) roster2 now2 waiting2 → IsKept o s replica more more_decided spent2 roster2 now2 waiting2
     kept_next {more_decided} early wanted tables_are decided_are step = grind (arith, plan_next_slot, plan_now)
 

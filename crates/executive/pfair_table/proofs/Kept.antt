@@ -6,23 +6,23 @@ use Rattle.std.proofs.lemmas.List.{length-map, length-append, length-drop, map-a
 use Rattle.std.proofs.lemmas.Option.{slice_get_past, slice_get-map}
 use Rattle.std.proofs.Math.Seq.{drop-nil}
 use Rattle.pfair_replica.specs.ReplicaRows.{ReplicaRows, replica_of}
-use Rattle.pfair_replica.specs.Replica.{numbers_below}
+use Rattle.pfair_replica.specs.Replica.{numbers_below, said}
 use Rattle.pfair_table.specs.declared.pick.Decided.{Decided}
 use Rattle.pfair_table.specs.declared.planned.PlannedSlot.{PlannedSlot}
 use Rattle.pfair_table.specs.declared.settings.TheConstants.Settings.{MAX_SLOTS}
 use Rattle.pfair_table.specs.Places.{places_from, places_in, places_after, table_before, places_before}
 use Rattle.pfair_table.specs.Planned.{PlannedSlots, AreKept, IsNext, with_next, tables_to, decided_to, last_or}
-use Rattle.pfair_table.specs.Table.{Settings, Origin, Table, table_from, decisions_from}
+use Rattle.pfair_table.specs.Table.{Settings, Origin, Table, table, decisions}
 use Rattle.pfair_table.proofs.Keeping.{tables_listed}
 use Rattle.pfair_table.proofs.Runs.{length_numbers}
 
 -- ---- how many there are
 
 pub tables_long : (o : Origin) (s : Settings) (x : ReplicaRows) (n : ℕ) → length (tables_to o s x n) ≡ n
-tables_long o s x n = ap length (tables_listed o s (replica_of x) n) ∙ (length-map (numbers_below n) (table_from o s (replica_of x)) ∙ length_numbers n)
+tables_long o s x n = ap length (tables_listed o s (replica_of x) n) ∙ (length-map (numbers_below n) (table o s (said (replica_of x))) ∙ length_numbers n)
 
 pub decided_long : (o : Origin) (s : Settings) (x : ReplicaRows) (n : ℕ) → length (decided_to o s x n) ≡ n
-decided_long o s x n = length-map (numbers_below n) (decisions_from o s (replica_of x)) ∙ length_numbers n
+decided_long o s x n = length-map (numbers_below n) (decisions o s (said (replica_of x))) ∙ length_numbers n
 
 places_long : (before : Table) (old : List ℕ) (tables : List Table) → length (places_from before old tables) ≡ length tables
 places_long before old [] = refl
@@ -117,18 +117,18 @@ module _ {o : Origin} {s : Settings} {of : ReplicaRows} {first forgotten : ℕ} 
     one_more : first + length (slots ++ next ∷ []) ≡ suc (first + length slots)
     one_more = omega (arith, length-append slots (next ∷ []))
 
-    tables_more : tables_to o s x (first + length (slots ++ next ∷ [])) ≡ all ++ table_from o s (replica_of x) (length all) ∷ []
+    tables_more : tables_to o s x (first + length (slots ++ next ∷ [])) ≡ all ++ table o s (said (replica_of x)) (length all) ∷ []
     tables_more =
         ap (tables_to o s x) one_more
-        ∙ ap (λ n. tables_to o s x n ++ table_from o s (replica_of x) n ∷ []) (sym long)
-        ∙ ap (λ ts. ts ++ table_from o s (replica_of x) (length all) ∷ []) (sym is.tables_are)
+        ∙ ap (λ n. tables_to o s x n ++ table o s (said (replica_of x)) n ∷ []) (sym long)
+        ∙ ap (λ ts. ts ++ table o s (said (replica_of x)) (length all) ∷ []) (sym is.tables_are)
 
-    decided_more : decided_to o s x (first + length (slots ++ next ∷ [])) ≡ decided ++ decisions_from o s (replica_of x) (length all) ∷ []
+    decided_more : decided_to o s x (first + length (slots ++ next ∷ [])) ≡ decided ++ decisions o s (said (replica_of x)) (length all) ∷ []
     decided_more =
         ap (decided_to o s x) one_more
-        ∙ map-append (decisions_from o s (replica_of x)) (numbers_below (first + length slots)) ((first + length slots) ∷ [])
-        ∙ ap (λ n. decided_to o s x n ++ decisions_from o s (replica_of x) n ∷ []) (sym long)
-        ∙ ap (λ ds. ds ++ decisions_from o s (replica_of x) (length all) ∷ []) (sym is.decided_are)
+        ∙ map-append (decisions o s (said (replica_of x))) (numbers_below (first + length slots)) ((first + length slots) ∷ [])
+        ∙ ap (λ n. decided_to o s x n ++ decisions o s (said (replica_of x)) n ∷ []) (sym long)
+        ∙ ap (λ ds. ds ++ decisions o s (said (replica_of x)) (length all) ∷ []) (sym is.decided_are)
 
     pub seen_more : record { settings = s; origin = o; tables = tables_to o s x (first + length (slots ++ next ∷ [])); decided = decided_to o s x (first + length (slots ++ next ∷ [])); forgotten = forgotten } ≡ with_next seen x
     seen_more = λ i. record { settings = s; origin = o; tables = tables_more i; decided = decided_more i; forgotten = forgotten }

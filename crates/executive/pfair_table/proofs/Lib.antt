@@ -1,5 +1,4 @@
 mod FirstByRank
-pub mod FirstRuns
 pub mod Members
 pub mod TableLaws
 pub mod Runs

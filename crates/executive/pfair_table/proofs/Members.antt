@@ -7,8 +7,7 @@ use Rattle.pfair_admission.specs.Member.{Member}
 use Rattle.pfair_admission.specs.Admission.{announcements, ran}
 use Rattle.pfair_admission.proofs.NamesKept.{apart_boundary, apart_ran}
 use Rattle.pfair_table.specs.Limits.{IsOrigin}
-use Rattle.pfair_table.specs.Table.{Settings, Origin, Table, History, machine, members_at, members_before, slot_of, all_ran, Story, history_over, world_over}
-use Rattle.pfair_table.proofs.FirstRuns.{world}
+use Rattle.pfair_table.specs.Table.{Settings, Origin, Table, History, machine, members_at, members_before, slot_of, all_ran, Story, history, world}
 
 abbrev pub label : Member → List ℕ
 label m = m.name
@@ -21,16 +20,16 @@ named_at : (s : Settings) (t : ℕ) (announced : List Said) (h : History) → Na
 named_at s t announced h a = apart_boundary (machine s) t h.members (announcements announced) a
 
 module _ (o : Origin) (s : Settings) (before : NamesApart label (members_before o)) (x : Story) where
-  pub named_history : (t : ℕ) → NamesApart label (history_over o s x t).members
+  pub named_history : (t : ℕ) → NamesApart label (history o s x t).members
   named_history zero = before
   named_history (suc t) = grind (arith, named_at, named_ran, named_history t)
 
-  pub named_from : (t : ℕ) → NamesApart label (world_over o s x t)
-  named_from t = named_at s (slot_of o t) (x t) (history_over o s x t) (named_history t)
+  pub named_from : (t : ℕ) → NamesApart label (world o s x t)
+  named_from t = named_at s (slot_of o t) (x t) (history o s x t) (named_history t)
 
 pub named_before : (o : Origin) (s : Settings) → IsOrigin o s → NamesApart label (members_before o)
 named_before None s began = apart_nil label
 named_before (Some c) s began = began.members.named
 
-pub named_world : (s : Settings) (x : Story) (t : ℕ) → NamesApart label (world s x t)
+pub named_world : (s : Settings) (x : Story) (t : ℕ) → NamesApart label (world None s x t)
 named_world s x t = named_from None s (apart_nil label) x t

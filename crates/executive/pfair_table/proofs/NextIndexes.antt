@@ -17,14 +17,13 @@ use Rattle.pfair_replica.specs.Replica.{said}
 use Rattle.pfair_entry.specs.declared.said.Said.{Said}
 use Rattle.pfair_admission.specs.Admission.{Machine, is_named, newcomer, is_freed, boundary, with_freeing, with_delay, ran, with_quantum, announcements}
 use Rattle.pfair_admission.specs.Member.{Member}
-use Rattle.pfair_table.specs.Table.{Settings, Origin, Table, History, machine, names_task, quanta, next_index, counted, counted_one, members_at, all_ran, Story, history_over}
+use Rattle.pfair_table.specs.Table.{Settings, Origin, Table, History, machine, names_task, quanta, next_index, counted, counted_one, members_at, all_ran, Story, history, world, table}
 use Rattle.pfair_table.specs.declared.pick.Pick.{Pick}
 use Rattle.pfair_weight.specs.Name.{NamesApart}
 use Rattle.pfair_weight.proofs.NamesApart.{apart_head, apart_nil, apart_tail}
 use Rattle.pfair_admission.proofs.Each.{each, each_filter, each_map}
 use Rattle.pfair_admission.proofs.Effects.{by_boundary, by_effect, each_change}
 use Rattle.pfair_table.specs.Laws.{RunsAreCounted}
-use Rattle.pfair_table.proofs.FirstRuns.{history, world, table}
 use Rattle.pfair_table.proofs.TableLaws.{ordered_from}
 
 -- ---- what holds of each member
@@ -74,12 +73,9 @@ pub record IsCounted (t : ℕ) (tables : List Table) (m : Member) : Type 0 where
 counted_at : (s : Settings) (t : ℕ) (announced : List Said) (h : History) → length h.tables ≡ t → AllByRecursion (IsCounted t h.tables) h.members → AllByRecursion (IsCounted t h.tables) (members_at s t announced h)
 counted_at s t announced h e = grind (arith, each_boundary, drop_all)
 
-pub long_from : (o : Origin) (s : Settings) (x : Story) (t : ℕ) → length (history_over o s x t).tables ≡ t
-long_from o s x zero = refl
-long_from o s x (suc t) = grind (arith, length-append, long_from o s x t)
-
-pub long_history : (s : Settings) (x : Story) (t : ℕ) → length (history s x t).tables ≡ t
-long_history = long_from None
+pub long_history : (o : Origin) (s : Settings) (x : Story) (t : ℕ) → length (history o s x t).tables ≡ t
+long_history o s x zero = refl
+long_history o s x (suc t) = grind (arith, length-append, long_history o s x t)
 
 -- a member, counted by one more table
 one_more : (t : ℕ) (tables : List Table) (table : Table) → length tables ≡ t → (m : Member) → IsCounted t tables m → after_table table m ≡ counted_one (tables ++ table ∷ []) m
@@ -99,34 +95,34 @@ still_counted : (t : ℕ) (tables : List Table) (table : Table) → length table
 still_counted t tables table e m h = (let le = h.by_now in record { by_now = omega (arith, le); next_is = refl })
 
 -- adding one for each row is counting by the tables so far
-one_on : (s : Settings) (x : Story) (t : ℕ) → AllByRecursion (IsCounted t (history s x t).tables) (world s x t) → all_ran (table s x t) (world s x t) ≡ counted (history s x (suc t)).tables (world s x t)
+one_on : (s : Settings) (x : Story) (t : ℕ) → AllByRecursion (IsCounted t (history None s x t).tables) (world None s x t) → all_ran (table None s x t) (world None s x t) ≡ counted (history None s x (suc t)).tables (world None s x t)
 one_on s x t count =
-    let tables = (history s x t).tables in
-    all_ran_is (table s x t) (ordered_from None s (apart_nil (λ (m : Member). m.name)) x t).0.1 (world s x t)
-    ∙ map_same (after_table (table s x t)) (counted_one (tables ++ table s x t ∷ [])) (world s x t)
-    (λ m h. one_more t tables (table s x t) (long_history s x t) m (among_all (IsCounted t tables) (world s x t) count m h))
+    let tables = (history None s x t).tables in
+    all_ran_is (table None s x t) (ordered_from None s (apart_nil (λ (m : Member). m.name)) x t).0.1 (world None s x t)
+    ∙ map_same (after_table (table None s x t)) (counted_one (tables ++ table None s x t ∷ [])) (world None s x t)
+    (λ m h. one_more t tables (table None s x t) (long_history None s x t) m (among_all (IsCounted t tables) (world None s x t) count m h))
 
-counted_history : (s : Settings) (x : Story) (t : ℕ) → AllByRecursion (IsCounted t (history s x t).tables) (history s x t).members
+counted_history : (s : Settings) (x : Story) (t : ℕ) → AllByRecursion (IsCounted t (history None s x t).tables) (history None s x t).members
 counted_history s x zero = tt
 counted_history s x (suc t) =
-    let tables = (history s x t).tables in
-    let count = counted_at s t (x t) (history s x t) (long_history s x t) (counted_history s x t) in
-    subst (AllByRecursion (IsCounted (suc t) (tables ++ table s x t ∷ []))) (sym (one_on s x t count))
-    (each_map (IsCounted t tables) (IsCounted (suc t) (tables ++ table s x t ∷ [])) (counted_one (tables ++ table s x t ∷ []))
-    (still_counted t tables (table s x t) (long_history s x t)) (world s x t) count)
+    let tables = (history None s x t).tables in
+    let count = counted_at s t (x t) (history None s x t) (long_history None s x t) (counted_history s x t) in
+    subst (AllByRecursion (IsCounted (suc t) (tables ++ table None s x t ∷ []))) (sym (one_on s x t count))
+    (each_map (IsCounted t tables) (IsCounted (suc t) (tables ++ table None s x t ∷ [])) (counted_one (tables ++ table None s x t ∷ []))
+    (still_counted t tables (table None s x t) (long_history None s x t)) (world None s x t) count)
 
-pub counted_world : (s : Settings) (x : Story) (t : ℕ) → AllByRecursion (IsCounted t (history s x t).tables) (world s x t)
-counted_world s x t = counted_at s t (x t) (history s x t) (long_history s x t) (counted_history s x t)
+pub counted_world : (s : Settings) (x : Story) (t : ℕ) → AllByRecursion (IsCounted t (history None s x t).tables) (world None s x t)
+counted_world s x t = counted_at s t (x t) (history None s x t) (long_history None s x t) (counted_history s x t)
 
-pub counted_on : (s : Settings) (x : Story) (t : ℕ) → all_ran (table s x t) (world s x t) ≡ counted (history s x (suc t)).tables (world s x t)
+pub counted_on : (s : Settings) (x : Story) (t : ℕ) → all_ran (table None s x t) (world None s x t) ≡ counted (history None s x (suc t)).tables (world None s x t)
 counted_on s x t = one_on s x t (counted_world s x t)
 
 pub runs_are_counted : RunsAreCounted
 runs_are_counted s x t = counted_on s (said x) t
 
-pub joined_world : (s : Settings) (x : Story) (t : ℕ) → AllByRecursion (λ m. m.joined ≤ t) (world s x t)
-joined_world s x t = each (IsCounted t (history s x t).tables) (λ m. m.joined ≤ t) (λ m c. c.by_now) (world s x t) (counted_world s x t)
+pub joined_world : (s : Settings) (x : Story) (t : ℕ) → AllByRecursion (λ m. m.joined ≤ t) (world None s x t)
+joined_world s x t = each (IsCounted t (history None s x t).tables) (λ m. m.joined ≤ t) (λ m c. c.by_now) (world None s x t) (counted_world s x t)
 
 -- so the members of the next slot follow from those of this one, counted by the tables so far
-pub world_counted : (s : Settings) (x : Story) (t : ℕ) → world s x (suc t) ≡ boundary (machine s) (suc t) (counted (history s x (suc t)).tables (world s x t)) (announcements (x (suc t)))
+pub world_counted : (s : Settings) (x : Story) (t : ℕ) → world None s x (suc t) ≡ boundary (machine s) (suc t) (counted (history None s x (suc t)).tables (world None s x t)) (announcements (x (suc t)))
 world_counted s x t = ap (λ ms. boundary (machine s) (suc t) ms (announcements (x (suc t)))) (counted_on s x t)

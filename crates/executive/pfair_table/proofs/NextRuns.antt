@@ -20,7 +20,7 @@ use Rattle.pfair_table.specs.NextRun.{CanBeFollowed, IsFinished, IsNextRunFault,
 use Rattle.pfair_table.specs.Places.{table_before, places_before, places_in, IsFit, ArePlacesOf}
 use Rattle.pfair_table.specs.Planned.{last_or}
 use Rattle.pfair_table.specs.Refinement.{Dispatch, IsKept, members_after}
-use Rattle.pfair_table.specs.Table.{Settings, Origin, Carried, Table, machine, slot_of, history_from, history_over}
+use Rattle.pfair_table.specs.Table.{Settings, Origin, Carried, Table, machine, slot_of, history}
 use Rattle.pfair_table.proofs.Alike.{untorn_right}
 use Rattle.pfair_table.proofs.Keeping.{is_of_held, plan_now, step_now}
 use Rattle.pfair_table.proofs.Left.{all_left}
@@ -40,11 +40,11 @@ module _ {o : Origin} {s : Settings} {replica : Replica} {tables : List Table} {
       (step_now kept sound test able).members_are ∙ ap (members_after o s replica) long
 
   -- and the tables are those of all slots
-  pub left_tables : tables ≡ (history_from o s replica s.slots).tables
+  pub left_tables : tables ≡ (history o s (said replica) s.slots).tables
   left_tables =
       let wanted = kept.plan.wanted in
       let long : length tables ≡ s.slots = omega (arith, wanted, all) in
-      (plan_now kept sound test).tables_are ∙ ap (λ n. (history_from o s replica n).tables) long
+      (plan_now kept sound test).tables_are ∙ ap (λ n. (history o s (said replica) n).tables) long
 
   -- and with their jobs taken off, a next run can begin with them
   pub carried_on : (slots : ℕ) (c : Carried) → c.slot ≡ slot_of o s.slots → c.machine ≡ machine s → c.members ≡ map carried (members_after o s replica s.slots) → AllByRecursion CanBeCarried (members_after o s replica s.slots)
@@ -106,6 +106,6 @@ left_alike {o} {q} {s} {r} {x} {y} {tx} {ty} kx ky sound_x sound_y same began ag
     let all_y = fy.all in
     let said_alike : (u : ℕ) → u < s.slots → said (replica_of x) u ≡ said (replica_of y) u =
     λ u l. same_said (replica_of x) (replica_of y) sound_x sound_y (of_x.processors ∙ processors_are ∙ sym of_y.processors) agree u (omega (arith, l, px.early, all_x)) (omega (arith, l, py.early, all_y, slots_are)) in
-    let past : history_over o s (said (replica_of x)) s.slots ≡ history_over q r (said (replica_of y)) r.slots =
-    same_history o s (said (replica_of x)) (said (replica_of y)) s.slots said_alike ∙ (λ i. history_over (began i) (same i) (said (replica_of y)) (same i).slots) in
+    let past : history o s (said (replica_of x)) s.slots ≡ history q r (said (replica_of y)) r.slots =
+    same_history o s (said (replica_of x)) (said (replica_of y)) s.slots said_alike ∙ (λ i. history (began i) (same i) (said (replica_of y)) (same i).slots) in
     grind (arith, map)

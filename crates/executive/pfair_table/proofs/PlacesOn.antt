@@ -7,7 +7,7 @@ use Rattle.pfair_replica.specs.Replica.{Replica, said, numbers_below}
 use Rattle.pfair_weight.proofs.NamesApart.{apart_nil}
 use Rattle.pfair_table.specs.declared.pick.Decided.{Decided}
 use Rattle.pfair_table.specs.declared.pick.Pick.{Pick}
-use Rattle.pfair_table.specs.Table.{Settings, Origin, Table, table_from}
+use Rattle.pfair_table.specs.Table.{Settings, Origin, Table, table}
 use Rattle.pfair_table.specs.Places.{places_after, places_from, places_in, table_before, places_before, IsFit, ArePlacesOf}
 use Rattle.pfair_table.specs.Planned.{last_or}
 use Rattle.pfair_table.specs.Refinement.{IsPlanOf}
@@ -58,8 +58,8 @@ last_places m before old are (now ∷ tables) fit = last_places m now (places_af
 pub fit_plan : {o : Origin} {s : Settings} {replica of : Replica} {tables : List Table} {decided : List (List Decided)} → IsOrigin o s → IsPlanOf o s replica of tables decided → AllByRecursion (IsFit s.processors) tables
 fit_plan {o} {s} {of} {tables} began plan =
     subst (AllByRecursion (IsFit s.processors)) (sym (plan.tables_are ∙ tables_listed o s of (length tables)))
-    (all_among (IsFit s.processors) (map (table_from o s of) (numbers_below (length tables)))
-    (λ rows h. (let t = among_map (table_from o s of) (numbers_below (length tables)) rows h in
+    (all_among (IsFit s.processors) (map (table o s (said of)) (numbers_below (length tables)))
+    (λ rows h. (let t = among_map (table o s (said of)) (numbers_below (length tables)) rows h in
     let fit = ordered_from o s (named_before o s began) (said of) t.0 in
     subst (IsFit s.processors) (sym t.2) fit.0)))
 

@@ -12,18 +12,18 @@ use Rattle.pfair_lattice.specs.HeldLaws.{join_least, join_first, join_second, be
 use Rattle.pfair_entry.specs.Entry.{Logged, IsEntry}
 use Rattle.pfair_entry.specs.Same.{entry_eq}
 use Rattle.pfair_entry.specs.Exact.{entry_exact}
-use Rattle.pfair_replica.specs.Replica.{Replica, IsReplica, Below, Untorn, Agree, frontier, numbers_below, has_torn}
+use Rattle.pfair_replica.specs.Replica.{Replica, IsReplica, Below, Untorn, Agree, frontier, numbers_below, has_torn, said}
 use Rattle.pfair_replica.proofs.Marks.{below_agree, frontier_le}
 use Rattle.pfair_replica.proofs.OfferedTo.{offered_stays}
 use Rattle.pfair_replica.proofs.TornKeys.{untorn_by_test}
-use Rattle.pfair_table.specs.Table.{Settings, Origin, Table, table_from, decisions_from, plan_from}
+use Rattle.pfair_table.specs.Table.{Settings, Origin, Table, table, decisions, plan}
 use Rattle.pfair_table.specs.declared.pick.Decided.{Decided}
 use Rattle.pfair_replica.specs.Offered.{taken, absorbed}
 use Rattle.pfair_table.specs.declared.event.Event.{Event}
 use Rattle.pfair_table.specs.declared.event.Event.TheVariants.{Take, Absorb, Plan}
 use Rattle.pfair_table.specs.Events.{IsEvent, Course, begin_at, is_plannable, with_next_slot, happens, run}
 use Rattle.pfair_table.specs.Laws.{IsOf, IsPrefixOf, OneSchedule, PlanSoFar}
-use Rattle.pfair_table.proofs.TableLaws.{one_table, one_table_from, prefix_map}
+use Rattle.pfair_table.proofs.TableLaws.{one_table, prefix_map}
 
 -- ---- lists
 
@@ -72,8 +72,8 @@ pub record WasPlanned (o : Origin) (s : Settings) (of : Replica) (tables : List 
   pub whole : Untorn of
   pub early : t < frontier of
   pub wanted : t < s.slots
-  pub table_is : slice_get tables t ≡ Some (table_from o s of t)
-  pub decided_is : slice_get decided t ≡ Some (decisions_from o s of t)
+  pub table_is : slice_get tables t ≡ Some (table o s (said of) t)
+  pub decided_is : slice_get decided t ≡ Some (decisions o s (said of) t)
 
 -- each slot was planned of a replica that is still held
 pub record IsSound (s : Settings) (c : Course) : Type 0 where
@@ -95,10 +95,10 @@ sound_next s c sound ok =
     let p = and_parts (not (has_torn c.replica)) (nat_lt (length c.tables) (frontier c.replica) && nat_lt (length c.tables) s.slots) ok in
     let q = and_parts (nat_lt (length c.tables) (frontier c.replica)) (nat_lt (length c.tables) s.slots) p.1 in
     let u = length c.tables in
-    let tables = c.tables ++ table_from c.origin s c.replica u ∷ [] in
-    let decided = c.decided ++ decisions_from c.origin s c.replica u ∷ [] in
-    let lt = length-append c.tables (table_from c.origin s c.replica u ∷ []) in
-    let ld = length-append c.decided (decisions_from c.origin s c.replica u ∷ []) in
+    let tables = c.tables ++ table c.origin s (said c.replica) u ∷ [] in
+    let decided = c.decided ++ decisions c.origin s (said c.replica) u ∷ [] in
+    let lt = length-append c.tables (table c.origin s (said c.replica) u ∷ []) in
+    let ld = length-append c.decided (decisions c.origin s (said c.replica) u ∷ []) in
     let same = sound.as_many in
     record {
       is_of = sound.is_of;
@@ -112,8 +112,8 @@ sound_next s c sound ok =
             whole = w.2.whole;
             early = w.2.early;
             wanted = w.2.wanted;
-            table_is = get_left c.tables (table_from c.origin s c.replica u ∷ []) t old ∙ w.2.table_is;
-            decided_is = get_left c.decided (decisions_from c.origin s c.replica u ∷ []) t (omega (arith, same, old)) ∙ w.2.decided_is;
+            table_is = get_left c.tables (table c.origin s (said c.replica) u ∷ []) t old ∙ w.2.table_is;
+            decided_is = get_left c.decided (decisions c.origin s (said c.replica) u ∷ []) t (omega (arith, same, old)) ∙ w.2.decided_is;
           },
         ))
         | inr new ↦ (
@@ -162,7 +162,7 @@ planned_now s c sound whole t l =
     let w = p.2 in
     let le = frontier_le p.0 c.replica sound.is_of.replica (w.is_of.processors ∙ sym sound.is_of.processors) p.1 whole in
     let early : t < frontier c.replica = omega (arith, le, w.early) in
-    let same = one_table_from c.origin s p.0 c.replica w.is_of sound.is_of (below_agree p.0 c.replica p.1 whole) t w.early early in
+    let same = one_table c.origin s p.0 c.replica w.is_of sound.is_of (below_agree p.0 c.replica p.1 whole) t w.early early in
     grind arith
 
 pub one_schedule : OneSchedule
@@ -177,12 +177,12 @@ one_schedule o s m n es fs all_es all_fs agree t lc ld =
     grind (arith, origin_stays)
 
 -- a list of as many tables, each that of its slot, begins the plan
-begins_plan : (o : Origin) (s : Settings) (x : Replica) (tables : List Table) → length tables ≤ min (frontier x) s.slots → ((t : ℕ) → t < length tables → slice_get tables t ≡ Some (table_from o s x t)) → IsPrefixOf tables (plan_from o s x)
+begins_plan : (o : Origin) (s : Settings) (x : Replica) (tables : List Table) → length tables ≤ min (frontier x) s.slots → ((t : ℕ) → t < length tables → slice_get tables t ≡ Some (table o s (said x) t)) → IsPrefixOf tables (plan o s x)
 begins_plan o s x tables le each =
     let n = length tables in
-    let long = length-map (numbers_below n) (table_from o s x) ∙ length_numbers n in
-    let is = same_list tables (map (table_from o s x) (numbers_below n)) (sym long) (λ t l. each t l ∙ sym (get_numbers (table_from o s x) n t l)) in
-    subst (λ (ts : List Table). IsPrefixOf ts (plan_from o s x)) (sym is) (prefix_map (table_from o s x) (table_from o s x) n (min (frontier x) s.slots) le (λ t l. refl))
+    let long = length-map (numbers_below n) (table o s (said x)) ∙ length_numbers n in
+    let is = same_list tables (map (table o s (said x)) (numbers_below n)) (sym long) (λ t l. each t l ∙ sym (get_numbers (table o s (said x)) n t l)) in
+    subst (λ (ts : List Table). IsPrefixOf ts (plan o s x)) (sym is) (prefix_map (table o s (said x)) (table o s (said x)) n (min (frontier x) s.slots) le (λ t l. refl))
 
 -- each number below n is below m
 all_below : (n m : ℕ) → ((t : ℕ) → t < n → t < m) → n ≤ m
@@ -192,4 +192,6 @@ pub plan_so_far : PlanSoFar
 plan_so_far o s m events all untorn =
     let c = run s (begin_at o s m) events in
     let now = planned_now s c (sound_run s events (begin_at o s m) all (sound_start o s m)) untorn in
-    grind (arith, begins_plan, all_below, origin_stays)
+    let few : length c.tables ≤ min (frontier c.replica) s.slots =
+    all_below (length c.tables) (min (frontier c.replica) s.slots) (λ t l. let early = (now t l).early in let wanted = (now t l).wanted in omega (arith, early, wanted)) in
+    subst (λ (p : Origin). IsPrefixOf c.tables (plan p s c.replica)) (origin_stays s events (begin_at o s m)) (begins_plan c.origin s c.replica c.tables few (λ t l. (now t l).table_is))

@@ -37,7 +37,7 @@ use Rattle.pfair_table.specs.declared.pick.Pick.{Pick}
 use Rattle.pfair_table.specs.Places.{all_kept, filled, place_of, places_after, places_before, places_in, table_before}
 use Rattle.pfair_table.specs.Planned.{last_or}
 use Rattle.pfair_table.specs.Ranks.{first_by_rank}
-use Rattle.pfair_table.specs.Table.{Settings, Origin, Story, Table, machine, names_task, is_eligible, eligible, pick, all_ran, chosen, index_of, slot_of, with_decisions, history_over, world_over, table_over, decisions_over}
+use Rattle.pfair_table.specs.Table.{Settings, Origin, Story, Table, machine, names_task, is_eligible, eligible, pick, all_ran, chosen, index_of, slot_of, with_decisions, history, world, table, decisions}
 use Rattle.pfair_table.specs.RunsOn.{IsWeighedStory, HasBegun, IsBegun, IsSlotOf, RunsGoOn, both_stories, last_places, last_table, left_over, raised_rows}
 use Rattle.pfair_table.proofs.FirstByRank.{among_first}
 use Rattle.pfair_table.proofs.FirstSubtasks.{found_own}
@@ -140,14 +140,14 @@ module _ (slot : ℕ) where
 -- ---- a run from where it began
 
 module _ (o : Origin) (s : Settings) (began : IsBegun o) where
-  pub begun_over : (story : Story) → IsWeighedStory story → (t : ℕ) → AllByRecursion (HasBegun (slot_of o t)) (history_over o s story t).members
+  pub begun_over : (story : Story) → IsWeighedStory story → (t : ℕ) → AllByRecursion (HasBegun (slot_of o t)) (history o s story t).members
   begun_over story weights zero = began.begun
   begun_over story weights (suc t) = grind (arith, each, begun_decided, each_filter, slot_more, begun_ran, named_from, begun_over story weights t)
 
   -- so a next run can begin with what is left
   pub left_begun : (story : Story) → IsWeighedStory story → (n : ℕ) → IsBegun (Some (left_over o s story n))
   left_begun story weights n =
-      let members = (history_over o s story n).members in
+      let members = (history o s story n).members in
       record {
         named = apart_map label label carried (λ m. refl) members (named_history o s began.named story n);
         begun = each_map (HasBegun (slot_of o n)) (HasBegun (slot_of o n + 0)) carried carried_begun members (begun_over story weights n);
@@ -200,7 +200,7 @@ decisions_are (a ∷ announced) (d ∷ ds) e = ap (λ l. d ∷ l) (decisions_are
 
 module _ (o : Origin) (s : Settings) (first : Story) (n : ℕ) (began : IsBegun o) (weights : IsWeighedStory first) (second : Story) (more : IsWeighedStory second) where
   abbrev pub left : List Member
-  left = (history_over o s first n).members
+  left = (history o s first n).members
 
   abbrev pub begin : ℕ
   begin = slot_of o n
@@ -216,7 +216,7 @@ module _ (o : Origin) (s : Settings) (first : Story) (n : ℕ) (began : IsBegun 
 
   -- what is said in the long run
   abbrev pub raised_at : ℕ → List Said
-  raised_at t = all_raised left begin (machine s) (begin + t) (present (begin + t) (history_over next s second t).members) (second t)
+  raised_at t = all_raised left begin (machine s) (begin + t) (present (begin + t) (history next s second t).members) (second t)
 
   pub long_early : (u : ℕ) → u < n → long u ≡ first u
   long_early u h = (let early : nat_lt u n ≡ true = grind (arith, nat_tests) in ap (λ b. if b then first u else raised_at (u - n)) early)
@@ -256,20 +256,20 @@ module _ (o : Origin) (s : Settings) (first : Story) (n : ℕ) (began : IsBegun 
       record { pairs = carried_pair m (h m (inl refl)) ∷ rest.pairs; longs_are = ap (λ (l : List Member). m ∷ l) rest.longs_are; shorts_are = ap (λ (l : List Member). carried m ∷ l) rest.shorts_are }
 
   -- a boundary
-  decided_in : (t k : ℕ) → k ≡ n + t → (L : List Member) → ArePaired left begin (begin + t) L (history_over next s second t).members
-      → AreDecided left begin (machine s) (begin + t) (present (begin + t) L) (present (begin + t) (history_over next s second t).members) (second t)
+  decided_in : (t k : ℕ) → k ≡ n + t → (L : List Member) → ArePaired left begin (begin + t) L (history next s second t).members
+      → AreDecided left begin (machine s) (begin + t) (present (begin + t) L) (present (begin + t) (history next s second t).members) (second t)
   decided_in t k e L a =
-      let S = (history_over next s second t).members in
+      let S = (history next s second t).members in
       all_paired left begin (omega arith) (machine s) (second t) (more t) (present (begin + t) L) (present (begin + t) S) (present_paired left begin (begin + t) L S a) (apart_present (begin + t) S (named_history next s begins.named second t))
 
-  world_paired : (t k : ℕ) → k ≡ n + t → ArePaired left begin (begin + t) (history_over o s long k).members (history_over next s second t).members → ArePaired left begin (begin + t) (world_over o s long k) (world_over next s second t)
+  world_paired : (t k : ℕ) → k ≡ n + t → ArePaired left begin (begin + t) (history o s long k).members (history next s second t).members → ArePaired left begin (begin + t) (world o s long k) (world next s second t)
   world_paired t k e a = grind (arith, slot_at, long_late, decided_in)
 
   -- the quanta
-  chosen_same : (t k : ℕ) → k ≡ n + t → ArePaired left begin (begin + t) (world_over o s long k) (world_over next s second t) → chosen s (begin + t) (world_over next s second t) ≡ chosen s (slot_of o k) (world_over o s long k)
+  chosen_same : (t k : ℕ) → k ≡ n + t → ArePaired left begin (begin + t) (world o s long k) (world next s second t) → chosen s (begin + t) (world next s second t) ≡ chosen s (slot_of o k) (world o s long k)
   chosen_same t k e a =
-      let L = world_over o s long k in
-      let S = world_over next s second t in
+      let L = world o s long k in
+      let S = world next s second t in
       ap (first_by_rank s.processors) (keys_paired left begin (λ key freed. key) (filter (is_eligible (begin + t)) L) (filter (is_eligible (begin + t)) S) (eligible_paired left begin (begin + t) L S a))
       ∙ ap (λ slot. chosen s slot L) (sym (slot_at t k e))
 
@@ -277,39 +277,39 @@ module _ (o : Origin) (s : Settings) (first : Story) (n : ℕ) (began : IsBegun 
   rows_paired [] M N L S a = a
   rows_paired (k ∷ ks) M N L S a = rows_paired ks M N (ran k.name L) (ran k.name S) (ran_paired left begin k.name L S a)
 
-  past : history_over o s long n ≡ history_over o s first n
+  past : history o s long n ≡ history o s first n
   past = same_history o s long first n long_early
 
-  pub members_paired : (t k : ℕ) → k ≡ n + t → ArePaired left begin (begin + t) (history_over o s long k).members (history_over next s second t).members
+  pub members_paired : (t k : ℕ) → k ≡ n + t → ArePaired left begin (begin + t) (history o s long k).members (history next s second t).members
   members_paired zero k e =
       let now : k ≡ n = omega (arith, e) in
       let none : begin + 0 ≡ begin = omega arith in
-      subst (λ h. ArePaired left begin (begin + 0) h.members (map carried left)) (sym (ap (history_over o s long) now ∙ past))
+      subst (λ h. ArePaired left begin (begin + 0) h.members (map carried left)) (sym (ap (history o s long) now ∙ past))
       (subst (λ u. ArePaired left begin u left (map carried left)) (sym none) (carried_paired left (λ m h. h)))
   members_paired (suc t) zero e = absurd (omega (arith, e))
   members_paired (suc t) (suc k) e =
       let before : k ≡ n + t = omega (arith, e) in
-      let L = world_over o s long k in
-      let S = world_over next s second t in
+      let L = world o s long k in
+      let S = world next s second t in
       let world = world_paired t k before (members_paired t k before) in
       let later : begin + t + 1 ≡ begin + suc t = omega arith in
       let ran = rows_paired (chosen s (begin + t) S) L S L S world in
-      subst (λ u. ArePaired left begin u (history_over o s long (suc k)).members (history_over next s second (suc t)).members) later
+      subst (λ u. ArePaired left begin u (history o s long (suc k)).members (history next s second (suc t)).members) later
       (grind (arith, later_paired, map, chosen_same))
 
-  pub world_at : (t k : ℕ) → k ≡ n + t → ArePaired left begin (begin + t) (world_over o s long k) (world_over next s second t)
+  pub world_at : (t k : ℕ) → k ≡ n + t → ArePaired left begin (begin + t) (world o s long k) (world next s second t)
   world_at t k e = world_paired t k e (members_paired t k e)
 
-  pub names_same : (t k : ℕ) → k ≡ n + t → names_of (table_over next s second t) ≡ names_of (table_over o s long k)
+  pub names_same : (t k : ℕ) → k ≡ n + t → names_of (table next s second t) ≡ names_of (table o s long k)
   names_same t k e =
-      let L = world_over o s long k in
-      let S = world_over next s second t in
+      let L = world o s long k in
+      let S = world next s second t in
       map-map (λ (p : Pick). p.name) (pick S) (chosen s (begin + t) S) ∙ ap (map (λ (q : Key). q.name)) (chosen_same t k e (world_at t k e))
       ∙ sym (map-map (λ (p : Pick). p.name) (pick L) (chosen s (slot_of o k) L))
 
   pub record AreLast (t k : ℕ) : Type 0 where
-    pub names : names_of (last_table next (history_over next s second t)) ≡ names_of (last_table o (history_over o s long k))
-    pub places : last_places next (history_over next s second t) ≡ last_places o (history_over o s long k)
+    pub names : names_of (last_table next (history next s second t)) ≡ names_of (last_table o (history o s long k))
+    pub places : last_places next (history next s second t) ≡ last_places o (history o s long k)
 
   last_same : (t k : ℕ) → k ≡ n + t → AreLast t k
   last_same zero k e = grind (arith, past)
@@ -317,10 +317,10 @@ module _ (o : Origin) (s : Settings) (first : Story) (n : ℕ) (began : IsBegun 
   last_same (suc t) (suc k) e =
       let before : k ≡ n + t = omega (arith, e) in
       let was = last_same t k before in
-      let near = history_over next s second t in
-      let there = history_over o s long k in
-      let rows = table_over next s second t in
-      let far = table_over o s long k in
+      let near = history next s second t in
+      let there = history o s long k in
+      let rows = table next s second t in
+      let far = table o s long k in
       let same = names_same t k before in
       record {
         names = ap names_of (last_more (table_before next) near.tables rows) ∙ same ∙ sym (ap names_of (last_more (table_before o) there.tables far));
@@ -330,10 +330,10 @@ module _ (o : Origin) (s : Settings) (first : Story) (n : ℕ) (began : IsBegun 
             ∙ sym (ap (last_or (places_before o)) (next_are o there.tables far) ∙ last_more (places_before o) (places_in o there.tables) (places_after (last_table o there) (last_places o there) far));
       }
 
-  rows_same : (t k : ℕ) → k ≡ n + t → raised_rows left begin (world_over next s second t) (table_over next s second t) ≡ table_over o s long k
+  rows_same : (t k : ℕ) → k ≡ n + t → raised_rows left begin (world next s second t) (table next s second t) ≡ table o s long k
   rows_same t k e =
-      let L = world_over o s long k in
-      let S = world_over next s second t in
+      let L = world o s long k in
+      let S = world next s second t in
       let a = world_at t k e in
       map-map (raise S) (pick S) (chosen s (begin + t) S)
       ∙ map_same (λ (q : Key). raise S (pick S q)) (pick L) (chosen s (begin + t) S) (λ q h. ap (λ i. record { name = q.name; index = i }) (sym (index_paired left begin index_of refl (λ m. refl) q.name L S a)))
@@ -342,10 +342,10 @@ module _ (o : Origin) (s : Settings) (first : Story) (n : ℕ) (began : IsBegun 
       raise : List Member → Pick → Pick
       raise members p = record p { index = p.index + taken_off left begin (member_named members p.name) }
 
-  decided_same : (t k : ℕ) → k ≡ n + t → map (λ d. d.decision) (decisions_over next s second t) ≡ map (λ d. d.decision) (decisions_over o s long k)
+  decided_same : (t k : ℕ) → k ≡ n + t → map (λ d. d.decision) (decisions next s second t) ≡ map (λ d. d.decision) (decisions o s long k)
   decided_same t k e =
-      let L = (history_over o s long k).members in
-      let S = (history_over next s second t).members in
+      let L = (history o s long k).members in
+      let S = (history next s second t).members in
       let near = one_each (machine s) (begin + t) S (announcements (second t)) ∙ length-map (second t) (λ (a : Said). a.announcement) in
       let there = one_each (machine s) (slot_of o k) L (announcements (long k)) ∙ length-map (long k) (λ (a : Said). a.announcement) in
       decisions_are (second t) (boundary_decisions (machine s) (begin + t) S (announcements (second t))) near
@@ -355,10 +355,10 @@ module _ (o : Origin) (s : Settings) (first : Story) (n : ℕ) (began : IsBegun 
 
   pub slot_same : (t : ℕ) → IsSlotOf o s first n second t
   slot_same t = record {
-    members = keys_paired left begin (λ key freed. (key, freed)) (world_over o s long (n + t)) (world_over next s second t) (world_at t (n + t) refl);
-    left = keys_paired left begin (λ key freed. (key, freed)) (history_over o s long (suc (n + t))).members (history_over next s second (suc t)).members (members_paired (suc t) (suc (n + t)) (omega arith));
+    members = keys_paired left begin (λ key freed. (key, freed)) (world o s long (n + t)) (world next s second t) (world_at t (n + t) refl);
+    left = keys_paired left begin (λ key freed. (key, freed)) (history o s long (suc (n + t))).members (history next s second (suc t)).members (members_paired (suc t) (suc (n + t)) (omega arith));
     lags = (let paired = members_paired (suc t) (suc (n + t)) (omega arith) in
-        lags_paired left begin (slot_of o (suc (n + t))) (let at = slot_at (suc t) (suc (n + t)) (omega arith) in omega (arith, at)) (history_over o s long (suc (n + t))).members (history_over next s second (suc t)).members paired);
+        lags_paired left begin (slot_of o (suc (n + t))) (let at = slot_at (suc t) (suc (n + t)) (omega arith) in omega (arith, at)) (history o s long (suc (n + t))).members (history next s second (suc t)).members paired);
     rows = rows_same t (n + t) refl;
     decided = decided_same t (n + t) refl;
     places = (last_same (suc t) (suc (n + t)) (omega arith)).places;

@@ -5,7 +5,7 @@ use Rattle.std.specs.Result.{IsErrAnd}
 use Rattle.std.proofs.lemmas.List.{map-append}
 use Rattle.pfair_weight.proofs.NamesApart.{apart_nil}
 use Rattle.pfair_replica.specs.ReplicaRows.{ReplicaRows, replica_of}
-use Rattle.pfair_replica.specs.Replica.{Replica, IsReplica, has_torn, frontier, numbers_below}
+use Rattle.pfair_replica.specs.Replica.{Replica, IsReplica, has_torn, frontier, numbers_below, said}
 use Rattle.pfair_ready.specs.Queue.{Queue}
 use Rattle.pfair_admission.specs.Roster.{Roster}
 use Rattle.pfair_table.specs.declared.pick.Decided.{Decided}
@@ -48,7 +48,7 @@ module _ (of : ReplicaRows) (n : ℕ) {s : Settings} {x : ReplicaRows} {spent : 
   plannable = λ i. is_plannable (settings_are i) (replica_of d.replica) (planned_are i)
 
   pub next_plan : (next : SlotPlan) → IsTrue (is_plannable s (replica_of d.replica) n) → s.processors ≤ 64
-      → next.table.items ≡ table s (replica_of d.replica) n → next.decided.items ≡ decisions s (replica_of d.replica) n → IsNextPlan d (Some next)
+      → next.table.items ≡ table None s (said (replica_of d.replica)) n → next.decided.items ≡ decisions None s (said (replica_of d.replica)) n → IsNextPlan d (Some next)
   next_plan next can most table_is decided_is =
       let fit = (tables_are_ordered None s (replica_of d.replica) n (apart_nil label)).0 in
       grind (arith, fit, plannable, planned_are)
@@ -72,17 +72,17 @@ module _ (of : ReplicaRows) (n : ℕ) {s : Settings} {x : ReplicaRows} {spent : 
         let long = tables_long None s of n in
         subst IsWholePlan (ap (λ (h : ReplicaRows). at_slot s h of n spent) (sym (ap (λ (e : Dispatch). e.replica) view)) ∙ view) (whole_plan kept_of sound test (omega (arith, far, long)))
 
-    tables_more : tables_to None s d.replica (n + 1) ≡ tables_to None s of n ++ table s y n ∷ []
-    tables_more = ap (tables_to None s d.replica) (one_more n) ∙ ap (λ (ts : List Table). ts ++ table s y n ∷ []) (sym ((plan_now kept_of sound test).tables_are ∙ ap (tables_to None s d.replica) (tables_long None s of n)))
+    tables_more : tables_to None s d.replica (n + 1) ≡ tables_to None s of n ++ table None s (said y) n ∷ []
+    tables_more = ap (tables_to None s d.replica) (one_more n) ∙ ap (λ (ts : List Table). ts ++ table None s (said y) n ∷ []) (sym ((plan_now kept_of sound test).tables_are ∙ ap (tables_to None s d.replica) (tables_long None s of n)))
 
-    decided_more : decided_to None s d.replica (n + 1) ≡ decided_to None s of n ++ decisions s y n ∷ []
+    decided_more : decided_to None s d.replica (n + 1) ≡ decided_to None s of n ++ decisions None s (said y) n ∷ []
     decided_more =
-        ap (decided_to None s d.replica) (one_more n) ∙ map-append (decisions s y) (numbers_below n) (n ∷ [])
-        ∙ ap (λ (ds : List (List Decided)). ds ++ decisions s y n ∷ []) (sym ((plan_now kept_of sound test).decided_are ∙ ap (decided_to None s d.replica) (tables_long None s of n)))
+        ap (decided_to None s d.replica) (one_more n) ∙ map-append (decisions None s (said y)) (numbers_below n) (n ∷ [])
+        ∙ ap (λ (ds : List (List Decided)). ds ++ decisions None s (said y) n ∷ []) (sym ((plan_now kept_of sound test).decided_are ∙ ap (decided_to None s d.replica) (tables_long None s of n)))
 
     pub kept_seen : {z : ReplicaRows} {spent2 : Bool} {roster2 : Roster} {now2 : ℕ} {waiting2 : Queue} → z ≡ d.replica → n < frontier y → n < s.slots → IsInStep None s y (n + 1) roster2 now2 waiting2
         → IsKept None s (replica_of x) (tables_to None s z (n + 1)) (decided_to None s z (n + 1)) spent2 roster2 now2 waiting2
     kept_seen {roster2} {now2} {waiting2} same early wanted step = grind (arith, tables_long, kept_next, kept_of, tables_more, table, decided_more)
 
-    pub seen_after : {z : ReplicaRows} (next : SlotPlan) → z ≡ d.replica → next.table.items ≡ table s y n → next.decided.items ≡ decisions s y n → at_slot s x z (n + 1) spent ≡ after_plan d (Some next)
+    pub seen_after : {z : ReplicaRows} (next : SlotPlan) → z ≡ d.replica → next.table.items ≡ table None s (said y) n → next.decided.items ≡ decisions None s (said y) n → at_slot s x z (n + 1) spent ≡ after_plan d (Some next)
     seen_after next same table_is decided_is = grind (arith, tables_more, decided_more, planned_are, tables_long, one_more, table, plan_now, kept_of, map-append)

@@ -10,7 +10,7 @@ use Rattle.pfair_admission.specs.Admission.{Machine, boundary, announcements, wi
 use Rattle.pfair_admission.specs.Member.{Member}
 use Rattle.pfair_admission.specs.Roster.{Roster}
 use Rattle.pfair_table.specs.declared.pick.Pick.{Pick}
-use Rattle.pfair_table.specs.Table.{Settings, Origin, Table, machine, members_before, slot_of, history_from, world_from, table_from, all_ran, names_task}
+use Rattle.pfair_table.specs.Table.{Settings, Origin, Table, machine, members_before, slot_of, history, world, table, all_ran, names_task}
 use Rattle.pfair_table.specs.Queue.{IsQueue, IsSteady}
 use Rattle.pfair_table.specs.Limits.{IsOrigin}
 use Rattle.pfair_admission.specs.declared.members.TheConstants.Members.{LAST_SLOT}
@@ -40,19 +40,19 @@ few_ran n picks differ members all =
 
 -- in each slot of a run an index rises by one at most
 pub few_history : (o : Origin) (s : Settings) (most : ℕ) → 1 ≤ most → NamesApart label (members_before o) → AllByRecursion (λ m. m.next ≤ most) (members_before o) → (x : Replica) (t : ℕ)
-    → AllByRecursion (λ m. m.next ≤ most + t) (history_from o s x t).members
+    → AllByRecursion (λ m. m.next ≤ most + t) (history o s (said x) t).members
 few_history o s most some named few x zero = each (λ m. m.next ≤ most) (λ m. m.next ≤ most + 0) (λ m h. omega (arith, h)) (members_before o) few
 few_history o s most some named few x (suc t) =
-    let world = world_from o s x t in
+    let world = world o s (said x) t in
     let before = few_history o s most some named few x t in
-    each (λ m. m.next ≤ most + t + 1) (λ m. m.next ≤ most + suc t) (λ m h. omega (arith, h)) (all_ran (table_from o s x t) world)
-    (few_ran (most + t) (table_from o s x t) (ordered_from o s named (said x) t).0.1 world
-    (few_boundary (most + t) (machine s) (slot_of o t) (omega (arith, some)) (announcements (said x t)) (history_from o s x t).members before))
+    each (λ m. m.next ≤ most + t + 1) (λ m. m.next ≤ most + suc t) (λ m h. omega (arith, h)) (all_ran (table o s (said x) t) world)
+    (few_ran (most + t) (table o s (said x) t) (ordered_from o s named (said x) t).0.1 world
+    (few_boundary (most + t) (machine s) (slot_of o t) (omega (arith, some)) (announcements (said x t)) (history o s (said x) t).members before))
 
 -- so in each slot that a run can have, a member can run
-pub few_before : (o : Origin) (s : Settings) → IsOrigin o s → (x : Replica) (t : ℕ) → t < 1000000 → AllByRecursion (λ m. m.next < MAX_INDEX) (history_from o s x t).members
+pub few_before : (o : Origin) (s : Settings) → IsOrigin o s → (x : Replica) (t : ℕ) → t < 1000000 → AllByRecursion (λ m. m.next < MAX_INDEX) (history o s (said x) t).members
 few_before o s began x t early =
-    each (λ m. m.next ≤ 1000001 + t) (λ m. m.next < MAX_INDEX) (λ m h. omega (arith, h, early)) (history_from o s x t).members
+    each (λ m. m.next ≤ 1000001 + t) (λ m. m.next < MAX_INDEX) (λ m h. omega (arith, h, early)) (history o s (said x) t).members
     (few_history o s 1000001 (omega arith) (named_before o s began) (few o began) x t)
   where
     few : (o : Origin) → IsOrigin o s → AllByRecursion (λ m. m.next ≤ 1000001) (members_before o)

@@ -15,22 +15,22 @@ use Rattle.pfair_ready.specs.Queue.{Queue}
 use Rattle.pfair_admission.specs.Admission.{boundary, announcements}
 use Rattle.pfair_admission.specs.Roster.{Roster}
 use Rattle.pfair_table.specs.declared.pick.Decided.{Decided}
-use Rattle.pfair_table.specs.Table.{Settings, Origin, Table, eligible, pick, slot_of, all_ran, history_from, world_from, table_from, decisions_from}
+use Rattle.pfair_table.specs.Table.{Settings, Origin, Table, eligible, pick, slot_of, all_ran, history, world, table, decisions}
 use Rattle.pfair_table.specs.Laws.{IsOf}
 use Rattle.pfair_table.specs.Queue.{IsSteady}
 use Rattle.pfair_table.specs.Refinement.{IsPlanOf, IsInStep, IsKept, heard_before}
 use Rattle.pfair_replica.specs.Among.{map_same, among_below}
-use Rattle.pfair_table.proofs.TableLaws.{same_history, one_table_from}
+use Rattle.pfair_table.proofs.TableLaws.{same_history, one_table}
 use Rattle.pfair_table.proofs.Runs.{below_all, length_numbers}
 
 -- ---- the members that the boundary leaves are the definition's
 
 world_is : {o : Origin} {s : Settings} {x : Replica} {n : ℕ} {before : Roster} {now : ℕ} {waiting : Queue} → IsInStep o s x n before now waiting → {at : ℕ} → at ≡ slot_of o n
-    → boundary before.machine at before.members (announcements (said x n)) ≡ world_from o s x n
+    → boundary before.machine at before.members (announcements (said x n)) ≡ world o s (said x) n
 world_is {x} {n} step at_is = let m = step.machine_is in let ms = step.members_are in λ i. boundary (m i) (at_is i) (ms i) (announcements (said x n))
 
 rows_are : {o : Origin} {s : Settings} {x : Replica} {n : ℕ} {before : Roster} {now : ℕ} {waiting : Queue} → IsInStep o s x n before now waiting → {at processors : ℕ} → at ≡ slot_of o n → processors ≡ s.processors → {rows : Table}
-    → (let w = boundary before.machine at before.members (announcements (said x n)) in rows ≡ map (pick w) (first_by_rank processors (eligible at w))) → rows ≡ table_from o s x n
+    → (let w = boundary before.machine at before.members (announcements (said x n)) in rows ≡ map (pick w) (first_by_rank processors (eligible at w))) → rows ≡ table o s (said x) n
 rows_are step at_is many is = grind (arith, world_is, map)
 
 slot_next : (o : Origin) (n : ℕ) → slot_of o n + 1 ≡ slot_of o (n + 1)
@@ -57,12 +57,12 @@ module _ {o : Origin} {s : Settings} {replica of : Replica} {tables : List Table
   alike : (u : ℕ) → u < length tables → said of u ≡ said replica u
   alike u l = grind (arith, same_said, same_processors, below_agree, frontier_le)
 
-  past : history_from o s of (length tables) ≡ history_from o s replica (length tables)
+  past : history o s (said of) (length tables) ≡ history o s (said replica) (length tables)
   past = same_history o s (said of) (said replica) (length tables) alike
 
   -- What was planned of a replica below is planned of this one,
   pub plan_of_held : IsPlanOf o s replica replica tables decided
-  plan_of_held = grind (arith, past, map_same, among_below, one_table_from, below_agree, frontier_le, same_processors, same_history, alike)
+  plan_of_held = grind (arith, past, map_same, among_below, one_table, below_agree, frontier_le, same_processors, same_history, alike)
 
   -- and members and ready structure are in step with it too.
   pub step_of_held : {roster : Roster} {now : ℕ} {waiting : Queue} → IsInStep o s of (length tables) roster now waiting → IsInStep o s replica (length tables) roster now waiting
@@ -70,10 +70,10 @@ module _ {o : Origin} {s : Settings} {replica of : Replica} {tables : List Table
 
 -- With the next slot planned.
 pub plan_next_slot : {o : Origin} {s : Settings} {x : Replica} {tables : List Table} {decided : List (List Decided)} → IsPlanOf o s x x tables decided → length tables < frontier x → length tables < s.slots
-    → IsPlanOf o s x x (tables ++ table_from o s x (length tables) ∷ []) (decided ++ decisions_from o s x (length tables) ∷ [])
+    → IsPlanOf o s x x (tables ++ table o s (said x) (length tables) ∷ []) (decided ++ decisions o s (said x) (length tables) ∷ [])
 plan_next_slot {o} {s} {x} {tables} {decided} plan early wanted =
     let n = length tables in
-    let long : length (tables ++ table_from o s x n ∷ []) ≡ suc n = length-append tables (table_from o s x n ∷ []) ∙ (let e : n + 1 ≡ suc n = omega arith in e) in
+    let long : length (tables ++ table o s (said x) n ∷ []) ≡ suc n = length-append tables (table o s (said x) n ∷ []) ∙ (let e : n + 1 ≡ suc n = omega arith in e) in
     grind (arith, map-append, map)
 
 -- ---- the contents grow

@@ -10,29 +10,25 @@ use Rattle.pfair_weight.specs.Name.{NamesApart}
 use Rattle.pfair_weight.proofs.NamesApart.{apart_filter, apart_map}
 use Rattle.pfair_order.proofs.NamesApart.{first_names}
 use Rattle.pfair_table.proofs.FirstByRank.{length_first, rising_first}
-use Rattle.pfair_replica.specs.Replica.{Replica, Agree, said, frontier, numbers_below}
+use Rattle.pfair_replica.specs.Replica.{said, frontier, numbers_below}
 use Rattle.pfair_replica.proofs.Marks.{same_said, mark_le, frontier_le, below_agree}
 use Rattle.pfair_admission.specs.Member.{Member, next_key}
 use Rattle.pfair_table.specs.Ranks.{first_by_rank}
-use Rattle.pfair_table.specs.Table.{Settings, Origin, eligible, is_eligible, chosen, pick, members_before, slot_of, table_from, decisions_from, Story, history_over, world_over, table_over}
+use Rattle.pfair_table.specs.Table.{Settings, Origin, eligible, is_eligible, chosen, pick, members_before, slot_of, table, Story, history, world}
 use Rattle.pfair_table.specs.declared.pick.Pick.{Pick}
 use Rattle.pfair_table.specs.Places.{IsFit}
-use Rattle.pfair_table.specs.Laws.{IsOf, IsPrefixOf, OneTable, PlansGoOn, OnePlan, TablesAreOrdered}
+use Rattle.pfair_table.specs.Laws.{IsPrefixOf, OneTable, PlansGoOn, OnePlan, TablesAreOrdered}
 use Rattle.pfair_table.proofs.Members.{label, named_from}
 
 -- ---- one table
 
 -- the past is made of what was said
-pub same_history : (o : Origin) (s : Settings) (x y : Story) (t : ℕ) → ((u : ℕ) → u < t → x u ≡ y u) → history_over o s x t ≡ history_over o s y t
+pub same_history : (o : Origin) (s : Settings) (x y : Story) (t : ℕ) → ((u : ℕ) → u < t → x u ≡ y u) → history o s x t ≡ history o s y t
 same_history o s x y zero same = refl
 same_history o s x y (suc t) same = grind (arith, same_history o s x y t)
 
-pub one_table_from : (o : Origin) (s : Settings) (x y : Replica) → IsOf s x → IsOf s y → Agree x y → (t : ℕ) → t < frontier x → t < frontier y
-    → (table_from o s x t ≡ table_from o s y t) × (decisions_from o s x t ≡ decisions_from o s y t)
-one_table_from o s x y ox oy agree t h g = grind (arith, same_said, same_history)
-
 pub one_table : OneTable
-one_table = one_table_from
+one_table o s x y ox oy agree t h g = grind (arith, same_said, same_history)
 
 -- ---- plans go on
 
@@ -54,14 +50,18 @@ pub plans_go_on : PlansGoOn
 plans_go_on o s x y ox oy below untorn =
     let same = ox.processors ∙ sym oy.processors in
     let le = frontier_le x y oy.replica same below untorn in
-    grind (arith, below_agree, mark_le, prefix_map, one_table)
+    let agree = below_agree x y below untorn in (
+      mark_le x y oy.replica below untorn,
+      prefix_map (table o s (said x)) (table o s (said y)) (min (frontier x) s.slots) (min (frontier y) s.slots) (omega (arith, le))
+          (λ t l. (one_table o s x y ox oy agree t (omega (arith, l)) (omega (arith, l, le))).0),
+    )
 
 pub one_plan : OnePlan
 one_plan o s x y ox oy agree =
     let m = min (frontier x) s.slots in
     let n = min (frontier y) s.slots in
-    let X = table_from o s x in
-    let Y = table_from o s y in
+    let X = table o s (said x) in
+    let Y = table o s (said y) in
     elim (cases_order m n) [
       | inl e ↦ inl (prefix_map X Y m n (omega (arith, e)) (λ t l. (one_table o s x y ox oy agree t (omega (arith, l)) (omega (arith, l, e))).0))
       | inr (inl less) ↦ inl (prefix_map X Y m n (omega (arith, less)) (λ t l. (one_table o s x y ox oy agree t (omega (arith, l)) (omega (arith, l, less))).0))
@@ -78,7 +78,7 @@ rows_apart m t members named =
     apart_map (λ (k : Key). k.name) (λ (p : Pick). p.name) (pick members) (λ k. refl) (first_by_rank m (eligible t members)) (first_names m (eligible t members) (eligible_apart t members named))
 
 pub ordered_from : (o : Origin) (s : Settings) → NamesApart label (members_before o) → (x : Story) (t : ℕ)
-    → IsFit s.processors (table_over o s x t) × AllPairs GoesBefore (chosen s (slot_of o t) (world_over o s x t))
+    → IsFit s.processors (table o s x t) × AllPairs GoesBefore (chosen s (slot_of o t) (world o s x t))
 ordered_from o s before x t = grind (arith, named_from, eligible_apart, length_first, length-map, rising_first, rows_apart)
 
 pub tables_are_ordered : TablesAreOrdered

@@ -4,9 +4,9 @@ use Rattle.pfair_table.specs.declared.event.Event.{Event}
 use Rattle.pfair_table.specs.declared.event.Event.TheVariants.{Take, Absorb, Plan}
 use Rattle.std.specs.Prelude.{ℕ, Bool, not, ◌&&◌, nat_lt, List, [], ◌∷◌, None, ◌++◌, length, ⊤, if◌then◌else◌}
 use Rattle.pfair_entry.specs.Entry.{IsEntry}
-use Rattle.pfair_replica.specs.Replica.{Replica, IsReplica, empty_replica, has_torn, frontier}
+use Rattle.pfair_replica.specs.Replica.{Replica, IsReplica, empty_replica, has_torn, frontier, said}
 use Rattle.pfair_replica.specs.Offered.{taken, absorbed}
-use Rattle.pfair_table.specs.Table.{Settings, Origin, Table, table_from, decisions_from}
+use Rattle.pfair_table.specs.Table.{Settings, Origin, Table, table, decisions}
 use Rattle.pfair_table.specs.declared.pick.Decided.{Decided}
 
 -- what can come: an entry within its limits, or a replica
@@ -28,10 +28,6 @@ pub record Course : Type 0 where
 abbrev pub begin_at : Origin → Settings → ℕ → Course
 begin_at o s capacity = record { origin = o; replica = empty_replica s.processors capacity; tables = []; decided = [] }
 
--- a first run
-abbrev pub start : Settings → ℕ → Course
-start s capacity = begin_at None s capacity
-
 -- slot n can be planned of x
 abbrev pub is_plannable : Settings → Replica → ℕ → Bool
 is_plannable s x n = not (has_torn x) && (nat_lt n (frontier x) && nat_lt n s.slots)
@@ -40,7 +36,7 @@ is_plannable s x n = not (has_torn x) && (nat_lt n (frontier x) && nat_lt n s.sl
 abbrev pub with_next_slot : Settings → Course → Course
 with_next_slot s c =
     let t = length c.tables in
-    record { origin = c.origin; replica = c.replica; tables = c.tables ++ table_from c.origin s c.replica t ∷ []; decided = c.decided ++ decisions_from c.origin s c.replica t ∷ [] }
+    record { origin = c.origin; replica = c.replica; tables = c.tables ++ table c.origin s (said c.replica) t ∷ []; decided = c.decided ++ decisions c.origin s (said c.replica) t ∷ [] }
 
 abbrev pub happens : Settings → Course → Event → Course
 happens s c (Take k n e) = record c { replica = taken c.replica k n e }
@@ -54,4 +50,4 @@ run s c (e ∷ events) = run s (happens s c e) events
 
 -- the same in a first run, from an empty replica of that capacity
 abbrev pub run_of : Settings → ℕ → List Event → Course
-run_of s capacity events = run s (start s capacity) events
+run_of s capacity events = run s (begin_at None s capacity) events

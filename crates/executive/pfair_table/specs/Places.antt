@@ -56,10 +56,6 @@ places_before (Some c) = c.places
 abbrev pub places_in : Origin → List Table → List (List ℕ)
 places_in o tables = places_from (table_before o) (places_before o) tables
 
--- the places of some tables, of one slot after another: the first table keeps none
-abbrev pub places_of : List Table → List (List ℕ)
-places_of tables = places_in None tables
-
 -- ---- what places have to be
 
 -- no more rows than that, and each name once

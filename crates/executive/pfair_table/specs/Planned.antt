@@ -2,21 +2,21 @@
 use Rattle.std.specs.Prelude.{ℕ, ◌≡◌, ◌+◌, ◌<◌, ◌≤◌, Vec, List, [], ◌∷◌, ◌++◌, drop, length, map}
 use Rattle.std.specs.declared.alloc.Global.{Global}
 use Rattle.pfair_replica.specs.ReplicaRows.{ReplicaRows, replica_of}
-use Rattle.pfair_replica.specs.Replica.{numbers_below}
+use Rattle.pfair_replica.specs.Replica.{numbers_below, said}
 use Rattle.pfair_table.specs.declared.pick.Pick.{Pick}
 use Rattle.pfair_table.specs.declared.pick.Decided.{Decided}
 use Rattle.pfair_table.specs.declared.planned.PlannedSlot.{PlannedSlot}
 use Rattle.pfair_table.specs.declared.settings.TheConstants.Settings.{MAX_SLOTS}
 use Rattle.pfair_table.specs.Places.{places_in}
-use Rattle.pfair_table.specs.Table.{Settings, Table, Origin, history_from, table_from, decisions_from}
+use Rattle.pfair_table.specs.Table.{Settings, Table, Origin, history, table, decisions}
 
 -- the tables of slots 0 to n - 1 by the contents
 abbrev pub tables_to : Origin → Settings → ReplicaRows → ℕ → List Table
-tables_to o s x n = (history_from o s (replica_of x) n).tables
+tables_to o s x n = (history o s (said (replica_of x)) n).tables
 
 -- and what is decided at their boundaries
 abbrev pub decided_to : Origin → Settings → ReplicaRows → ℕ → List (List Decided)
-decided_to o s x n = map (decisions_from o s (replica_of x)) (numbers_below n)
+decided_to o s x n = map (decisions o s (said (replica_of x))) (numbers_below n)
 
 -- a run's settings, where it began, the table of each slot from slot 0 on, what was decided at its boundary, and below which slot
 -- these are forgotten
@@ -41,8 +41,8 @@ pub record AreKept (o : Origin) (s : Settings) (of : ReplicaRows) (first forgott
 pub record IsNext (p : PlannedSlots) (x : ReplicaRows) (next : PlannedSlot) : Type 0 where
   pub tables_are : p.tables ≡ tables_to p.origin p.settings x (length p.tables)
   pub decided_are : p.decided ≡ decided_to p.origin p.settings x (length p.tables)
-  pub table_is : next.plan.table.items ≡ table_from p.origin p.settings (replica_of x) (length p.tables)
-  pub decision_is : next.plan.decided.items ≡ decisions_from p.origin p.settings (replica_of x) (length p.tables)
+  pub table_is : next.plan.table.items ≡ table p.origin p.settings (said (replica_of x)) (length p.tables)
+  pub decision_is : next.plan.decided.items ≡ decisions p.origin p.settings (said (replica_of x)) (length p.tables)
   pub places_are : places_in p.origin (p.tables ++ next.plan.table.items ∷ []) ≡ places_in p.origin p.tables ++ next.places.items ∷ []
 
 -- with that
@@ -50,8 +50,8 @@ abbrev pub with_next : PlannedSlots → ReplicaRows → PlannedSlots
 with_next p x =
     let n = length p.tables in
     record p {
-      tables = p.tables ++ table_from p.origin p.settings (replica_of x) n ∷ [];
-      decided = p.decided ++ decisions_from p.origin p.settings (replica_of x) n ∷ [];
+      tables = p.tables ++ table p.origin p.settings (said (replica_of x)) n ∷ [];
+      decided = p.decided ++ decisions p.origin p.settings (said (replica_of x)) n ∷ [];
     }
 
 -- tables, slot by slot

@@ -2,7 +2,7 @@
 use Rattle.std.specs.Prelude.{ℕ, ◌≡◌, ◌≤◌, ◌<◌, List, map, length}
 use Rattle.pfair_entry.specs.declared.said.Said.{Said}
 use Rattle.pfair_replica.specs.ReplicaRows.{ReplicaRows, replica_of}
-use Rattle.pfair_replica.specs.Replica.{Untorn}
+use Rattle.pfair_replica.specs.Replica.{Untorn, said}
 use Rattle.pfair_admission.specs.Admission.{boundary, boundary_decisions, announcements}
 use Rattle.pfair_admission.specs.Member.{Member}
 use Rattle.pfair_admission.specs.Roster.{Roster}
@@ -16,7 +16,7 @@ use Rattle.pfair_table.specs.Planned.{PlannedSlots}
 use Rattle.pfair_table.specs.Ranks.{first_by_rank}
 use Rattle.pfair_table.specs.Readings.{AreReadingsOf}
 use Rattle.pfair_table.specs.Refinement.{IsPlanOf}
-use Rattle.pfair_table.specs.Table.{Settings, Origin, Table, eligible, pick, table_from, decisions_from}
+use Rattle.pfair_table.specs.Table.{Settings, Origin, Table, eligible, pick, table, decisions}
 
 -- A run can be planned by the contents: nothing is torn, and what was read is in them.
 pub record CanBePlanned (o : Origin) (s : Settings) (x : ReplicaRows) (readings : List Reading) : Type 0 where
@@ -28,8 +28,8 @@ pub record CanBePlanned (o : Origin) (s : Settings) (x : ReplicaRows) (readings 
 
 -- the table and the decisions of slot n
 pub record IsPlanOfSlot (o : Origin) (s : Settings) (x : ReplicaRows) (n : ℕ) (plan : SlotPlan) : Type 0 where
-  pub table_is : plan.table.items ≡ table_from o s (replica_of x) n
-  pub decided_is : plan.decided.items ≡ decisions_from o s (replica_of x) n
+  pub table_is : plan.table.items ≡ table o s (said (replica_of x)) n
+  pub decided_is : plan.decided.items ≡ decisions o s (said (replica_of x)) n
   pub limits : IsSettings s
 
 -- the slots so far are those of the contents, and another one is wanted

@@ -1,5 +1,5 @@
 -- What a dispatcher is seen as, and what its parts have to do with the definitions.
-use Rattle.std.specs.Prelude.{ℕ, zero, suc, ◌+◌, ◌≡◌, ◌≤◌, ◌<◌, Bool, true, false, IsTrue, List, length, map, min, Some, slice_get}
+use Rattle.std.specs.Prelude.{ℕ, zero, suc, ◌+◌, ◌≡◌, ◌≤◌, ◌<◌, Bool, true, false, IsTrue, List, length, map, Some, slice_get}
 use Rattle.pfair_replica.specs.ReplicaRows.{ReplicaRows, replica_of}
 use Rattle.pfair_replica.specs.Replica.{Replica, Below, Untorn, Agree, frontier, has_torn, torn_keys, said, numbers_below}
 use Rattle.pfair_replica.specs.Faults.{IsTakeFaultOf, IsMergeFaultOf}
@@ -14,7 +14,7 @@ use Rattle.pfair_table.specs.declared.answer.Step.TheVariants.{Planned, Waiting,
 use Rattle.pfair_table.specs.declared.answer.PlanFault.{PlanFault}
 use Rattle.pfair_table.specs.declared.answer.PlanFault.TheVariants.{Torn, Spent, Memory}
 use Rattle.pfair_table.specs.declared.script.TheConstants.Script.{LONGEST_LOG}
-use Rattle.pfair_table.specs.Table.{Settings, Origin, Table, machine, slot_of, history_from, table_from, decisions_from, plan_from}
+use Rattle.pfair_table.specs.Table.{Settings, Origin, Table, machine, slot_of, history, table, decisions, plan, plan_decisions}
 use Rattle.pfair_table.specs.declared.event.Event.{Event}
 use Rattle.pfair_table.specs.declared.event.Event.TheVariants.{Take, Absorb, Plan}
 use Rattle.pfair_table.specs.Events.{Course, is_plannable}
@@ -87,8 +87,8 @@ IsLast Done = Unit {0}
 
 -- the tables are the whole plan of the contents, and the decisions are those of its slots
 pub record IsWholePlan (d : Dispatch) : Type 0 where
-  pub tables_are : d.tables ≡ plan_from d.origin d.settings (replica_of d.replica)
-  pub decided_are : d.decided ≡ map (decisions_from d.origin d.settings (replica_of d.replica)) (numbers_below (min (frontier (replica_of d.replica)) d.settings.slots))
+  pub tables_are : d.tables ≡ plan d.origin d.settings (replica_of d.replica)
+  pub decided_are : d.decided ≡ plan_decisions d.origin d.settings (replica_of d.replica)
 
 -- ---- the refinement
 
@@ -99,12 +99,12 @@ pub record IsPlanOf (o : Origin) (s : Settings) (replica of : Replica) (tables :
   pub whole : Untorn of
   pub early : length tables ≤ frontier of
   pub wanted : length tables ≤ s.slots
-  pub tables_are : tables ≡ (history_from o s of (length tables)).tables
-  pub decided_are : decided ≡ map (decisions_from o s of) (numbers_below (length tables))
+  pub tables_are : tables ≡ (history o s (said of) (length tables)).tables
+  pub decided_are : decided ≡ map (decisions o s (said of)) (numbers_below (length tables))
 
 -- the members after slots 0 to n - 1
 abbrev pub members_after : Origin → Settings → Replica → ℕ → List Member
-members_after o s x n = (history_from o s x n).members
+members_after o s x n = (history o s (said x) n).members
 
 -- the members after the tables so far, of a replica whose plan these are
 pub record AreMembersOf (d : Dispatch) (members : List Member) : Type 0 where
@@ -141,5 +141,6 @@ pub record IsKept (o : Origin) (s : Settings) (replica : Replica) (tables : List
 abbrev pub HavePlannedAlike : Dispatch → Dispatch → Type 0
 HavePlannedAlike c d =
     c.settings ≡ d.settings → c.origin ≡ d.origin → Agree (replica_of c.replica) (replica_of d.replica) → (t : ℕ) → t < length c.tables → t < length d.tables
-    → (slice_get c.tables t ≡ Some (table_from c.origin c.settings (replica_of c.replica) t)) × (slice_get d.tables t ≡ Some (table_from c.origin c.settings (replica_of c.replica) t))
-    × (slice_get c.decided t ≡ Some (decisions_from c.origin c.settings (replica_of c.replica) t)) × (slice_get d.decided t ≡ Some (decisions_from c.origin c.settings (replica_of c.replica) t))
+    → let story = said (replica_of c.replica) in
+    (slice_get c.tables t ≡ Some (table c.origin c.settings story t)) × (slice_get d.tables t ≡ Some (table c.origin c.settings story t))
+    × (slice_get c.decided t ≡ Some (decisions c.origin c.settings story t)) × (slice_get d.decided t ≡ Some (decisions c.origin c.settings story t))

@@ -9,7 +9,7 @@ use Rattle.pfair_admission.specs.Member.{Member, lag_at, next_key}
 use Rattle.pfair_admission.specs.Admission.{announcements, member_named, present}
 use Rattle.pfair_admission.specs.Carried.{jobs_done, carried, taken_off, all_raised}
 use Rattle.pfair_table.specs.declared.pick.Pick.{Pick}
-use Rattle.pfair_table.specs.Table.{Settings, Carried, Origin, Story, Table, History, machine, slot_of, members_before, history_over, world_over, table_over, decisions_over}
+use Rattle.pfair_table.specs.Table.{Settings, Carried, Origin, Story, Table, History, machine, slot_of, members_before, history, world, table, decisions}
 use Rattle.pfair_table.specs.Places.{table_before, places_before, places_in}
 use Rattle.pfair_table.specs.Planned.{last_or}
 
@@ -38,7 +38,7 @@ last_places o h = last_or (places_before o) (places_in o h.tables)
 -- what a next run takes over from the first n slots of a run
 abbrev pub left_over : Origin → Settings → Story → ℕ → Carried
 left_over o s story n =
-    let h = history_over o s story n in
+    let h = history o s story n in
     record { slot = slot_of o n; machine = machine s; members = map carried h.members; table = last_table o h; places = last_places o h }
 
 -- what is said in the long run: what is said in its first n slots, and then what is said in the next run, with the indexes of the long run
@@ -46,8 +46,8 @@ abbrev pub both_stories : Origin → Settings → Story → ℕ → Story → St
 both_stories o s first n second t =
     let left = left_over o s first n in
     if nat_lt t n then first t
-    else all_raised (history_over o s first n).members left.slot (machine s) (left.slot + (t - n))
-    (present (left.slot + (t - n)) (history_over (Some left) s second (t - n)).members) (second (t - n))
+    else all_raised (history o s first n).members left.slot (machine s) (left.slot + (t - n))
+    (present (left.slot + (t - n)) (history (Some left) s second (t - n)).members) (second (t - n))
 
 -- a table of the next run with the indexes of the long run
 abbrev pub raised_rows : List Member → ℕ → List Member → Table → Table
@@ -61,13 +61,13 @@ key_and_freeing m = (next_key m, m.freed_at)
 -- were taken off, the same decisions and the same places; before and after its quanta the members stand as they do there, and after
 -- them they have the same lags.
 pub record IsSlotOf (o : Origin) (s : Settings) (first : Story) (n : ℕ) (second : Story) (t : ℕ) : Type 0 where
-  pub members : map key_and_freeing (world_over (Some (left_over o s first n)) s second t) ≡ map key_and_freeing (world_over o s (both_stories o s first n second) (n + t))
-  pub rows : raised_rows (history_over o s first n).members (slot_of o n) (world_over (Some (left_over o s first n)) s second t) (table_over (Some (left_over o s first n)) s second t)
-      ≡ table_over o s (both_stories o s first n second) (n + t)
-  pub lags : map (lag_at (slot_of o (suc (n + t)))) (history_over (Some (left_over o s first n)) s second (suc t)).members ≡ map (lag_at (slot_of o (suc (n + t)))) (history_over o s (both_stories o s first n second) (suc (n + t))).members
-  pub left : map key_and_freeing (history_over (Some (left_over o s first n)) s second (suc t)).members ≡ map key_and_freeing (history_over o s (both_stories o s first n second) (suc (n + t))).members
-  pub decided : map (λ d. d.decision) (decisions_over (Some (left_over o s first n)) s second t) ≡ map (λ d. d.decision) (decisions_over o s (both_stories o s first n second) (n + t))
-  pub places : last_places (Some (left_over o s first n)) (history_over (Some (left_over o s first n)) s second (suc t)) ≡ last_places o (history_over o s (both_stories o s first n second) (suc (n + t)))
+  pub members : map key_and_freeing (world (Some (left_over o s first n)) s second t) ≡ map key_and_freeing (world o s (both_stories o s first n second) (n + t))
+  pub rows : raised_rows (history o s first n).members (slot_of o n) (world (Some (left_over o s first n)) s second t) (table (Some (left_over o s first n)) s second t)
+      ≡ table o s (both_stories o s first n second) (n + t)
+  pub lags : map (lag_at (slot_of o (suc (n + t)))) (history (Some (left_over o s first n)) s second (suc t)).members ≡ map (lag_at (slot_of o (suc (n + t)))) (history o s (both_stories o s first n second) (suc (n + t))).members
+  pub left : map key_and_freeing (history (Some (left_over o s first n)) s second (suc t)).members ≡ map key_and_freeing (history o s (both_stories o s first n second) (suc (n + t))).members
+  pub decided : map (λ d. d.decision) (decisions (Some (left_over o s first n)) s second t) ≡ map (λ d. d.decision) (decisions o s (both_stories o s first n second) (n + t))
+  pub places : last_places (Some (left_over o s first n)) (history (Some (left_over o s first n)) s second (suc t)) ≡ last_places o (history o s (both_stories o s first n second) (suc (n + t)))
 
 -- So runs go on as one: whatever is said in them, each slot of a next run is one of the long run; and a next run can be followed by another.
 pub record RunsGoOn : Type 0 where

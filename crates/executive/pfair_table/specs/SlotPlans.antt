@@ -3,7 +3,8 @@ use Rattle.std.specs.Prelude.{◌+◌, ◌≡◌, IsTrue, false, [], ◌∷◌, 
 use Rattle.pfair_replica.specs.ReplicaRows.{ReplicaRows, replica_of}
 use Rattle.pfair_table.specs.declared.settings.TheConstants.Settings.{MAX_PROCESSORS}
 use Rattle.pfair_table.specs.declared.slot.SlotPlan.{SlotPlan}
-use Rattle.pfair_table.specs.Table.{table_from, decisions_from}
+use Rattle.pfair_replica.specs.Replica.{said}
+use Rattle.pfair_table.specs.Table.{table, decisions}
 use Rattle.pfair_table.specs.Events.{is_plannable}
 use Rattle.pfair_table.specs.Refinement.{Dispatch}
 use Rattle.pfair_table.specs.Places.{IsFit}
@@ -16,8 +17,8 @@ seeing d x = record d { replica = x }
 abbrev pub IsNextPlan : Dispatch → Option SlotPlan → Type 0
 IsNextPlan d (Some next) =
     IsTrue (is_plannable d.settings (replica_of d.replica) (length d.tables))
-    × (next.table.items ≡ table_from d.origin d.settings (replica_of d.replica) (length d.tables))
-    × (next.decided.items ≡ decisions_from d.origin d.settings (replica_of d.replica) (length d.tables))
+    × (next.table.items ≡ table d.origin d.settings (said (replica_of d.replica)) (length d.tables))
+    × (next.decided.items ≡ decisions d.origin d.settings (said (replica_of d.replica)) (length d.tables))
     × IsFit MAX_PROCESSORS next.table.items
 IsNextPlan d None = is_plannable d.settings (replica_of d.replica) (length d.tables) ≡ false
 

@@ -126,52 +126,31 @@ abbrev pub Story : Type 0
 Story = ℕ → List Said
 
 -- the slots before slot t of a run in which that is said
-abbrev pub history_over : Origin → Settings → Story → ℕ → History
-history_over o s story zero = record { members = members_before o; tables = [] }
-history_over o s story (suc t) = slot_after s (slot_of o t) (story t) (history_over o s story t)
+abbrev pub history : Origin → Settings → Story → ℕ → History
+history o s story zero = record { members = members_before o; tables = [] }
+history o s story (suc t) = slot_after s (slot_of o t) (story t) (history o s story t)
 
 -- the members in its slot t
-abbrev pub world_over : Origin → Settings → Story → ℕ → List Member
-world_over o s story t = members_at s (slot_of o t) (story t) (history_over o s story t)
+abbrev pub world : Origin → Settings → Story → ℕ → List Member
+world o s story t = members_at s (slot_of o t) (story t) (history o s story t)
 
-abbrev pub table_over : Origin → Settings → Story → ℕ → Table
-table_over o s story t = table_of s (slot_of o t) (world_over o s story t)
+abbrev pub table : Origin → Settings → Story → ℕ → Table
+table o s story t = table_of s (slot_of o t) (world o s story t)
 
 -- what is decided at the boundary of its slot t, in order
-abbrev pub decisions_over : Origin → Settings → Story → ℕ → List Decided
-decisions_over o s story t = decided_at s (slot_of o t) (story t) (history_over o s story t)
+abbrev pub decisions : Origin → Settings → Story → ℕ → List Decided
+decisions o s story t = decided_at s (slot_of o t) (story t) (history o s story t)
 
--- ---- as a replica has it
+-- ---- as far as a replica settles it
 
-abbrev pub history_from : Origin → Settings → Replica → ℕ → History
-history_from o s x t = history_over o s (said x) t
+-- the slots below its frontier and the number of slots
+abbrev pub settled_slots : Settings → Replica → List ℕ
+settled_slots s x = numbers_below (min (frontier x) s.slots)
 
-abbrev pub world_from : Origin → Settings → Replica → ℕ → List Member
-world_from o s x t = world_over o s (said x) t
+-- their tables
+abbrev pub plan : Origin → Settings → Replica → List Table
+plan o s x = map (table o s (said x)) (settled_slots s x)
 
-abbrev pub table_from : Origin → Settings → Replica → ℕ → Table
-table_from o s x t = table_over o s (said x) t
-
-abbrev pub decisions_from : Origin → Settings → Replica → ℕ → List Decided
-decisions_from o s x t = decisions_over o s (said x) t
-
--- the tables of all slots below the frontier and the number of slots
-abbrev pub plan_from : Origin → Settings → Replica → List Table
-plan_from o s x = map (table_from o s x) (numbers_below (min (frontier x) s.slots))
-
--- ---- a first run
-
-abbrev pub history : Settings → Replica → ℕ → History
-history s x t = history_from None s x t
-
-abbrev pub world : Settings → Replica → ℕ → List Member
-world s x t = world_from None s x t
-
-abbrev pub table : Settings → Replica → ℕ → Table
-table s x t = table_from None s x t
-
-abbrev pub decisions : Settings → Replica → ℕ → List Decided
-decisions s x t = decisions_from None s x t
-
-abbrev pub plan : Settings → Replica → List Table
-plan s x = plan_from None s x
+-- what is decided at their boundaries
+abbrev pub plan_decisions : Origin → Settings → Replica → List (List Decided)
+plan_decisions o s x = map (decisions o s (said x)) (settled_slots s x)

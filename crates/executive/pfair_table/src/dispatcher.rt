@@ -6,7 +6,7 @@ ghost use Rattle.pfair_replica.specs.Offered.{taken, absorbed};
 ghost use Rattle.pfair_replica.specs.ReplicaRows.{IsShape, SameShape, held, replica_of};
 ghost use Rattle.pfair_replica.specs.Faults.{IsKeyOf, IsTakenAs, IsTakeFaultOf, IsMergeFaultOf, IsPartlyMerged};
 ghost use Rattle.pfair_table.specs.declared.event.Event.TheVariants.{Plan as PlanEvent};
-ghost use Rattle.pfair_table.specs.Events.{start, happens};
+ghost use Rattle.pfair_table.specs.Events.{begin_at, happens};
 ghost use Rattle.std.specs.List.{AllByRecursion};
 ghost use Rattle.pfair_table.specs.Limits.{IsOrigin};
 ghost use Rattle.pfair_table.specs.Places.{places_in, IsFit};
@@ -72,7 +72,7 @@ impl<R: Ready> Dispatcher<R> {
     pub fn new(alloc: Global, settings: Settings, capacity: u32) -> Result<Self, AllocError>
         requires { IsShape settings.processors capacity }
         ensures settings { IfOk result (λ d. d.settings ≡ settings) }
-        ensures course { IfOk result (λ d. course_of d ≡ start settings capacity) }
+        ensures course { IfOk result (λ d. course_of d ≡ begin_at None settings capacity) }
         ensures unforgotten { IfOk result (λ d. d.forgotten ≡ 0) }
         ensures spent { IfOk result (λ d. d.spent ≡ false) }
     {

@@ -42,7 +42,6 @@ pub fn events_leave_the_least()
 
 /// While a dispatcher's replica has nothing torn, its tables so far are the beginning of the replica's
 /// plan.
-#[tactic(auto, using(crate::proofs::Runs::plan_so_far))]
 pub fn plan_so_far()
     ensures { PlanSoFar }
 {}

@@ -2,7 +2,7 @@
 ghost use Rattle.std.specs.Prelude.{◌≡◌, ◌<◌, ◌≤◌, ◌-◌, ◌++◌, ◌∷◌, [], IfOk, OnOk, OnErr, None, drop, length, map, max, min, slice_get};
 ghost use Rattle.std.specs.Option.{option_copied, option_map};
 ghost use Rattle.std.specs.List.{AllByRecursion};
-ghost use Rattle.pfair_table.specs.Places.{places_of, places_in, table_before, places_before, IsFit};
+ghost use Rattle.pfair_table.specs.Places.{places_in, table_before, places_before, IsFit};
 ghost use Rattle.pfair_table.specs.Planned.{last_or, as_tables, as_places, with_next, IsNext};
 
 use crate::origin::{Origin, slot_before};
@@ -35,7 +35,7 @@ impl Run {
     pub fn of_tables(alloc: Global, tables: Vec<Vec<Pick>>) -> Result<Run, AllocError>
         requires { AllByRecursion (IsFit Settings.MAX_PROCESSORS) (as_tables tables) }
         ensures tables { IfOk result (λ run. run.tables ≡ tables) }
-        ensures places { IfOk result (λ run. as_places run.places ≡ places_of (as_tables tables)) }
+        ensures places { IfOk result (λ run. as_places run.places ≡ places_in None (as_tables tables)) }
     {
         let mut places = Vec::with_capacity(alloc, tables.len())?;
         let mut kept = Vec::new(alloc);

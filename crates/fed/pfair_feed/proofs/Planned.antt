@@ -2,9 +2,9 @@
 use Rattle.std.proofs.Common.{arith, ℕ, ◌≡◌, ap, ◌∙◌, List, None, length, map, min, zero, suc, refl, sym, [], ◌∷◌}
 use Rattle.std.proofs.lemmas.List.{length-map}
 use Rattle.pfair_replica.specs.ReplicaRows.{replica_of}
-use Rattle.pfair_replica.specs.Replica.{frontier, numbers_below, empty_replica, mark}
+use Rattle.pfair_replica.specs.Replica.{frontier, numbers_below, empty_replica, mark, said}
 use Rattle.pfair_table.specs.Refinement.{Dispatch, IsWholePlan, course_of}
-use Rattle.pfair_table.specs.Table.{Origin, table_from, plan, plan_from, decisions, decisions_from, Settings}
+use Rattle.pfair_table.specs.Table.{Origin, table, plan, decisions, Settings, plan_decisions}
 use Rattle.pfair_table.proofs.Runs.{length_numbers}
 use Rattle.std.specs.Prelude.{fold}
 use Rattle.pfair_table.specs.Events.{Course, begin_at}
@@ -18,11 +18,11 @@ planned d whole = grind (arith, so_many)
 
 -- the tables and the decisions of a first run's whole plan
 module _ (d : Dispatch) (first : d.origin ≡ None) (whole : IsWholePlan d) where
-  pub tables_first : d.tables ≡ plan d.settings (replica_of d.replica)
-  tables_first = whole.tables_are ∙ ap (λ (o : Origin). plan_from o d.settings (replica_of d.replica)) first
+  pub tables_first : d.tables ≡ plan None d.settings (replica_of d.replica)
+  tables_first = whole.tables_are ∙ ap (λ (o : Origin). plan o d.settings (replica_of d.replica)) first
 
-  pub decided_first : d.decided ≡ map (decisions d.settings (replica_of d.replica)) (numbers_below (min (frontier (replica_of d.replica)) d.settings.slots))
-  decided_first = whole.decided_are ∙ ap (λ (o : Origin). map (decisions_from o d.settings (replica_of d.replica)) (numbers_below (min (frontier (replica_of d.replica)) d.settings.slots))) first
+  pub decided_first : d.decided ≡ plan_decisions None d.settings (replica_of d.replica)
+  decided_first = whole.decided_are ∙ ap (λ (o : Origin). plan_decisions o d.settings (replica_of d.replica)) first
 
 -- ---- a dispatcher that holds nothing has planned all that this settles: nothing
 
@@ -43,6 +43,6 @@ whole_start o d s capacity course =
     let settled : frontier (replica_of d.replica) ≡ 0 = ap frontier held ∙ frontier_none s.processors capacity in
     let none : min (frontier (replica_of d.replica)) d.settings.slots ≡ 0 = omega (arith, settled) in
     record {
-      tables_are = ap (λ (c : Course). c.tables) course ∙ sym (ap (λ (n : ℕ). map (table_from d.origin d.settings (replica_of d.replica)) (numbers_below n)) none);
-      decided_are = ap (λ (c : Course). c.decided) course ∙ sym (ap (λ (n : ℕ). map (decisions_from d.origin d.settings (replica_of d.replica)) (numbers_below n)) none);
+      tables_are = ap (λ (c : Course). c.tables) course ∙ sym (ap (λ (n : ℕ). map (table d.origin d.settings (said (replica_of d.replica))) (numbers_below n)) none);
+      decided_are = ap (λ (c : Course). c.decided) course ∙ sym (ap (λ (n : ℕ). map (decisions d.origin d.settings (said (replica_of d.replica))) (numbers_below n)) none);
     }

@@ -1,11 +1,11 @@
 -- The rows of slots, and then of more behind them.
-use Rattle.std.proofs.Common.{ℕ, zero, suc, ◌+◌, ◌<◌, ◌≤◌, ◌≡◌, refl, sym, ap, ◌∙◌, arith, List, [], ◌∷◌, ◌++◌, length, drop, slice_get, append_assoc}
+use Rattle.std.proofs.Common.{ℕ, zero, suc, ◌+◌, ◌<◌, ◌≤◌, ◌≡◌, refl, sym, ap, ◌∙◌, arith, List, [], ◌∷◌, ◌++◌, length, drop, slice_get, append_assoc, None}
 use Rattle.std.proofs.Math.Seq.{drop-append_seam}
 use Rattle.std.proofs.lemmas.Bool.{cases_order}
 use Rattle.std.proofs.lemmas.List.{drop_all, drop-append-le, length-drop, take_all, take-append-le}
 use Rattle.pfair_table.specs.declared.pick.Decided.{Decided}
 use Rattle.pfair_table.specs.Table.{Origin, Table}
-use Rattle.pfair_table.specs.Places.{places_after, places_from, places_in, places_of}
+use Rattle.pfair_table.specs.Places.{places_after, places_from, places_in}
 use Rattle.pfair_output.specs.Slots.{slots_from}
 use Rattle.pfair_output.specs.Replay.{placed_table_rows, table_rows}
 use Rattle.pfair_output.specs.Decisions.{decided_rows}
@@ -72,6 +72,6 @@ rows_go_on o output slot ts more ds rest same = grind (arith, cases_order, none_
 
 pub whole_texts : WholeRows
 whole_texts Tables d first whole = ap (λ (ts : List Table). lines_text (header_of Tables ∷ slots_from table_rows 0 ts)) (tables_first d first whole)
-whole_texts PlacedTables d first whole = ap (λ (ts : List Table). lines_text (header_of PlacedTables ∷ slots_from (placed_table_rows (places_of ts)) 0 ts)) (tables_first d first whole)
+whole_texts PlacedTables d first whole = ap (λ (ts : List Table). lines_text (header_of PlacedTables ∷ slots_from (placed_table_rows (places_in None ts)) 0 ts)) (tables_first d first whole)
 whole_texts Decisions d first whole = ap (λ (ds : List (List Decided)). lines_text (header_of Decisions ∷ slots_from decided_rows 0 ds)) (decided_first d first whole)
 whole_texts Lags d first whole = ap (λ rows. lines_text (header_of Lags ∷ rows)) (whole_rows d first whole)

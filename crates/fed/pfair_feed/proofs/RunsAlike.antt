@@ -7,12 +7,12 @@ use Rattle.pfair_text.specs.Rows.{lines_text}
 use Rattle.pfair_text.proofs.RowFacts.{lines_text-append}
 use Rattle.pfair_replica.specs.ReplicaRows.{replica_of}
 use Rattle.pfair_replica.specs.Offered.{taken}
-use Rattle.pfair_replica.specs.Replica.{Replica, empty_replica, frontier, numbers_below}
+use Rattle.pfair_replica.specs.Replica.{Replica, empty_replica, frontier, numbers_below, said}
 use Rattle.pfair_table.specs.declared.pick.Decided.{Decided}
 use Rattle.pfair_table.specs.Events.{Course}
 use Rattle.pfair_table.specs.Laws.{IsOf, IsPrefixOf, OneTable}
 use Rattle.pfair_table.specs.Refinement.{Dispatch, HavePlannedAlike, IsWholePlan}
-use Rattle.pfair_table.specs.Table.{Settings, Origin, Table, decisions_from, table_from}
+use Rattle.pfair_table.specs.Table.{Settings, Origin, Table, decisions, table}
 use Rattle.pfair_replica.proofs.OfferedTo.{offered_stays}
 use Rattle.pfair_feed.specs.declared.output.Output.{Output}
 use Rattle.pfair_feed.specs.Follow.{Follow, news, HaveWrittenAlike}
@@ -119,8 +119,8 @@ inside_of : {A : Type 0} (f : ℕ → A) (n t : ℕ) (xs : List A) → xs ≡ ma
 inside_of f n t xs e l = (let a = ap length e ∙ so_many f n in omega (arith, a, l))
 
 module _ (d : Dispatch) (whole : IsWholePlan d) (t : ℕ) where
-  planned_there : t < length d.tables → (t < frontier (replica_of d.replica)) × (slice_get d.tables t ≡ Some (table_from d.origin d.settings (replica_of d.replica) t))
-      × (slice_get d.decided t ≡ Some (decisions_from d.origin d.settings (replica_of d.replica) t))
+  planned_there : t < length d.tables → (t < frontier (replica_of d.replica)) × (slice_get d.tables t ≡ Some (table d.origin d.settings (said (replica_of d.replica)) t))
+      × (slice_get d.decided t ≡ Some (decisions d.origin d.settings (said (replica_of d.replica)) t))
   planned_there l = grind (arith, inside_of, get_numbers)
 
 planned_alike : OneTable → (s : Settings) (c d : Dispatch) → c.settings ≡ s → IsWholePlan c → IsWholePlan d → IsOf s (replica_of c.replica) → IsOf s (replica_of d.replica) → HavePlannedAlike c d
@@ -128,10 +128,10 @@ planned_alike law s c d set whole whole' of of' settings origins agree t l m =
     let here = planned_there c whole t l in
     let there = planned_there d whole' t m in
     let same = law c.origin s (replica_of c.replica) (replica_of d.replica) of of' agree t here.0 there.0 in
-    let tables : table_from d.origin d.settings (replica_of d.replica) t ≡ table_from c.origin c.settings (replica_of c.replica) t =
-    (λ i. table_from (sym origins i) ((sym settings ∙ set) i) (replica_of d.replica) t) ∙ sym same.0 ∙ ap (λ (r : Settings). table_from c.origin r (replica_of c.replica) t) (sym set) in
-    let decided : decisions_from d.origin d.settings (replica_of d.replica) t ≡ decisions_from c.origin c.settings (replica_of c.replica) t =
-    (λ i. decisions_from (sym origins i) ((sym settings ∙ set) i) (replica_of d.replica) t) ∙ sym same.1 ∙ ap (λ (r : Settings). decisions_from c.origin r (replica_of c.replica) t) (sym set) in
+    let tables : table d.origin d.settings (said (replica_of d.replica)) t ≡ table c.origin c.settings (said (replica_of c.replica)) t =
+    (λ i. table (sym origins i) ((sym settings ∙ set) i) (said (replica_of d.replica)) t) ∙ sym same.0 ∙ ap (λ (r : Settings). table c.origin r (said (replica_of c.replica)) t) (sym set) in
+    let decided : decisions d.origin d.settings (said (replica_of d.replica)) t ≡ decisions c.origin c.settings (said (replica_of c.replica)) t =
+    (λ i. decisions (sym origins i) ((sym settings ∙ set) i) (said (replica_of d.replica)) t) ∙ sym same.1 ∙ ap (λ (r : Settings). decisions c.origin r (said (replica_of c.replica)) t) (sym set) in
     (here.1, there.1 ∙ ap Some tables, here.2, there.2 ∙ ap Some decided)
 
 -- ---- the law

@@ -50,20 +50,20 @@ module _ (x y : Replica) (processors : x.processors ≡ y.processors) (beginning
   same_said t i = flat_map (λ k. said_in t k 1 (beginnings k i)) (numbers_below (processors i))
 
   module _ (s : Settings) where
-    same_history : (t : ℕ) → history s x t ≡ history s y t
+    same_history : (t : ℕ) → history None s (said x) t ≡ history None s (said y) t
     same_history zero = refl
     same_history (suc t) = λ i. slot_after s t (same_said t i) (same_history t i)
 
-    same_world : (t : ℕ) → world s x t ≡ world s y t
+    same_world : (t : ℕ) → world None s (said x) t ≡ world None s (said y) t
     same_world t = λ i. members_at s t (same_said t i) (same_history t i)
 
-    same_table : (t : ℕ) → table s x t ≡ table s y t
+    same_table : (t : ℕ) → table None s (said x) t ≡ table None s (said y) t
     same_table t = ap (table_of s t) (same_world t)
 
-    same_decisions : (t : ℕ) → decisions s x t ≡ decisions s y t
+    same_decisions : (t : ℕ) → decisions None s (said x) t ≡ decisions None s (said y) t
     same_decisions t = λ i. decided_at s t (same_said t i) (same_history t i)
 
-    same_plan : plan s x ≡ plan s y
+    same_plan : plan None s x ≡ plan None s y
     same_plan = λ i. map (λ t. same_table t i) (numbers_below (min (same_frontier i) s.slots))
 
     same_lags : (t : ℕ) → lag_rows s x t ≡ lag_rows s y t

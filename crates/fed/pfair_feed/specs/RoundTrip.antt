@@ -4,7 +4,7 @@ use Rattle.std.specs.List.{AllByRecursion}
 use Rattle.pfair_entry.specs.Entry.{Logged}
 use Rattle.pfair_entry.specs.Notice.{IsLoggable}
 use Rattle.pfair_entry_row.specs.Row.{entry_row, IsEntryAt}
-use Rattle.pfair_replica.specs.Replica.{Replica, frontier}
+use Rattle.pfair_replica.specs.Replica.{Replica, frontier, said}
 use Rattle.pfair_table.specs.declared.settings.TheConstants.Settings.{MAX_PROCESSORS}
 use Rattle.pfair_table.specs.Events.{begin_at}
 use Rattle.pfair_table.specs.Refinement.{course_of}
@@ -86,8 +86,8 @@ replica_with_room capacity run = record (replica_of_logs run.logs) { capacity = 
 -- the contents settle as many slots as the script's own replica, and have its tables, its decisions and each of its texts
 pub record HasScheduleOf (run : LoggedRun) (replica : Replica) : Type 0 where
   pub frontier_is : frontier replica ≡ frontier (replica_of_logs run.logs)
-  pub plan_is : plan run.settings replica ≡ plan run.settings (replica_of_logs run.logs)
-  pub decisions_are : (slot : ℕ) → decisions run.settings replica slot ≡ decisions run.settings (replica_of_logs run.logs) slot
+  pub plan_is : plan None run.settings replica ≡ plan None run.settings (replica_of_logs run.logs)
+  pub decisions_are : (slot : ℕ) → decisions None run.settings (said replica) slot ≡ decisions None run.settings (said (replica_of_logs run.logs)) slot
   pub texts_are : (output : Output) → text_of output run.settings replica ≡ text_of output run.settings (replica_of_logs run.logs)
 
 -- ---- followers

@@ -35,10 +35,6 @@ rows_in o Lags slot tables decided = rows_booked (book_before o slot tables deci
 abbrev pub rows_text : Dispatch → Output → ℕ → List ℕ
 rows_text d output slot = lines_text (rows_in d.origin output slot d.tables d.decided)
 
--- those of a first run
-abbrev pub rows_from : Output → ℕ → List Table → List (List Decided) → List (List (List ℕ))
-rows_from = rows_in None
-
 -- Of slots whose rows are written none is asked again, but for lags, which count from slot 0 on.
 abbrev pub KeepsUnwritten : Output → (forgotten unwritten : ℕ) → Type 0
 KeepsUnwritten output forgotten unwritten = (forgotten ≤ unwritten) × (output ≡ Lags → forgotten ≡ 0)

@@ -1,12 +1,12 @@
 //! The follower.
-ghost use Rattle.std.specs.Prelude.{◌≡◌, ◌↔◌, IsTrue, ◌≢◌, ◌⊎◌, ◌<◌, ◌≤◌, [], Err, IfErr, IfOk, IfSome, IsErrOf, OnErr, OnOk, Some, false, length, max};
+ghost use Rattle.std.specs.Prelude.{◌≡◌, ◌↔◌, IsTrue, ◌≢◌, ◌⊎◌, ◌<◌, ◌≤◌, [], Err, IfErr, IfOk, IfSome, IsErrOf, OnErr, OnOk, Some, false, length, max, None};
 ghost use Rattle.std.specs.Io.KnownBytes.{Appends, Keeps};
 ghost use Rattle.pfair_text.specs.Output.{TakesPrefix};
 ghost use Rattle.pfair_text.specs.Rows.{line};
 ghost use Rattle.pfair_replica.specs.ReplicaRows.{IsShape, held, replica_of};
 ghost use Rattle.pfair_replica.specs.Offered.{taken};
 ghost use Rattle.pfair_replica.specs.Faults.{IsKeyOf, IsTakenAs};
-ghost use Rattle.pfair_table.specs.Events.{start};
+ghost use Rattle.pfair_table.specs.Events.{begin_at};
 ghost use Rattle.pfair_table.specs.Limits.{settings_from};
 ghost use Rattle.pfair_table.specs.NextRun.{IsResumeFault};
 ghost use Rattle.pfair_table.specs.Refinement.{IsWholePlan, course_of};
@@ -70,7 +70,7 @@ impl<R: Ready> Follower<R> {
         requires { IsShape settings.processors capacity }
         ensures output { IfOk result (λ f. f.output ≡ output) }
         ensures settings { IfOk result (λ f. f.dispatch.settings ≡ settings) }
-        ensures course { IfOk result (λ f. course_of f.dispatch ≡ start settings capacity) }
+        ensures course { IfOk result (λ f. course_of f.dispatch ≡ begin_at None settings capacity) }
         ensures spent { IfOk result (λ f. f.dispatch.spent ≡ false) }
         ensures nothing { IfOk result (λ f. length f.dispatch.tables ≡ 0) }
         ensures whole { IfOk result (λ f. IsWholePlan f.dispatch) }

@@ -1,13 +1,13 @@
 -- What a follower that was new comes to, by what it holds.
 use Rattle.std.proofs.Common.{ℕ, zero, suc, Bool, false, ◌≡◌, ◌≤◌, ◌<◌, refl, sym, ap, subst, ◌∙◌, arith, inl, inr, List, [], ◌∷◌, ◌++◌, length, append_assoc, append-nil, Option, None, Some, Result, Ok, Err}
 use Rattle.std.specs.List.{list_any}
-use Rattle.std.specs.Prelude.{map, min, IfErr, IsErrOf, OnOk}
+use Rattle.std.specs.Prelude.{IfErr, IsErrOf, OnOk}
 use Rattle.std.specs.Io.KnownBytes.{Appends, Consumes}
 use Rattle.pfair_text.specs.Rows.{line, lines_text}
 use Rattle.pfair_replica.specs.ReplicaRows.{replica_of}
 use Rattle.pfair_replica.specs.Replica.{Replica, empty_replica, frontier, has_torn, numbers_below}
 use Rattle.pfair_table.specs.Events.{Course}
-use Rattle.pfair_table.specs.Table.{Origin, Settings, decisions_from, plan_from}
+use Rattle.pfair_table.specs.Table.{Origin, Settings, plan, plan_decisions}
 use Rattle.pfair_feed.specs.declared.output.Output.{Output}
 use Rattle.pfair_feed.specs.Follow.{Follow, IsPlannedOut, news}
 use Rattle.pfair_feed.specs.RowLaws.{text_of}
@@ -35,7 +35,7 @@ plan_rows o slot f g bytes rest old new begins unwritten fed =
     let origin : g.dispatch.origin ≡ o = fed.fed.gone_on.grown.origin_is ∙ begins in
     let set : g.dispatch.settings ≡ f.dispatch.settings = fed.fed.gone_on.grown.settings_are in
     (λ i. lines_text (rows_in (origin i) f.output (unwritten i) (whole.tables_are i) (whole.decided_are i)))
-    ∙ ap (λ (b : Origin). lines_text (rows_in o f.output slot (plan_from b g.dispatch.settings (replica_of g.dispatch.replica)) (map (decisions_from b g.dispatch.settings (replica_of g.dispatch.replica)) (numbers_below (min (frontier (replica_of g.dispatch.replica)) g.dispatch.settings.slots))))) origin
+    ∙ ap (λ (b : Origin). lines_text (rows_in o f.output slot (plan b g.dispatch.settings (replica_of g.dispatch.replica)) (plan_decisions b g.dispatch.settings (replica_of g.dispatch.replica)))) origin
     ∙ ap (λ (t : Settings). rows_of_plan o f.output slot t (replica_of g.dispatch.replica)) set
 
 -- of a follower that has written nothing before the first slot whose rows it writes

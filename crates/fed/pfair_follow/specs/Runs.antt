@@ -1,13 +1,13 @@
 -- What a run that is fed comes to.
-use Rattle.std.specs.Prelude.{ℕ, zero, suc, Bool, true, false, ◌≡◌, ◌≤◌, ◌<◌, ◌⊎◌, ◌++◌, List, [], length, map, min, Option, None, Some}
+use Rattle.std.specs.Prelude.{ℕ, zero, suc, Bool, true, false, ◌≡◌, ◌≤◌, ◌<◌, ◌⊎◌, ◌++◌, List, [], length, Option, None, Some}
 use Rattle.std.specs.Io.KnownBytes.{Appends, Consumes, IsAtEnd, Keeps}
 use Rattle.pfair_text.specs.Output.{TakesPrefix}
 use Rattle.pfair_text.specs.Rows.{line, lines_text}
-use Rattle.pfair_replica.specs.Replica.{Replica, empty_replica, frontier, has_torn, numbers_below}
+use Rattle.pfair_replica.specs.Replica.{Replica, empty_replica, frontier, has_torn}
 use Rattle.pfair_table.specs.declared.script.TheConstants.Script.{LONGEST_LOG}
 use Rattle.pfair_table.specs.Events.{begin_at}
 use Rattle.pfair_table.specs.Refinement.{course_of}
-use Rattle.pfair_table.specs.Table.{Origin, Settings, decisions_from, plan_from}
+use Rattle.pfair_table.specs.Table.{Origin, Settings, plan, plan_decisions}
 use Rattle.pfair_feed.specs.declared.output.Output.{Output}
 use Rattle.pfair_feed.specs.Follow.{Follow}
 use Rattle.pfair_feed.specs.RowLaws.{text_of}
@@ -32,7 +32,7 @@ head_from (Some c) output slot = []
 
 -- the rows of what the contents of the logs settle, from a slot on
 abbrev pub rows_of_plan : Origin → Output → ℕ → Settings → Replica → List ℕ
-rows_of_plan o output slot s x = lines_text (rows_in o output slot (plan_from o s x) (map (decisions_from o s x) (numbers_below (min (frontier x) s.slots))))
+rows_of_plan o output slot s x = lines_text (rows_in o output slot (plan o s x) (plan_decisions o s x))
 
 -- what is written of them: all that is written at once of a task file, or the rows of a later run, or from a later slot on
 abbrev pub text_from : Origin → Output → ℕ → Settings → Replica → List ℕ

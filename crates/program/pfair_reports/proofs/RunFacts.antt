@@ -1,7 +1,7 @@
 -- What is known of the text of a dispatcher that ran a file's script is known of the output of the file.
 use Rattle.std.proofs.Common.{ℕ, List, Option, Ok, Bool, ◌≡◌, ◌≤◌, ap, ◌∙◌, subst, map}
 use Rattle.std.proofs.lemmas.Option.{IfSome_then}
-use Rattle.std.specs.Prelude.{IfSome, Vec}
+use Rattle.std.specs.Prelude.{IfSome, Vec, None}
 use Rattle.std.specs.declared.alloc.Global.{Global}
 use Rattle.pfair_file.specs.Schedules.{IsRefusalOf}
 use Rattle.pfair_file.specs.declared.program_fault.ProgramFault.{ProgramFault}
@@ -15,7 +15,7 @@ use Rattle.pfair_table.specs.declared.run_fault.RunFault.TheVariants as run
 use Rattle.pfair_board.specs.RunFaults.{IsRunFaultOf}
 use Rattle.pfair_table.specs.declared.planned.Run.{Run}
 use Rattle.pfair_table.specs.Table.{Table}
-use Rattle.pfair_table.specs.Places.{places_of}
+use Rattle.pfair_table.specs.Places.{places_in}
 use Rattle.pfair_table.specs.Planned.{as_tables, as_places}
 use Rattle.pfair_board.specs.Finish.{HasPlan}
 use Rattle.pfair_board.specs.Sinks.{has_kept}
@@ -37,14 +37,14 @@ pub output_of_plan : {K : Type 0} {made shown : List ℕ} (has : K → ℕ → L
     → ((run : LoggedRun) → HasPlan has run kept → made ≡ text run) → shown ≡ made → (P : List ℕ → Type 0) → P shown → IfSome given (λ bytes. IsOutputOf text bytes P)
 output_of_plan has text given kept known same equal P p = IfSome_then given known (λ bytes (run, read, is). (run, read, is.far_enough, subst P (equal ∙ same run is) p))
 
-pub places_made : (made : Run) (kept : Vec (Vec Pick Global) Global) {tables : List (Vec Pick Global)} {places : List (Vec ℕ Global)} → made.tables ≡ kept → as_places made.places ≡ places_of (as_tables kept)
+pub places_made : (made : Run) (kept : Vec (Vec Pick Global) Global) {tables : List (Vec Pick Global)} {places : List (Vec ℕ Global)} → made.tables ≡ kept → as_places made.places ≡ places_in None (as_tables kept)
     → tables ≡ made.tables.items → places ≡ made.places.items → (run : LoggedRun) → HasPlan has_kept run kept
     → placed_text (map (λ t. t.items) tables) (map (λ p. p.items) places) ≡ placed_replay_of_run run
 places_made made kept {places = places} tables_are placed are places_are run is =
     ap (λ (ts : List (Vec Pick Global)). placed_text (map (λ t. t.items) ts) (map (λ p. p.items) places)) are
     ∙ ap (λ (ps : List (Vec ℕ Global)). placed_text (as_tables made.tables) (map (λ p. p.items) ps)) places_are
     ∙ ap (λ (ps : List (List ℕ)). placed_text (as_tables made.tables) ps) placed
-    ∙ ap (λ (ts : Vec (Vec Pick Global) Global). placed_text (as_tables ts) (places_of (as_tables kept))) tables_are
+    ∙ ap (λ (ts : Vec (Vec Pick Global) Global). placed_text (as_tables ts) (places_in None (as_tables kept))) tables_are
     ∙ ap placed_replay_text is.plan.0
 
 -- what refuses a file refuses its replay

@@ -1,5 +1,5 @@
 -- What the commands write of a task file, and the faults of a replay.
-use Rattle.std.specs.Prelude.{ℕ, Bool, true, List, ◌≡◌, ◌≤◌, Option, Ok}
+use Rattle.std.specs.Prelude.{ℕ, Bool, true, List, ◌≡◌, ◌≤◌, Option, Ok, None}
 use Rattle.pfair_replica.specs.Replica.{Replica, frontier}
 use Rattle.pfair_text.specs.Rows.{TextWriter, IsOpen, text_so_far}
 use Rattle.pfair_table.specs.Table.{Table, plan}
@@ -19,11 +19,11 @@ replica_of_run run = replica_of_logs run.logs
 
 -- the tables of a script, as rows
 abbrev pub replay_of_run : LoggedRun → List ℕ
-replay_of_run run = replay_text (plan run.settings (replica_of_run run))
+replay_of_run run = replay_text (plan None run.settings (replica_of_run run))
 
 -- the tables of a script as rows, each with its place
 abbrev pub placed_replay_of_run : LoggedRun → List ℕ
-placed_replay_of_run run = placed_replay_text (plan run.settings (replica_of_run run))
+placed_replay_of_run run = placed_replay_text (plan None run.settings (replica_of_run run))
 
 -- the decisions of a script, as rows
 abbrev pub decisions_of_run : LoggedRun → List ℕ

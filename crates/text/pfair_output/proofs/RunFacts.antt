@@ -1,12 +1,12 @@
 -- What one slot of a script's run adds.
-use Rattle.std.proofs.Common.{ℕ, suc, ◌+◌, ◌≤◌, ◌≡◌, min, sym, ap, ◌∙◌, arith, List, [], ◌∷◌, ◌++◌, length, append_assoc}
+use Rattle.std.proofs.Common.{ℕ, suc, ◌+◌, ◌≤◌, ◌≡◌, min, sym, ap, ◌∙◌, arith, List, [], ◌∷◌, ◌++◌, length, append_assoc, None}
 use Rattle.std.specs.List.{flat_map}
 use Rattle.std.proofs.lemmas.List.{append-nil, length-map, map-append}
 use Rattle.std.proofs.lemmas.Grind.{flat_map-append}
 use Rattle.pfair_text.specs.Rows.{lines_text}
 use Rattle.pfair_text.proofs.RowFacts.{lines_text-append}
 use Rattle.pfair_lag.specs.Book.{Book}
-use Rattle.pfair_replica.specs.Replica.{Replica, frontier, numbers_below}
+use Rattle.pfair_replica.specs.Replica.{Replica, frontier, numbers_below, said}
 use Rattle.pfair_table.specs.declared.pick.Decided.{Decided}
 use Rattle.pfair_table.specs.Table.{Settings, table, decisions}
 use Rattle.pfair_output.specs.Decisions.{decided_rows}
@@ -42,18 +42,18 @@ module _ (s : Settings) (x : Replica) (n : ℕ) (start before after : List ℕ) 
   next_number = omega arith
 
   -- a text with the decisions of the slots so far, and then with those of the next one
-  pub decisions_more : before ≡ start ++ lines_text (slots_from decided_rows 0 (decided_below s x n)) → after ≡ before ++ lines_text (decided_rows n (decisions s x n))
+  pub decisions_more : before ≡ start ++ lines_text (slots_from decided_rows 0 (decided_below s x n)) → after ≡ before ++ lines_text (decided_rows n (decisions None s (said x) n))
       → after ≡ start ++ lines_text (slots_from decided_rows 0 (decided_below s x (n + 1)))
   decisions_more had has =
       let so_far : List (List Decided) = decided_below s x n in
-      let long : length so_far ≡ n = length-map (numbers_below n) (decisions s x) ∙ length_numbers n in
-      text_more start before after (slots_from decided_rows 0 so_far) (decided_rows n (decisions s x n)) had has
-      ∙ ap (λ rows. start ++ lines_text rows) (sym (slots_more decided_rows 0 n so_far (decisions s x n) (omega (arith, long))))
-      ∙ ap (λ ds. start ++ lines_text (slots_from decided_rows 0 ds)) (sym (map-append (decisions s x) (numbers_below n) (n ∷ [])) ∙ ap (decided_below s x) (sym next_number))
+      let long : length so_far ≡ n = length-map (numbers_below n) (decisions None s (said x)) ∙ length_numbers n in
+      text_more start before after (slots_from decided_rows 0 so_far) (decided_rows n (decisions None s (said x) n)) had has
+      ∙ ap (λ rows. start ++ lines_text rows) (sym (slots_more decided_rows 0 n so_far (decisions None s (said x) n) (omega (arith, long))))
+      ∙ ap (λ ds. start ++ lines_text (slots_from decided_rows 0 ds)) (sym (map-append (decisions None s (said x)) (numbers_below n) (n ∷ [])) ∙ ap (decided_below s x) (sym next_number))
 
   -- a book that was notified of the slots so far, and then of the next one
-  pub book_more : (old new : Book) → old ≡ book_after s x n → new ≡ slot_booked (decisions s x n) (table s x n) old → new ≡ book_after s x (n + 1)
-  book_more old new had has = has ∙ ap (slot_booked (decisions s x n) (table s x n)) had ∙ ap (book_after s x) (sym next_number)
+  pub book_more : (old new : Book) → old ≡ book_after s x n → new ≡ slot_booked (decisions None s (said x) n) (table None s (said x) n) old → new ≡ book_after s x (n + 1)
+  book_more old new had has = has ∙ ap (slot_booked (decisions None s (said x) n) (table None s (said x) n)) had ∙ ap (book_after s x) (sym next_number)
 
   -- a text with the lags of the slots so far, and then with those of the next one
   pub lags_more : (book : Book) → book ≡ book_after s x (n + 1) → before ≡ start ++ lines_text (flat_map (lag_rows s x) (numbers_below n)) → after ≡ before ++ lines_text (book_rows book)

@@ -21,7 +21,7 @@ use Rattle.pfair_admission.specs.Member.{Member, is_departing}
 use Rattle.pfair_admission.specs.Admission.{Machine, member_named, decision, newcomer, with_freeing, with_delay, with_quantum, change, effect, is_freed, present, all_decided, all_decisions, announcements}
 use Rattle.pfair_table.specs.declared.pick.Pick.{Pick}
 use Rattle.pfair_table.specs.declared.pick.Decided.{Decided}
-use Rattle.pfair_table.specs.Table.{Settings, Origin, Story, Table, machine, members_before, names_task, slot_of, history_over, world_over, table_over, decisions_over, table, with_decisions, decisions, decisions_from, plan_from}
+use Rattle.pfair_table.specs.Table.{Settings, Origin, Story, Table, machine, members_before, names_task, slot_of, history, world, table, decisions, with_decisions, plan}
 use Rattle.pfair_lag.specs.Book.{Tally, Book, empty_book, tally_of, has_run, entered_after, entered_with, slot_more}
 use Rattle.pfair_output.specs.Lags.{is_staying, lag_row, lag_rows}
 use Rattle.pfair_output.specs.Booked.{booked, all_booked, slot_booked, all_slots_booked, tally_row, book_rows, rows_booked, all_entered, entered_again, first_book}
@@ -200,42 +200,42 @@ module _ (o : Origin) (s : Settings) (x : Story) (named : NamesApart label (memb
   joined_at slot booked members all =
       each_boundary slot (HasJoined slot) (λ name w early. (omega arith, omega arith)) (λ freed m h. h) (λ index by m h. h) (machine s) (announcements booked) members all
 
-  ran_is : (t : ℕ) → (history_over o s x (suc t)).members ≡ map (after_table (table_over o s x t)) (world_over o s x t)
-  ran_is t = all_ran_is (table_over o s x t) (rows_apart s.processors (slot_of o t) (world_over o s x t) (named_from o s named x t)) (world_over o s x t)
+  ran_is : (t : ℕ) → (history o s x (suc t)).members ≡ map (after_table (table o s x t)) (world o s x t)
+  ran_is t = all_ran_is (table o s x t) (rows_apart s.processors (slot_of o t) (world o s x t) (named_from o s named x t)) (world o s x t)
 
   joined_ran : (slot : ℕ) (rows : Table) (m : Member) → HasJoined slot m → HasJoined (suc slot) (after_table rows m)
   joined_ran slot rows m h = (elim (names_task m.name rows) as (λ b. HasJoined (suc slot) (if b then with_quantum m else m)) [ true ↦ (omega (arith, h), omega arith) | false ↦ (omega (arith, h), h.1) ])
 
-  joined_history : (t : ℕ) → AllByRecursion (HasJoined (slot_of o t)) (history_over o s x t).members
+  joined_history : (t : ℕ) → AllByRecursion (HasJoined (slot_of o t)) (history o s x t).members
   joined_history zero = begun
   joined_history (suc t) =
       subst (λ (q : ℕ × List Member). AllByRecursion (HasJoined q.0) q.1) (λ i. (sym (slot_later o t) i, sym (ran_is t) i))
-      (each_map (HasJoined (slot_of o t)) (HasJoined (suc (slot_of o t))) (after_table (table_over o s x t)) (joined_ran (slot_of o t) (table_over o s x t)) (world_over o s x t) (joined_at (slot_of o t) (x t) (history_over o s x t).members (joined_history t)))
+      (each_map (HasJoined (slot_of o t)) (HasJoined (suc (slot_of o t))) (after_table (table o s x t)) (joined_ran (slot_of o t) (table o s x t)) (world o s x t) (joined_at (slot_of o t) (x t) (history o s x t).members (joined_history t)))
 
   -- a book that was notified of so many slots
   abbrev pub book_over : Book → ℕ → Book
   book_over book zero = book
-  book_over book (suc t) = slot_booked (decisions_over o s x t) (table_over o s x t) (book_over book t)
+  book_over book (suc t) = slot_booked (decisions o s x t) (table o s x t) (book_over book t)
 
   pub record IsAfter (t : ℕ) (book : Book) : Type 0 where
     pub time_is : book.time ≡ t
-    pub entered_is : book.entered ≡ shown_all (slot_of o t) (history_over o s x t).members
+    pub entered_is : book.entered ≡ shown_all (slot_of o t) (history o s x t).members
 
   -- a slot more
-  after_more : (t : ℕ) (book : Book) → IsAfter t book → IsAfter (suc t) (slot_booked (decisions_over o s x t) (table_over o s x t) book)
+  after_more : (t : ℕ) (book : Book) → IsAfter t book → IsAfter (suc t) (slot_booked (decisions o s x t) (table o s x t) book)
   after_more t book a =
       let slot = slot_of o t in
-      let start = (history_over o s x t).members in
-      let world = world_over o s x t in
-      let rows = table_over o s x t in
+      let start = (history o s x t).members in
+      let world = world o s x t in
+      let rows = table o s x t in
       let next : suc slot ≡ slot + 1 = omega arith in
       let opened : book.entered ≡ shown_all slot (present slot start) = a.entered_is ∙ ap (map (shown slot)) (sym (staying_present slot start)) in
-      let booked : (all_booked (decisions_over o s x t) book).entered ≡ shown_all slot world = all_of_slot (machine s) slot (x t) (present slot start) book opened in
-      let closed : (slot_booked (decisions_over o s x t) rows book).entered ≡ shown_all (slot + 1) (map (after_table rows) world) =
+      let booked : (all_booked (decisions o s x t) book).entered ≡ shown_all slot world = all_of_slot (machine s) slot (x t) (present slot start) book opened in
+      let closed : (slot_booked (decisions o s x t) rows book).entered ≡ shown_all (slot + 1) (map (after_table rows) world) =
       ap (map (λ (e : NameValue × Tally). (e.0, slot_more (map (λ (p : Pick). p.name) rows) e.0 e.1))) booked ∙ all_recorded slot rows world (joined_at slot (x t) start (joined_history t)) in
       let now : t + 1 ≡ suc t = omega arith in
       record {
-        time_is = ap (λ n. n + 1) (time-all_booked (decisions_over o s x t) book ∙ a.time_is) ∙ now;
+        time_is = ap (λ n. n + 1) (time-all_booked (decisions o s x t) book ∙ a.time_is) ∙ now;
         entered_is = closed ∙ (λ i. shown_all ((sym next ∙ sym (slot_later o t)) i) (sym (ran_is t) i));
       }
 
@@ -305,7 +305,7 @@ module _ (s : Settings) (x : Replica) where
   pub rows_after : (t : ℕ) → book_rows (book_after (suc t)) ≡ lag_rows s x t
   rows_after t =
       let a = after_first (suc t) in
-      let members = (history_over None s (said x) (suc t)).members in
+      let members = (history None s (said x) (suc t)).members in
       let next : suc t ≡ t + 1 = omega arith in
       ap (λ n. map (tally_row n) (book_after (suc t)).entered) a.time_is ∙ ap (map (tally_row (suc t))) a.entered_is
       ∙ same_rows (suc t) (filter is_staying members) ∙ ap (λ n. map (lag_row n) (filter is_staying members)) next
@@ -333,26 +333,26 @@ same_length f g [] = refl
 same_length f g (y ∷ ys) = ap suc (same_length f g ys)
 
 module _ (o : Origin) (s : Settings) (x : Story) (named : NamesApart label (members_before o)) (begun : AllByRecursion (HasJoined (slot_of o 0)) (members_before o)) (book : Book) where
-  pub over_slots : (n : ℕ) → all_slots_booked book (map (decisions_over o s x) (numbers_below n)) (map (table_over o s x) (numbers_below n)) ≡ book_over o s x named begun book n
+  pub over_slots : (n : ℕ) → all_slots_booked book (map (decisions o s x) (numbers_below n)) (map (table o s x) (numbers_below n)) ≡ book_over o s x named begun book n
   over_slots zero = refl
   over_slots (suc n) =
-      let ds = decisions_over o s x in
-      let ts = table_over o s x in
+      let ds = decisions o s x in
+      let ts = table o s x in
       let more = over_push book (map ds (numbers_below n)) (map ts (numbers_below n)) (ds n) (ts n) (same_length ds ts (numbers_below n)) in
       rw (map-append ds (numbers_below n) (n ∷ []), map-append ts (numbers_below n) (n ∷ []), more, over_slots n) refl
 
 module _ (s : Settings) (x : Replica) where
   -- the rows of the book that is notified of the first n slots are those of the members
-  pub rows_of_slots : (n : ℕ) → rows_booked empty_book (map (decisions s x) (numbers_below n)) (map (table s x) (numbers_below n)) ≡ flat_map (lag_rows s x) (numbers_below n)
+  pub rows_of_slots : (n : ℕ) → rows_booked empty_book (map (decisions None s (said x)) (numbers_below n)) (map (table None s (said x)) (numbers_below n)) ≡ flat_map (lag_rows s x) (numbers_below n)
   rows_of_slots zero = refl
   rows_of_slots (suc n) =
-      let ds : List (List Decided) = map (decisions s x) (numbers_below n) in
-      let ts : List Table = map (table s x) (numbers_below n) in
-      ap (λ l. rows_booked empty_book l (map (table s x) (numbers_below (suc n)))) (map-append (decisions s x) (numbers_below n) (n ∷ []))
-      ∙ ap (rows_booked empty_book (ds ++ decisions s x n ∷ [])) (map-append (table s x) (numbers_below n) (n ∷ []))
-      ∙ rows_push empty_book ds ts (decisions s x n) (table s x n) (same_length (decisions s x) (table s x) (numbers_below n))
-      ∙ ap (λ l. l ++ book_rows (slot_booked (decisions s x n) (table s x n) (all_slots_booked empty_book ds ts))) (rows_of_slots n)
-      ∙ ap (λ (b : Book). flat_map (lag_rows s x) (numbers_below n) ++ book_rows (slot_booked (decisions s x n) (table s x n) b)) (over_slots None s (said x) (apart_nil label) tt empty_book n)
+      let ds : List (List Decided) = map (decisions None s (said x)) (numbers_below n) in
+      let ts : List Table = map (table None s (said x)) (numbers_below n) in
+      ap (λ l. rows_booked empty_book l (map (table None s (said x)) (numbers_below (suc n)))) (map-append (decisions None s (said x)) (numbers_below n) (n ∷ []))
+      ∙ ap (rows_booked empty_book (ds ++ decisions None s (said x) n ∷ [])) (map-append (table None s (said x)) (numbers_below n) (n ∷ []))
+      ∙ rows_push empty_book ds ts (decisions None s (said x) n) (table None s (said x) n) (same_length (decisions None s (said x)) (table None s (said x)) (numbers_below n))
+      ∙ ap (λ l. l ++ book_rows (slot_booked (decisions None s (said x) n) (table None s (said x) n) (all_slots_booked empty_book ds ts))) (rows_of_slots n)
+      ∙ ap (λ (b : Book). flat_map (lag_rows s x) (numbers_below n) ++ book_rows (slot_booked (decisions None s (said x) n) (table None s (said x) n) b)) (over_slots None s (said x) (apart_nil label) tt empty_book n)
       ∙ ap (λ l. flat_map (lag_rows s x) (numbers_below n) ++ l) (rows_after s x n ∙ sym (append-nil (lag_rows s x n)))
       ∙ sym (flat_map-append (lag_rows s x) (numbers_below n) (n ∷ []))
 
@@ -360,6 +360,6 @@ module _ (s : Settings) (x : Replica) where
 pub whole_rows : (d : Dispatch) → d.origin ≡ None → IsWholePlan d → rows_booked empty_book d.decided d.tables ≡ flat_map (lag_rows d.settings (replica_of d.replica)) (numbers_below (min (frontier (replica_of d.replica)) d.settings.slots))
 whole_rows d first whole =
     let n : ℕ = min (frontier (replica_of d.replica)) d.settings.slots in
-    ap (λ (ds : List (List Decided)). rows_booked empty_book ds d.tables) (whole.decided_are ∙ ap (λ (o : Origin). map (decisions_from o d.settings (replica_of d.replica)) (numbers_below n)) first)
-    ∙ ap (λ (ts : List Table). rows_booked empty_book (map (decisions d.settings (replica_of d.replica)) (numbers_below n)) ts) (whole.tables_are ∙ ap (λ (o : Origin). plan_from o d.settings (replica_of d.replica)) first)
+    ap (λ (ds : List (List Decided)). rows_booked empty_book ds d.tables) (whole.decided_are ∙ ap (λ (o : Origin). map (decisions o d.settings (said (replica_of d.replica))) (numbers_below n)) first)
+    ∙ ap (λ (ts : List Table). rows_booked empty_book (map (decisions None d.settings (said (replica_of d.replica))) (numbers_below n)) ts) (whole.tables_are ∙ ap (λ (o : Origin). plan o d.settings (replica_of d.replica)) first)
     ∙ rows_of_slots d.settings (replica_of d.replica) n

@@ -4,7 +4,7 @@ use Rattle.std.specs.Fmt.{decimal}
 use Rattle.pfair_text.specs.Rows.{lines_text}
 use Rattle.pfair_table.specs.declared.pick.Pick.{Pick}
 use Rattle.pfair_table.specs.Table.{Table}
-use Rattle.pfair_table.specs.Places.{places_of}
+use Rattle.pfair_table.specs.Places.{places_in}
 use Rattle.pfair_output.specs.Slots.{slots_from}
 
 abbrev pub replay_header : List (List ℕ)
@@ -60,4 +60,4 @@ placed_text tables places = lines_text (placed_header ∷ slots_from (placed_tab
 
 -- the tables of a run with the places that they have, where a task that goes on running stays where it is
 abbrev pub placed_replay_text : List Table → List ℕ
-placed_replay_text tables = placed_text tables (places_of tables)
+placed_replay_text tables = placed_text tables (places_in None tables)

@@ -2,7 +2,7 @@
 ghost use Rattle.std.specs.Prelude.{◌≡◌, ◌≤◌, ◌<◌, ◌+◌, ◌∷◌, [], IfOk, IfErr, None, OnOk, length};
 ghost use Rattle.std.specs.List.{flat_map};
 ghost use Rattle.pfair_replica.specs.ReplicaRows.{replica_of};
-ghost use Rattle.pfair_replica.specs.Replica.{frontier, numbers_below};
+ghost use Rattle.pfair_replica.specs.Replica.{frontier, numbers_below, said};
 ghost use Rattle.pfair_table.specs.Script.{replica_of_logs};
 ghost use Rattle.pfair_table.specs.ScriptRun.{IsBySlot, IsScriptFaultOf};
 ghost use Rattle.pfair_table.specs.Table.{decisions, table};
@@ -114,8 +114,8 @@ fn plan_one<R: Ready>(
     requires able { IsBySlot replica.now planner.old }
     requires first { planner.old.origin ≡ None }
     requires left { length planner.old.tables < planner.old.settings.slots }
-    ensures table { IfOk result (λ plan. plan.table.items ≡ table planner.old.settings (replica_of replica.now) (length planner.old.tables)) }
-    ensures decided { IfOk result (λ plan. plan.decided.items ≡ decisions planner.old.settings (replica_of replica.now) (length planner.old.tables)) }
+    ensures table { IfOk result (λ plan. plan.table.items ≡ table None planner.old.settings (said (replica_of replica.now)) (length planner.old.tables)) }
+    ensures decided { IfOk result (λ plan. plan.decided.items ≡ decisions None planner.old.settings (said (replica_of replica.now)) (length planner.old.tables)) }
     ensures planned { OnOk result (length planner.new.tables ≡ length planner.old.tables + 1) }
     ensures able { OnOk result (IsBySlot replica.now planner.new) }
     ensures run { OnOk result ((planner.new.origin ≡ None) × (planner.new.settings ≡ planner.old.settings)) }

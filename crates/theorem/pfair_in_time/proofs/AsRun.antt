@@ -15,7 +15,7 @@ use Rattle.pfair_order.proofs.NamesApart.{first_names}
 use Rattle.pfair_replica.specs.Among.{Among, among_map, map_among, among_all}
 use Rattle.pfair_admission.specs.Member.{Member, theta, is_departing, next_key}
 use Rattle.pfair_admission.specs.Admission.{member_named}
-use Rattle.pfair_table.specs.Table.{Settings, eligible, Story}
+use Rattle.pfair_table.specs.Table.{Settings, eligible, Story, world}
 use Rattle.pfair_optimal.specs.Schedule.{Task, Subtask, Schedule, is_among, NoneTwice, same_task, same_subtask, is_row, has_run}
 use Rattle.pfair_optimal.proofs.Lists.{among_here, among_more, among_cases}
 use Rattle.pfair_optimal.proofs.Past.{task_exact, subtask_exact, ran_at}
@@ -23,7 +23,6 @@ use Rattle.pfair_in_time.proofs.Boundaries.{named_is}
 use Rattle.pfair_table.proofs.Members.{named_world}
 use Rattle.pfair_in_time.proofs.Worlds.{runs, on, on_next, keys_at, keys_apart, same_member, chosen_member, runs_chosen, chosen_runs, next_new, here, came_from, HaveWeights}
 use Rattle.pfair_in_time.proofs.Lines.{IsLine, line_of}
-use Rattle.pfair_table.proofs.FirstRuns.{world}
 
 -- ---- among a list, by a test or not
 
@@ -72,7 +71,7 @@ or_else None rest = rest
 
 abbrev pub last_of : Settings → Story → ℕ → Task → Option Member
 last_of s x zero a = None
-last_of s x (suc n) a = or_else (find (is_task a) (world s x n)) (last_of s x n a)
+last_of s x (suc n) a = or_else (find (is_task a) (world None s x n)) (last_of s x n a)
 
 abbrev pub weight_in : Option Member → Share
 weight_in None = record { cost = 1; period = 1 }
@@ -98,40 +97,40 @@ as_run s x n = record {
   frame = s.frame;
   weight = λ a. weight_in (last_of s x n a);
   offset = λ a i. offset_in a (last_of s x n a) i;
-  table = λ t. map (row_of (world s x t)) (keys_at s x t);
-  members = λ t. map task_of (world s x t);
-  is_active = λ a t. list_any (is_running a) (world s x t);
+  table = λ t. map (row_of (world None s x t)) (keys_at s x t);
+  members = λ t. map task_of (world None s x t);
+  is_active = λ a t. list_any (is_running a) (world None s x t);
 }
 
 -- ---- rows
 
-row_is : (s : Settings) (x : Story) (t : ℕ) (m : Member) → Among (world s x t) m → row_of (world s x t) (next_key m) ≡ subtask_of m
-row_is s x t m h = ap row_in (named_is (world s x t) m.name m (named_world s x t) h (name_itself m.name))
+row_is : (s : Settings) (x : Story) (t : ℕ) (m : Member) → Among (world None s x t) m → row_of (world None s x t) (next_key m) ≡ subtask_of m
+row_is s x t m h = ap row_in (named_is (world None s x t) m.name m (named_world s x t) h (name_itself m.name))
 
-pub row_member : (s : Settings) (x : Story) (n t : ℕ) (z : Subtask) → is_row (as_run s x n) t z ≡ true → (m : Member) × Among (world s x t) m × (runs s x t m ≡ true) × (z ≡ subtask_of m)
+pub row_member : (s : Settings) (x : Story) (n t : ℕ) (z : Subtask) → is_row (as_run s x n) t z ≡ true → (m : Member) × Among (world None s x t) m × (runs s x t m ≡ true) × (z ≡ subtask_of m)
 row_member s x n t z row =
-    let p = among_map (row_of (world s x t)) (keys_at s x t) z (among_test same_subtask subtask_exact (map (row_of (world s x t)) (keys_at s x t)) z row) in
+    let p = among_map (row_of (world None s x t)) (keys_at s x t) z (among_test same_subtask subtask_exact (map (row_of (world None s x t)) (keys_at s x t)) z row) in
     let q = chosen_member s x t p.0 p.1 in
-    (q.0, q.1, chosen_runs s x t q.0 (subst (λ k. Among (keys_at s x t) k) q.3 p.1), p.2 ∙ ap (row_of (world s x t)) q.3 ∙ row_is s x t q.0 q.1)
+    (q.0, q.1, chosen_runs s x t q.0 (subst (λ k. Among (keys_at s x t) k) q.3 p.1), p.2 ∙ ap (row_of (world None s x t)) q.3 ∙ row_is s x t q.0 q.1)
 
-pub member_row : (s : Settings) (x : Story) (n t : ℕ) (m : Member) → Among (world s x t) m → runs s x t m ≡ true → is_row (as_run s x n) t (subtask_of m) ≡ true
+pub member_row : (s : Settings) (x : Story) (n t : ℕ) (m : Member) → Among (world None s x t) m → runs s x t m ≡ true → is_row (as_run s x n) t (subtask_of m) ≡ true
 member_row s x n t m h named =
-    test_among same_subtask subtask_exact (map (row_of (world s x t)) (keys_at s x t)) (subtask_of m)
-    (subst (λ z. Among (map (row_of (world s x t)) (keys_at s x t)) z) (row_is s x t m h) (map_among (row_of (world s x t)) (keys_at s x t) (next_key m) (runs_chosen s x t m h named).1))
+    test_among same_subtask subtask_exact (map (row_of (world None s x t)) (keys_at s x t)) (subtask_of m)
+    (subst (λ z. Among (map (row_of (world None s x t)) (keys_at s x t)) z) (row_is s x t m h) (map_among (row_of (world None s x t)) (keys_at s x t) (next_key m) (runs_chosen s x t m h named).1))
 
 pub rows_apart : (s : Settings) (x : Story) (n t : ℕ) → NoneTwice same_subtask ((as_run s x n).table t)
-rows_apart s x n t = go (keys_at s x t) (λ k h. h) (first_names s.processors (eligible t (world s x t)) (keys_apart s x t))
+rows_apart s x n t = go (keys_at s x t) (λ k h. h) (first_names s.processors (eligible t (world None s x t)) (keys_apart s x t))
   where
-    named : (k : Key) → Among (keys_at s x t) k → (row_of (world s x t) k).task.name ≡ k.name
-    named k h = (let q = chosen_member s x t k h in ap (λ (z : Subtask). z.task.name) (ap (row_of (world s x t)) q.3 ∙ row_is s x t q.0 q.1) ∙ ap (λ (l : Key). l.name) (sym q.3))
+    named : (k : Key) → Among (keys_at s x t) k → (row_of (world None s x t) k).task.name ≡ k.name
+    named k h = (let q = chosen_member s x t k h in ap (λ (z : Subtask). z.task.name) (ap (row_of (world None s x t)) q.3 ∙ row_is s x t q.0 q.1) ∙ ap (λ (l : Key). l.name) (sym q.3))
 
-    go : (ks : List Key) → ((k : Key) → Among ks k → Among (keys_at s x t) k) → NamesApart (λ (k : Key). k.name) ks → NoneTwice same_subtask (map (row_of (world s x t)) ks)
+    go : (ks : List Key) → ((k : Key) → Among ks k → Among (keys_at s x t) k) → NamesApart (λ (k : Key). k.name) ks → NoneTwice same_subtask (map (row_of (world None s x t)) ks)
     go [] within apart = tt
     go (k ∷ ks) within apart = (
-      elim (cases_Bool (is_among same_subtask (map (row_of (world s x t)) ks) (row_of (world s x t) k))) [
+      elim (cases_Bool (is_among same_subtask (map (row_of (world None s x t)) ks) (row_of (world None s x t) k))) [
         | inr e ↦ e
         | inl twice ↦ absurd (
-            let p = among_map (row_of (world s x t)) ks (row_of (world s x t) k) (among_test same_subtask subtask_exact (map (row_of (world s x t)) ks) (row_of (world s x t) k) twice) in
+            let p = among_map (row_of (world None s x t)) ks (row_of (world None s x t) k) (among_test same_subtask subtask_exact (map (row_of (world None s x t)) ks) (row_of (world None s x t) k) twice) in
             let names : k.name ≡ p.0.name = sym (named k (within k (inl refl))) ∙ ap (λ (z : Subtask). z.task.name) p.2 ∙ named p.0 (within p.0 (inr p.1)) in
             let other = among_all (λ (y : Key). name_eq k.name y.name ≡ false) ks (apart_head (λ (k : Key). k.name) k ks apart) p.0 p.1 in
             true≢false (sym (subst (λ (n : List ℕ). name_eq k.name n ≡ true) names (name_itself k.name)) ∙ other))
@@ -142,21 +141,21 @@ rows_apart s x n t = go (keys_at s x t) (λ k h. h) (first_names s.processors (e
 module _ (s : Settings) (x : Story) (weights : HaveWeights x) where
   -- ---- in the end
 
-  last_line : (n u : ℕ) (m : Member) → Among (world s x u) m → u < n → (l : Member) × (v : ℕ) × (last_of s x n (task_of m) ≡ Some l) × Among (world s x v) l × (u ≤ v) × IsLine s x u v m l
+  last_line : (n u : ℕ) (m : Member) → Among (world None s x u) m → u < n → (l : Member) × (v : ℕ) × (last_of s x n (task_of m) ≡ Some l) × Among (world None s x v) l × (u ≤ v) × IsLine s x u v m l
   last_line zero u m h less = absurd (omega arith)
-  last_line (suc n) u m h less = by (find (is_task (task_of m)) (world s x n)) refl (λ before. last_line n u m h before)
+  last_line (suc n) u m h less = by (find (is_task (task_of m)) (world None s x n)) refl (λ before. last_line n u m h before)
     where
       Last : Option Member → Type 0
-      Last o = (l : Member) × (v : ℕ) × (or_else o (last_of s x n (task_of m)) ≡ Some l) × Among (world s x v) l × (u ≤ v) × IsLine s x u v m l
+      Last o = (l : Member) × (v : ℕ) × (or_else o (last_of s x n (task_of m)) ≡ Some l) × Among (world None s x v) l × (u ≤ v) × IsLine s x u v m l
 
-      by : (o : Option Member) → find (is_task (task_of m)) (world s x n) ≡ o → (u < n → Last None) → Last o
+      by : (o : Option Member) → find (is_task (task_of m)) (world None s x n) ≡ o → (u < n → Last None) → Last o
       by (Some l) e rest =
-          let f = found_some (is_task (task_of m)) (world s x n) l e in
+          let f = found_some (is_task (task_of m)) (world None s x n) l e in
           let same = (task_exact (task_of l) (task_of m)).0 f.1 in
           (l, n, refl, f.0, omega arith, line_of s x weights n u m l h f.0 (omega arith) (ap (λ (a : Task). a.name) same) (ap (λ (a : Task). a.joined) same))
       by None e rest =
           elim (cases_eq u n) [
-            | inl now ↦ absurd (found_none (is_task (task_of m)) (world s x n) m e (subst (λ k. Among (world s x k) m) now h) ((task_exact (task_of m) (task_of m)).1 refl))
+            | inl now ↦ absurd (found_none (is_task (task_of m)) (world None s x n) m e (subst (λ k. Among (world None s x k) m) now h) ((task_exact (task_of m) (task_of m)).1 refl))
             | inr other ↦ rest (omega (arith, other))
           ]
 
@@ -167,18 +166,18 @@ module _ (s : Settings) (x : Story) (weights : HaveWeights x) where
     pub stays : (i : ℕ) → (i < m.next) ⊎ (release_of m.weight i (theta m i) ≤ u) → (as_run s x n).offset (task_of m) i ≡ theta m i
     pub stays_run : (i : ℕ) → runs s x u m ≡ true → i ≤ m.next → (as_run s x n).offset (task_of m) i ≡ theta m i
 
-  pub final : (n u : ℕ) (m : Member) → Among (world s x u) m → u < n → IsFinal n u m
+  pub final : (n u : ℕ) (m : Member) → Among (world None s x u) m → u < n → IsFinal n u m
   final n u m h less =
       let p = last_line n u m h less in
       by p.0 p.1 p.2 p.3 p.4 p.5
     where
-      by : (l : Member) (v : ℕ) → last_of s x n (task_of m) ≡ Some l → Among (world s x v) l → u ≤ v → IsLine s x u v m l → IsFinal n u m
+      by : (l : Member) (v : ℕ) → last_of s x n (task_of m) ≡ Some l → Among (world None s x v) l → u ≤ v → IsLine s x u v m l → IsFinal n u m
       by l v e there le line = record {
         weight = ap weight_in e ∙ line.weight;
         rises = λ i. (let at = offset i in let up = line.rises i in omega arith);
         stays = λ i frozen. offset i ∙ line.stays i frozen;
         stays_run = λ i named low. offset i ∙ (elim (cases_eq u v) [
-          | inl now ↦ (let same = same_member s x u l m (subst (λ k. Among (world s x k) l) (sym now) there) h line.name in ap (λ (k : Member). theta k i) same)
+          | inl now ↦ (let same = same_member s x u l m (subst (λ k. Among (world None s x k) l) (sym now) there) h line.name in ap (λ (k : Member). theta k i) same)
           | inr other ↦ line.stays_run i (omega (arith, other)) named low
         ]);
       }
@@ -188,11 +187,11 @@ module _ (s : Settings) (x : Story) (weights : HaveWeights x) where
 
   -- ---- what ran
 
-  pub next_counted : (t : ℕ) (m : Member) → Among (world s x t) m → 1 ≤ m.next
+  pub next_counted : (t : ℕ) (m : Member) → Among (world None s x t) m → 1 ≤ m.next
   next_counted t m h = let e = (here s x weights t m h).next in omega arith
 
   -- all subtasks before the next one ran
-  pub all_before_ran : (n t : ℕ) (m : Member) (i : ℕ) → Among (world s x t) m → 1 ≤ i → i < m.next → has_run (as_run s x n) (record { task = task_of m; index = i }) t ≡ true
+  pub all_before_ran : (n t : ℕ) (m : Member) (i : ℕ) → Among (world None s x t) m → 1 ≤ i → i < m.next → has_run (as_run s x n) (record { task = task_of m; index = i }) t ≡ true
   all_before_ran n zero m i h first less = absurd (
       let at = here s x weights 0 m h in
       let joined = at.by_now in
@@ -205,7 +204,7 @@ module _ (s : Settings) (x : Story) (weights : HaveWeights x) where
         | inl p ↦ earlier p.0 p.1 p.2.name p.2.joined p.2.next (λ l. all_before_ran n t p.0 i p.1 first l)
       ]
     where
-      earlier : (l : Member) → Among (world s x t) l → m.name ≡ l.name → m.joined ≡ l.joined → m.next ≡ (on s x t l).next → (i < l.next → has_run (as_run s x n) (record { task = task_of l; index = i }) t ≡ true)
+      earlier : (l : Member) → Among (world None s x t) l → m.name ≡ l.name → m.joined ≡ l.joined → m.next ≡ (on s x t l).next → (i < l.next → has_run (as_run s x n) (record { task = task_of l; index = i }) t ≡ true)
           → has_run (as_run s x n) (record { task = task_of m; index = i }) (suc t) ≡ true
       earlier l there name joined next rest =
           let task_is : task_of l ≡ task_of m = λ j. record { name = sym name j; joined = sym joined j } in
@@ -227,7 +226,7 @@ module _ (s : Settings) (x : Story) (weights : HaveWeights x) where
           at_last last = (let p = named last in subst (λ k. is_row (as_run s x n) t (record { task = task_of l; index = k }) ≡ true) p.1 (member_row s x n t l there p.0))
 
   -- and none from the next one on
-  pub none_after_ran : (n t : ℕ) (m : Member) (i : ℕ) → Among (world s x t) m → m.next ≤ i → has_run (as_run s x n) (record { task = task_of m; index = i }) t ≡ true → ⊥
+  pub none_after_ran : (n t : ℕ) (m : Member) (i : ℕ) → Among (world None s x t) m → m.next ≤ i → has_run (as_run s x n) (record { task = task_of m; index = i }) t ≡ true → ⊥
   none_after_ran n t m i h le ran =
       let p = ran_at (as_run s x n) (record { task = task_of m; index = i }) t ran in
       let q = row_member s x n p.0 (record { task = task_of m; index = i }) p.2 in

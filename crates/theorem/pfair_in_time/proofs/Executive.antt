@@ -13,7 +13,7 @@ use Rattle.pfair_order.specs.Order.{GoesBefore, earlier_deadline, greater_b_bit,
 use Rattle.pfair_order.proofs.NamesApart.{once_from_names}
 use Rattle.pfair_replica.specs.Among.{Among, among_contains, contains_among, filter_among, map_among}
 use Rattle.pfair_admission.specs.Member.{Member, theta, is_departing, eligible_from, next_key}
-use Rattle.pfair_table.specs.Table.{Settings, eligible, is_eligible, Story}
+use Rattle.pfair_table.specs.Table.{Settings, eligible, is_eligible, Story, world}
 use Rattle.pfair_optimal.specs.Fluid.{busy_bound_of}
 use Rattle.pfair_optimal.specs.Schedule.{Task, Subtask, Schedule, is_among, same_task, release, deadline, b_bit, group_deadline, busy_bound, is_row, has_run, IsNext, GoesFirst}
 use Rattle.pfair_optimal.specs.Beginning.{IsRunBelow}
@@ -27,7 +27,6 @@ use Rattle.pfair_in_time.proofs.AsRun.{test_among, task_of, subtask_of, is_task,
 use Rattle.pfair_in_time.proofs.Room.{room_world}
 use Rattle.pfair_admission.proofs.Keeping.{eligible_no_later}
 use Rattle.pfair_in_time.proofs.Claims.{bound_le_claim, IsPast, past_first}
-use Rattle.pfair_table.proofs.FirstRuns.{world}
 
 -- ---- who goes before whom
 
@@ -70,12 +69,12 @@ module _ (s : Settings) (x : Story) (frame : 0 < s.frame) (weights : HaveWeights
   -- the task in the end is a member of some slot
   last_member : (k : ℕ) (a : Task) (m : Member) → last_of s x k a ≡ Some m → IsSound s.frame m × (task_of m ≡ a)
   last_member zero a m e = absurd (cc)
-  last_member (suc k) a m e = by (find (is_task a) (world s x k)) refl e (λ f. last_member k a m f)
+  last_member (suc k) a m e = by (find (is_task a) (world None s x k)) refl e (λ f. last_member k a m f)
     where
-      by : (o : Option Member) → find (is_task a) (world s x k) ≡ o → or_else o (last_of s x k a) ≡ Some m → (last_of s x k a ≡ Some m → IsSound s.frame m × (task_of m ≡ a)) → IsSound s.frame m × (task_of m ≡ a)
+      by : (o : Option Member) → find (is_task a) (world None s x k) ≡ o → or_else o (last_of s x k a) ≡ Some m → (last_of s x k a ≡ Some m → IsSound s.frame m × (task_of m ≡ a)) → IsSound s.frame m × (task_of m ≡ a)
       by (Some l) f is rest =
           let same : Some l ≡ Some m = is in
-          let p = found_some (is_task a) (world s x k) m (f ∙ same) in
+          let p = found_some (is_task a) (world None s x k) m (f ∙ same) in
           ((here s x weights k m p.0).sound, (task_exact (task_of m) a).0 p.1)
       by None f is rest = rest is
 
@@ -105,17 +104,17 @@ module _ (s : Settings) (x : Story) (frame : 0 < s.frame) (weights : HaveWeights
   }
 
   -- who is active
-  active_member : (a : Task) (t : ℕ) → (as_run s x n).is_active a t ≡ true → (m : Member) × Among (world s x t) m × (task_of m ≡ a) × (is_departing m ≡ false)
+  active_member : (a : Task) (t : ℕ) → (as_run s x n).is_active a t ≡ true → (m : Member) × Among (world None s x t) m × (task_of m ≡ a) × (is_departing m ≡ false)
   active_member a t h =
-      let p = any_among (is_running a) (world s x t) h in
+      let p = any_among (is_running a) (world None s x t) h in
       let q = and_parts (is_task a p.0) (not (is_departing p.0)) p.2 in
       (p.0, p.1, (task_exact (task_of p.0) a).0 q.0, not-true (is_departing p.0) q.1)
 
-  pub member_active : (a : Task) (t : ℕ) (m : Member) → Among (world s x t) m → task_of m ≡ a → is_departing m ≡ false → (as_run s x n).is_active a t ≡ true
-  member_active a t m h e d = any_from_among (is_running a) (world s x t) m h (and_from (is_task a m) (not (is_departing m)) ((task_exact (task_of m) a).1 e) (not_from_false (is_departing m) d))
+  pub member_active : (a : Task) (t : ℕ) (m : Member) → Among (world None s x t) m → task_of m ≡ a → is_departing m ≡ false → (as_run s x n).is_active a t ≡ true
+  member_active a t m h e d = any_from_among (is_running a) (world None s x t) m h (and_from (is_task a m) (not (is_departing m)) ((task_exact (task_of m) a).1 e) (not_from_false (is_departing m) d))
 
-  member_among : (a : Task) (t : ℕ) (m : Member) → Among (world s x t) m → task_of m ≡ a → is_among same_task (map task_of (world s x t)) a ≡ true
-  member_among a t m h e = test_among same_task task_exact (map task_of (world s x t)) a (subst (λ b. Among (map task_of (world s x t)) b) e (map_among task_of (world s x t) m h))
+  member_among : (a : Task) (t : ℕ) (m : Member) → Among (world None s x t) m → task_of m ≡ a → is_among same_task (map task_of (world None s x t)) a ≡ true
+  member_among a t m h e = test_among same_task task_exact (map task_of (world None s x t)) a (subst (λ b. Among (map task_of (world None s x t)) b) e (map_among task_of (world None s x t) m h))
 
   task_is : (l m : Member) → l.name ≡ m.name → l.joined ≡ m.joined → task_of l ≡ task_of m
   task_is l m name joined = λ i. record { name = name i; joined = joined i }
@@ -141,7 +140,7 @@ module _ (s : Settings) (x : Story) (frame : 0 < s.frame) (weights : HaveWeights
       ]
 
   -- the subtask that a member is at is its next
-  pub at_next : (t : ℕ) (m : Member) (i : ℕ) → Among (world s x t) m → m.next ≡ i → IsNext (as_run s x n) (record { task = task_of m; index = i }) t
+  pub at_next : (t : ℕ) (m : Member) (i : ℕ) → Among (world None s x t) m → m.next ≡ i → IsNext (as_run s x n) (record { task = task_of m; index = i }) t
   at_next t m i h e = record {
     counted = (let c = next_counted s x weights t m h in omega arith);
     follows = elim (cases_eq i 1) [
@@ -187,7 +186,7 @@ module _ (s : Settings) (x : Story) (frame : 0 < s.frame) (weights : HaveWeights
       let p = row_member s x n u z row in
       by p.0 p.1 p.2 p.3 (cases_lt u t)
     where
-      by : (m : Member) → Among (world s x u) m → runs s x u m ≡ true → z ≡ subtask_of m → (u < t) ⊎ (t ≤ u) → is_among same_task ((as_run s x n).members t) z.task ≡ true
+      by : (m : Member) → Among (world None s x u) m → runs s x u m ≡ true → z ≡ subtask_of m → (u < t) ⊎ (t ≤ u) → is_among same_task ((as_run s x n).members t) z.task ≡ true
       by m h named e (inr earlier) =
           let since : z.task.joined ≡ m.joined = ap (λ (y : Subtask). y.task.joined) e in
           let q = back_to s x weights u t m h (omega arith) earlier in
@@ -216,7 +215,7 @@ module _ (s : Settings) (x : Story) (frame : 0 < s.frame) (weights : HaveWeights
 
   room : (t : ℕ) → t < n → sum_by (λ a. units_of ((as_run s x n).weight a) s.frame) ((as_run s x n).members t) ≤ s.processors * s.frame
   room t less =
-      let same = sum_same (λ a. units_of ((as_run s x n).weight a) s.frame) (λ (m : Member). units_of m.weight s.frame) (world s x t) (λ m h. ap (λ (w : Share). units_of w s.frame) (final s x weights n t m h less).weight) in
+      let same = sum_same (λ a. units_of ((as_run s x n).weight a) s.frame) (λ (m : Member). units_of m.weight s.frame) (world None s x t) (λ m h. ap (λ (w : Share). units_of w s.frame) (final s x weights n t m h less).weight) in
       let all = room_world s x t in
       omega arith
 
@@ -228,8 +227,8 @@ module _ (s : Settings) (x : Story) (frame : 0 < s.frame) (weights : HaveWeights
       let p = active_member z.task t active in
       by p.0 p.1 p.2 p.3
     where
-      by : (m : Member) → Among (world s x t) m → task_of m ≡ z.task → is_departing m ≡ false → (length ((as_run s x n).table t) ≡ s.processors) × ((w : Subtask) → is_row (as_run s x n) t w ≡ true → GoesFirst (as_run s x n) w z)
-      by m h e d = (length-map (keys_at s x t) (row_of (world s x t)) ∙ past.full, λ w row. first w (row_member s x n t w row))
+      by : (m : Member) → Among (world None s x t) m → task_of m ≡ z.task → is_departing m ≡ false → (length ((as_run s x n).table t) ≡ s.processors) × ((w : Subtask) → is_row (as_run s x n) t w ≡ true → GoesFirst (as_run s x n) w z)
+      by m h e d = (length-map (keys_at s x t) (row_of (world None s x t)) ∙ past.full, λ w row. first w (row_member s x n t w row))
         where
           z_at : (i : ℕ) → z.index ≡ i → z ≡ record { task = task_of m; index = i }
           z_at i same = λ j. record { task = sym e j; index = same j }
@@ -265,8 +264,8 @@ module _ (s : Settings) (x : Story) (frame : 0 < s.frame) (weights : HaveWeights
           may_run : is_eligible t m ≡ true
           may_run = and_from (not (is_departing m)) (nat_le (eligible_from m m.next) t) (not_from_false (is_departing m) d) (le-leb (eligible_from m m.next) t (let by_then = eligible_no_later m m.next in let r = released in omega arith))
 
-          among : Contains (eligible t (world s x t)) (next_key m)
-          among = among_contains (eligible t (world s x t)) (next_key m) (map_among next_key (filter (is_eligible t) (world s x t)) m (filter_among (is_eligible t) (world s x t) m h may_run))
+          among : Contains (eligible t (world None s x t)) (next_key m)
+          among = among_contains (eligible t (world None s x t)) (next_key m) (map_among next_key (filter (is_eligible t) (world None s x t)) m (filter_among (is_eligible t) (world None s x t) m h may_run))
 
           out : Contains (keys_at s x t) (next_key m) → ⊥
           out c =
@@ -275,9 +274,9 @@ module _ (s : Settings) (x : Story) (frame : 0 < s.frame) (weights : HaveWeights
               true≢false (sym (subst (λ y. has_run (as_run s x n) y (suc t) ≡ true) (sym is_it) ran) ∙ not_run)
 
           past : IsPast s.processors (keys_at s x t) (next_key m)
-          past = past_first s.processors (eligible t (world s x t)) (next_key m) (once_from_names (eligible t (world s x t)) (keys_apart s x t)) among out
+          past = past_first s.processors (eligible t (world None s x t)) (next_key m) (once_from_names (eligible t (world None s x t)) (keys_apart s x t)) among out
 
-          first : (w : Subtask) → (l : Member) × Among (world s x t) l × (runs s x t l ≡ true) × (w ≡ subtask_of l) → GoesFirst (as_run s x n) w z
+          first : (w : Subtask) → (l : Member) × Among (world None s x t) l × (runs s x t l ≡ true) × (w ≡ subtask_of l) → GoesFirst (as_run s x n) w z
           first w (l, i, named, same) =
               let g = final s x weights n t l i less in
               let key = (runs_chosen s x t l i named).1 in

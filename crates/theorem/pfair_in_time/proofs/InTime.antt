@@ -9,7 +9,7 @@ use Rattle.pfair_replica.specs.Among.{Among, among_map}
 use Rattle.pfair_admission.specs.Member.{Member, theta, is_departing, is_delayed_at, eligible_from, next_key}
 use Rattle.pfair_table.specs.declared.pick.Pick.{Pick}
 use Rattle.pfair_admission.proofs.Keeping.{eligible_at_job}
-use Rattle.pfair_table.specs.Table.{Settings, pick, index_of, Story}
+use Rattle.pfair_table.specs.Table.{Settings, pick, index_of, Story, world, table}
 use Rattle.pfair_optimal.specs.Schedule.{Task, Subtask, deadline, is_row, has_run, IsNext}
 use Rattle.pfair_optimal.proofs.Beginnings.{beginning_none_misses, beginning_in_time}
 use Rattle.pfair_optimal.proofs.Past.{task_exact, ran_at, ran_by, ran_more}
@@ -19,25 +19,24 @@ use Rattle.pfair_table.proofs.Members.{named_world}
 use Rattle.pfair_in_time.proofs.Worlds.{same_member, runs, keys_at, chosen_member, chosen_runs, runs_chosen, on_next, here, HaveWeights, index_after}
 use Rattle.pfair_in_time.proofs.AsRun.{task_of, subtask_of, is_task, last_of, or_else, offset_in, weight_in, as_run, row_member, member_row, found_some, found_none, next_counted, all_before_ran, none_after_ran}
 use Rattle.pfair_in_time.proofs.Executive.{is_run, member_active}
-use Rattle.pfair_table.proofs.FirstRuns.{world, table}
 
 -- up to the end of slot t a member is the last one of its task
-last_now : (s : Settings) (x : Story) (t : ℕ) (m : Member) → Among (world s x t) m → last_of s x (suc t) (task_of m) ≡ Some m
-last_now s x t m h = by (find (is_task (task_of m)) (world s x t)) refl
+last_now : (s : Settings) (x : Story) (t : ℕ) (m : Member) → Among (world None s x t) m → last_of s x (suc t) (task_of m) ≡ Some m
+last_now s x t m h = by (find (is_task (task_of m)) (world None s x t)) refl
   where
-    by : (o : Option Member) → find (is_task (task_of m)) (world s x t) ≡ o → or_else o (last_of s x t (task_of m)) ≡ Some m
+    by : (o : Option Member) → find (is_task (task_of m)) (world None s x t) ≡ o → or_else o (last_of s x t (task_of m)) ≡ Some m
     by (Some l) e =
-        let f = found_some (is_task (task_of m)) (world s x t) l e in
+        let f = found_some (is_task (task_of m)) (world None s x t) l e in
         ap Some (same_member s x t l m f.0 h (ap (λ (a : Task). a.name) ((task_exact (task_of l) (task_of m)).0 f.1)))
-    by None e = absurd (found_none (is_task (task_of m)) (world s x t) m e h ((task_exact (task_of m) (task_of m)).1 refl))
+    by None e = absurd (found_none (is_task (task_of m)) (world None s x t) m e h ((task_exact (task_of m) (task_of m)).1 refl))
 
 -- so its deadlines in the run are its own
-own_deadline : (s : Settings) (x : Story) (t : ℕ) (m : Member) (i : ℕ) → Among (world s x t) m → deadline (as_run s x (suc t)) (record { task = task_of m; index = i }) ≡ deadline_of m.weight i (theta m i)
+own_deadline : (s : Settings) (x : Story) (t : ℕ) (m : Member) (i : ℕ) → Among (world None s x t) m → deadline (as_run s x (suc t)) (record { task = task_of m; index = i }) ≡ deadline_of m.weight i (theta m i)
 own_deadline s x t m i h = ap (λ (o : Option Member). deadline_of (weight_in o) i (offset_in (task_of m) o i)) (last_now s x t m h)
 
 module _ (s : Settings) (x : Story) (frame : 0 < s.frame) (weights : HaveWeights x) where
   -- the next subtask after a table comes after all that ran
-  next_after : (t : ℕ) (m : Member) → Among (world s x t) m → IsNext (as_run s x (suc t)) (record { task = task_of m; index = index_after s x t m }) (suc t)
+  next_after : (t : ℕ) (m : Member) → Among (world None s x t) m → IsNext (as_run s x (suc t)) (record { task = task_of m; index = index_after s x t m }) (suc t)
   next_after t m h =
       let more = on_next s x t m (here s x weights t m h) in
       let counted = next_counted s x weights t m h in
@@ -59,7 +58,7 @@ module _ (s : Settings) (x : Story) (frame : 0 < s.frame) (weights : HaveWeights
       }
 
   -- and has not run itself
-  not_yet : (t : ℕ) (m : Member) → Among (world s x t) m → has_run (as_run s x (suc t)) (record { task = task_of m; index = index_after s x t m }) (suc t) ≡ false
+  not_yet : (t : ℕ) (m : Member) → Among (world None s x t) m → has_run (as_run s x (suc t)) (record { task = task_of m; index = index_after s x t m }) (suc t) ≡ false
   not_yet t m h = elim (cases_Bool (has_run (as_run s x (suc t)) (record { task = task_of m; index = index_after s x t m }) (suc t))) [
     | inr e ↦ e
     | inl ran ↦ absurd (
@@ -79,20 +78,20 @@ module _ (s : Settings) (x : Story) (frame : 0 < s.frame) (weights : HaveWeights
         ])
   ]
 
-  pub none : (t : ℕ) (m : Member) → Among (world s x t) m → is_departing m ≡ false → suc t < deadline_of m.weight (index_after s x t m) (theta m (index_after s x t m))
+  pub none : (t : ℕ) (m : Member) → Among (world None s x t) m → is_departing m ≡ false → suc t < deadline_of m.weight (index_after s x t m) (theta m (index_after s x t m))
   none t m h d =
       let late = beginning_none_misses (as_run s x (suc t)) (suc t) t (record { task = task_of m; index = index_after s x t m }) (is_run s x frame weights (suc t)) (omega arith)
       (member_active s x frame weights (suc t) (task_of m) t m h refl d) (next_after t m h) (not_yet t m h) in
       let own = own_deadline s x t m (index_after s x t m) h in
       omega arith
 
-  pub in_time : (t : ℕ) (m : Member) → Among (world s x t) m → runs s x t m ≡ true → t < deadline_of m.weight m.next (theta m m.next)
+  pub in_time : (t : ℕ) (m : Member) → Among (world None s x t) m → runs s x t m ≡ true → t < deadline_of m.weight m.next (theta m m.next)
   in_time t m h named =
       let early = beginning_in_time (as_run s x (suc t)) (suc t) t (subtask_of m) (is_run s x frame weights (suc t)) (omega arith) (member_row s x (suc t) t m h named) in
       let own = own_deadline s x t m m.next h in
       omega arith
 
-  pub released : (t : ℕ) (m : Member) → Among (world s x t) m → runs s x t m ≡ true → m.early ≡ false → release_of m.weight m.next (theta m m.next) ≤ t
+  pub released : (t : ℕ) (m : Member) → Among (world None s x t) m → runs s x t m ≡ true → m.early ≡ false → release_of m.weight m.next (theta m m.next) ≤ t
   released t m h named early =
       let p = and_parts (not (is_departing m)) (nat_le (eligible_from m m.next) t) (runs_chosen s x t m h named).0 in
       let from = leb-true (eligible_from m m.next) t p.1 in
@@ -100,24 +99,24 @@ module _ (s : Settings) (x : Story) (frame : 0 < s.frame) (weights : HaveWeights
       omega arith
 
   -- a subtask that starts a job runs from its release on, early or not
-  pub started : (t : ℕ) (m : Member) → Among (world s x t) m → runs s x t m ≡ true → starts_job_of m.weight m.next ≡ true → release_of m.weight m.next (theta m m.next) ≤ t
+  pub started : (t : ℕ) (m : Member) → Among (world None s x t) m → runs s x t m ≡ true → starts_job_of m.weight m.next ≡ true → release_of m.weight m.next (theta m m.next) ≤ t
   started t m h named starts =
       let p = and_parts (not (is_departing m)) (nat_le (eligible_from m m.next) t) (runs_chosen s x t m h named).0 in
       let from = leb-true (eligible_from m m.next) t p.1 in
       let is = eligible_at_job m m.next starts in
       omega arith
 
-  pub rows : (t : ℕ) (p : Pick) → Among (table s x t) p → (m : Member) × Among (world s x t) m × IsInTime t p m
+  pub rows : (t : ℕ) (p : Pick) → Among (table None s x t) p → (m : Member) × Among (world None s x t) m × IsInTime t p m
   rows t p h =
-      let q = among_map (pick (world s x t)) (keys_at s x t) p h in
+      let q = among_map (pick (world None s x t)) (keys_at s x t) p h in
       let k = chosen_member s x t q.0 q.1 in
       let named = chosen_runs s x t k.0 (subst (λ l. Among (keys_at s x t) l) k.3 q.1) in
-      let is : p ≡ pick (world s x t) (next_key k.0) = q.2 ∙ ap (pick (world s x t)) k.3 in (
+      let is : p ≡ pick (world None s x t) (next_key k.0) = q.2 ∙ ap (pick (world None s x t)) k.3 in (
         k.0,
         k.1,
         record {
           name = ap (λ (r : Pick). r.name) is;
-          index = ap (λ (r : Pick). r.index) is ∙ ap index_of (named_is (world s x t) k.0.name k.0 (named_world s x t) k.1 (name_itself k.0.name));
+          index = ap (λ (r : Pick). r.index) is ∙ ap index_of (named_is (world None s x t) k.0.name k.0 (named_world s x t) k.1 (name_itself k.0.name));
           before_deadline = in_time t k.0 k.1 named;
           released = released t k.0 k.1 named;
         },

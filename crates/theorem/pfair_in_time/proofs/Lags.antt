@@ -1,6 +1,6 @@
 -- The lags of members stay within one.
 use Rattle.std.proofs.Common.{◌≡◌, ℕ, suc, ◌+◌, ◌-◌, ◌*◌, ◌<◌, Bool, true, false, cond, List, [], ◌∷◌, length, map, arith, ap, refl, sym, ◌∙◌, subst, inl, inr}
-use Rattle.std.specs.Prelude.{ℤ, pos, neg_ℤ, ◌-ℤ◌, ◌<ℤ◌, filter, nat_lt, count_by, is_some}
+use Rattle.std.specs.Prelude.{ℤ, pos, neg_ℤ, ◌-ℤ◌, ◌<ℤ◌, filter, nat_lt, count_by, is_some, None}
 use Rattle.std.proofs.lemmas.Bool.{lt-ltb}
 use Rattle.std.proofs.lemmas.List.Sums.{sum_by-cons}
 use Rattle.std.proofs.Math.Nat.{le_refl}
@@ -16,8 +16,7 @@ use Rattle.pfair_output.specs.Lags.{is_staying}
 use Rattle.pfair_output.specs.Booked.{first_book}
 use Rattle.pfair_output.proofs.WorldFacts.{HasJoined, after_all, begins_after, over_slots, shown}
 use Rattle.pfair_table.specs.RunsOn.{HasBegun, IsBegun}
-use Rattle.pfair_table.specs.Table.{Settings, Story, counted_one, history_over, members_before, quanta, slot_of}
-use Rattle.pfair_table.proofs.FirstRuns.{history, world}
+use Rattle.pfair_table.specs.Table.{Settings, Story, counted_one, history, members_before, quanta, slot_of, world}
 use Rattle.pfair_table.proofs.NextIndexes.{counted_on}
 use Rattle.pfair_table.proofs.RunsOn.{slot_more}
 use Rattle.pfair_in_time.specs.Lags.{BooksShowLags, IsWithinOne, LagsStayWithinOne, lag_shown, member_lag}
@@ -42,7 +41,7 @@ all_counted p (k ∷ xs) each =
 
 -- ---- in a first run
 
-module _ (s : Settings) (x : Story) (weights : HaveWeights x) (t : ℕ) (m : Member) (h : Among (world s x t) m) where
+module _ (s : Settings) (x : Story) (weights : HaveWeights x) (t : ℕ) (m : Member) (h : Among (world None s x t) m) where
   -- the lag after the slot's quanta is that of the slots in which the member ran
   same_lag : lag_numerator m.weight (slots_of s x t m) (slots_since t m) ≡ lag_at (suc t) (counted_one (tables_before s x (suc t)) m)
   same_lag =
@@ -84,11 +83,11 @@ lags_stay_within_one by_windows by_deadlines earlier s x run t m among active un
     let weighed = weighed_stories earlier run.replicas in
     let says = said_weighed x run.replica in
     let weights = each_weight long (long_weights s stories (said x) weighed says) in
-    let here = subst (λ p. Among (history_over p s (said x) (suc t)).members m) (same_origin s earlier) among in
+    let here = subst (λ p. Among (history p s (said x) (suc t)).members m) (same_origin s earlier) among in
     let next = slot_more o t in
-    let has = subst (λ u. HasLater u (history s long u).members m) next (history_long s stories (said x) weighed says (suc t) m here) in
+    let has = subst (λ u. HasLater u (history None s long u).members m) next (history_long s stories (said x) weighed says (suc t) m here) in
     let later = has.later in
-    let before = among_map (counted_one (tables_before s long (suc (slot_of o t)))) (world s long (slot_of o t)) has.long (subst (λ ms. Among ms has.long) (counted_on s long (slot_of o t)) has.among) in
+    let before = among_map (counted_one (tables_before s long (suc (slot_of o t)))) (world None s long (slot_of o t)) has.long (subst (λ ms. Among ms has.long) (counted_on s long (slot_of o t)) has.among) in
     let still = subst IsUndelayed before.2 (long_undelayed (suc (slot_of o t)) has.jobs has.long m later (no_offset_all m undelayed)) in
     let staying = ap (λ (n : Member). is_departing n) (sym before.2) ∙ ap is_some (sym later.freed) ∙ active in
     let first = subst (IsWithinOne (suc (slot_of o t))) (sym before.2) (first_within s long weights (slot_of o t) before.0 before.1 by_windows by_deadlines run.frame staying still) in
@@ -116,4 +115,4 @@ books_show_lags earlier s x run t =
     let after = after_all o s (said x) is.named joined (first_book o) (begins_after o s (said x) is.named joined) t in
     ap (λ (b : Book). map lag_shown b.entered) (over_slots o s (said x) is.named joined (first_book o) t)
     ∙ ap (map lag_shown) after.entered_is
-    ∙ shown_lags (slot_of o t) (filter is_staying (history_over o s (said x) t).members)
+    ∙ shown_lags (slot_of o t) (filter is_staying (history o s (said x) t).members)

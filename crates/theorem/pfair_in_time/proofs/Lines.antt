@@ -1,15 +1,14 @@
 -- One incarnation over many slots.
 use Rattle.std.proofs.Common.{◌≡◌, ℕ, zero, suc, ◌<◌, ◌≤◌, true, cond, Some, arith, ap, refl, sym, ◌∙◌, subst, inl, inr}
-use Rattle.std.specs.Prelude.{◌⊎◌}
+use Rattle.std.specs.Prelude.{◌⊎◌, None}
 use Rattle.std.proofs.lemmas.Bool.{cases_eq}
 use Rattle.pfair_weight.specs.Share.{Share}
 use Rattle.pfair_weight.specs.Window.{release_of}
 use Rattle.pfair_replica.specs.Among.{Among}
 use Rattle.pfair_admission.specs.Member.{Member, theta, is_departing}
-use Rattle.pfair_table.specs.Table.{Settings, Story}
+use Rattle.pfair_table.specs.Table.{Settings, Story, world}
 use Rattle.pfair_in_time.specs.Descent.{Descends, IsSound}
 use Rattle.pfair_in_time.proofs.Worlds.{runs, IsHere, on, on_next, same_member, here, came_from, goes_to, HaveWeights}
-use Rattle.pfair_table.proofs.FirstRuns.{world}
 
 -- n in slot t, or after what is decided for slot t, is the incarnation that m is in slot u
 pub record IsLine (s : Settings) (x : Story) (u t : ℕ) (m n : Member) : Type 0 where
@@ -85,26 +84,26 @@ line_on s x u v t l m n less le a b = record {
 
 module _ (s : Settings) (x : Story) (weights : HaveWeights x) where
   -- back to each slot since it joined
-  pub back_to : (t u : ℕ) (n : Member) → Among (world s x t) n → n.joined ≤ u → u ≤ t → (m : Member) × Among (world s x u) m × IsLine s x u t m n
-  back_to zero u n h joined le = let e : 0 ≡ u = omega arith in (n, subst (λ k. Among (world s x k) n) e h, subst (λ k. IsLine s x u k n n) (sym e) (line_itself s x u n))
+  pub back_to : (t u : ℕ) (n : Member) → Among (world None s x t) n → n.joined ≤ u → u ≤ t → (m : Member) × Among (world None s x u) m × IsLine s x u t m n
+  back_to zero u n h joined le = let e : 0 ≡ u = omega arith in (n, subst (λ k. Among (world None s x k) n) e h, subst (λ k. IsLine s x u k n n) (sym e) (line_itself s x u n))
   back_to (suc t) u n h joined le =
       elim (cases_eq u (suc t)) [
-        | inl e ↦ (n, subst (λ k. Among (world s x k) n) (sym e) h, subst (λ k. IsLine s x u k n n) e (line_itself s x u n))
+        | inl e ↦ (n, subst (λ k. Among (world None s x k) n) (sym e) h, subst (λ k. IsLine s x u k n n) e (line_itself s x u n))
         | inr other ↦ elim (came_from s x weights t n h) [
           | inl p ↦ earlier t u n p.0 p.1 (line_next s x t p.0 n (here s x weights t p.0 p.1) p.2) (omega (arith, other)) (back_to t u p.0 p.1 (let j = p.2.joined in omega arith) (omega (arith, other)))
           | inr new ↦ absurd (let j = new.joined in omega (arith, other))
         ]
       ]
     where
-      earlier : (t u : ℕ) (n m : Member) → Among (world s x t) m → IsLine s x t (suc t) m n → u ≤ t → (l : Member) × Among (world s x u) l × IsLine s x u t l m → (l : Member) × Among (world s x u) l × IsLine s x u (suc t) l n
+      earlier : (t u : ℕ) (n m : Member) → Among (world None s x t) m → IsLine s x t (suc t) m n → u ≤ t → (l : Member) × Among (world None s x u) l × IsLine s x u t l m → (l : Member) × Among (world None s x u) l × IsLine s x u (suc t) l n
       earlier t u n m h line le (l, i, before) =
           elim (cases_eq u t) [
-            | inl e ↦ (m, subst (λ k. Among (world s x k) m) (sym e) h, subst (λ k. IsLine s x k (suc t) m n) (sym e) line)
+            | inl e ↦ (m, subst (λ k. Among (world None s x k) m) (sym e) h, subst (λ k. IsLine s x k (suc t) m n) (sym e) line)
             | inr other ↦ (l, i, line_on s x u t (suc t) l m n (omega (arith, other)) (omega arith) before line)
           ]
 
   -- the same, of a member that is known
-  pub line_of : (t u : ℕ) (m n : Member) → Among (world s x u) m → Among (world s x t) n → u ≤ t → n.name ≡ m.name → n.joined ≡ m.joined → IsLine s x u t m n
+  pub line_of : (t u : ℕ) (m n : Member) → Among (world None s x u) m → Among (world None s x t) n → u ≤ t → n.name ≡ m.name → n.joined ≡ m.joined → IsLine s x u t m n
   line_of t u m n from to le name joined =
       let now = (here s x weights u m from).by_now in
       let p = back_to t u n to (omega arith) le in
@@ -121,16 +120,16 @@ module _ (s : Settings) (x : Story) (weights : HaveWeights x) where
     pub freed : n.freed_at ≡ Some freed_at
     pub by_then : freed_at ≤ t
 
-  pub on_to : (t u : ℕ) (m : Member) → Among (world s x u) m → u ≤ t → ((n : Member) × Among (world s x t) n × IsLine s x u t m n) ⊎ ((n : Member) × IsGone u t m n)
-  on_to zero u m h le = let e : u ≡ 0 = omega arith in inl (m, subst (λ k. Among (world s x k) m) e h, subst (λ k. IsLine s x u k m m) e (line_itself s x u m))
+  pub on_to : (t u : ℕ) (m : Member) → Among (world None s x u) m → u ≤ t → ((n : Member) × Among (world None s x t) n × IsLine s x u t m n) ⊎ ((n : Member) × IsGone u t m n)
+  on_to zero u m h le = let e : u ≡ 0 = omega arith in inl (m, subst (λ k. Among (world None s x k) m) e h, subst (λ k. IsLine s x u k m m) e (line_itself s x u m))
   on_to (suc t) u m h le =
       elim (cases_eq u (suc t)) [
-        | inl e ↦ inl (m, subst (λ k. Among (world s x k) m) e h, subst (λ k. IsLine s x u k m m) e (line_itself s x u m))
+        | inl e ↦ inl (m, subst (λ k. Among (world None s x k) m) e h, subst (λ k. IsLine s x u k m m) e (line_itself s x u m))
         | inr other ↦ more t u m h (omega (arith, other)) (on_to t u m h (omega (arith, other)))
       ]
     where
-      more : (t u : ℕ) (m : Member) → Among (world s x u) m → u ≤ t → ((n : Member) × Among (world s x t) n × IsLine s x u t m n) ⊎ ((n : Member) × IsGone u t m n)
-          → ((n : Member) × Among (world s x (suc t)) n × IsLine s x u (suc t) m n) ⊎ ((n : Member) × IsGone u (suc t) m n)
+      more : (t u : ℕ) (m : Member) → Among (world None s x u) m → u ≤ t → ((n : Member) × Among (world None s x t) n × IsLine s x u t m n) ⊎ ((n : Member) × IsGone u t m n)
+          → ((n : Member) × Among (world None s x (suc t)) n × IsLine s x u (suc t) m n) ⊎ ((n : Member) × IsGone u (suc t) m n)
       more t u m h le (inr (n, gone)) = inr (n, record { slot = gone.slot; since = gone.since; line = gone.line; sound = gone.sound; freed_at = gone.freed_at; freed = gone.freed; by_then = (let b = gone.by_then in omega arith) })
       more t u m h le (inl (n, i, line)) =
           elim (goes_to s x weights t n i) [
@@ -149,8 +148,8 @@ module _ (s : Settings) (x : Story) (weights : HaveWeights x) where
             )
           ]
         where
-          joined_line : (t u : ℕ) (m n l : Member) → IsLine s x u t m n → IsLine s x t (suc t) n l → u ≤ t → (u ≡ t) ⊎ (u ≡ t → ⊥) → Among (world s x u) m → Among (world s x t) n → IsLine s x u (suc t) m l
+          joined_line : (t u : ℕ) (m n l : Member) → IsLine s x u t m n → IsLine s x t (suc t) n l → u ≤ t → (u ≡ t) ⊎ (u ≡ t → ⊥) → Among (world None s x u) m → Among (world None s x t) n → IsLine s x u (suc t) m l
           joined_line t u m n l before after le (inr other) from to = line_on s x u t (suc t) m n l (omega (arith, other)) (omega arith) before after
           joined_line t u m n l before after le (inl e) from to =
-              let same : n ≡ m = same_member s x u n m (subst (λ k. Among (world s x k) n) (sym e) to) from before.name in
+              let same : n ≡ m = same_member s x u n m (subst (λ k. Among (world None s x k) n) (sym e) to) from before.name in
               subst (λ k. IsLine s x k (suc t) m l) (sym e) (subst (λ k. IsLine s x t (suc t) k l) same after)

@@ -10,7 +10,7 @@ use Rattle.pfair_replica.specs.Among.{Among, among_all, among_map, map_among}
 use Rattle.pfair_admission.specs.Member.{Member, theta, lag_at}
 use Rattle.pfair_admission.proofs.Beside.{ArePaired, Pair, lag_same, long_of, short_of}
 use Rattle.pfair_table.specs.RunsOn.{HasBegun, IsWeighedStory, both_stories}
-use Rattle.pfair_table.specs.Table.{Settings, Origin, Story, Table, names_task, slot_of, history_over, world_over, table_over}
+use Rattle.pfair_table.specs.Table.{Settings, Origin, Story, Table, names_task, slot_of, history, world, table}
 use Rattle.pfair_table.proofs.RunsOn.{begun_over, long_early, members_paired, names_of, names_same, slot_on, world_at}
 use Rattle.pfair_table.proofs.TableLaws.{same_history}
 use Rattle.pfair_in_time.proofs.NextRuns.{PastStory, AreWeighedStories, begun_after, both_weights, each_weight, origin_of_stories}
@@ -111,56 +111,56 @@ long_weights s (r ∷ earlier) story h weights =
     long_weights s earlier (both_stories (origin_of_stories s earlier) s r.story r.slots story) h.1 (both_weights (origin_of_stories s earlier) s r.story r.slots story h.0 weights)
 
 -- each member of a slot's world is one of the long run's
-pub world_long : (s : Settings) (earlier : List PastStory) (story : Story) → AreWeighedStories earlier → IsWeighedStory story → (t : ℕ) (m : Member) → Among (world_over (origin_of_stories s earlier) s story t) m
-    → HasLater (slot_of (origin_of_stories s earlier) t) (world_over None s (long_story s earlier story) (slot_of (origin_of_stories s earlier) t)) m
+pub world_long : (s : Settings) (earlier : List PastStory) (story : Story) → AreWeighedStories earlier → IsWeighedStory story → (t : ℕ) (m : Member) → Among (world (origin_of_stories s earlier) s story t) m
+    → HasLater (slot_of (origin_of_stories s earlier) t) (world None s (long_story s earlier story) (slot_of (origin_of_stories s earlier) t)) m
 world_long s [] story h weights t m among = record { jobs = 0; long = m; among = among; later = itself t m (here s story (each_weight story weights) t m among).by_now }
 world_long s (r ∷ earlier) story h weights t m among =
     let o = origin_of_stories s earlier in
     let both = both_stories o s r.story r.slots story in
-    let left = (history_over o s r.story r.slots).members in
-    let p = paired left (slot_of o r.slots) (slot_of o r.slots + t) (world_over o s both (r.slots + t)) (world_over (origin_of_stories s (r ∷ earlier)) s story t)
+    let left = (history o s r.story r.slots).members in
+    let p = paired left (slot_of o r.slots) (slot_of o r.slots + t) (world o s both (r.slots + t)) (world (origin_of_stories s (r ∷ earlier)) s story t)
     (world_at o s r.story r.slots (begun_after s earlier h.1) h.0 story weights t (r.slots + t) refl) m among in
     let before = world_long s earlier both h.1 (both_weights o s r.story r.slots story h.0 weights) (r.slots + t) p.long p.among in
     let at : slot_of o (r.slots + t) ≡ slot_of o r.slots + t = slot_on o r.slots t in
-    further (slot_of o r.slots + t) (world_over None s (long_story s earlier both) (slot_of o r.slots + t)) p.long m p.jobs p.later
-    (subst (λ u. HasLater u (world_over None s (long_story s earlier both) u) p.long) at before)
+    further (slot_of o r.slots + t) (world None s (long_story s earlier both) (slot_of o r.slots + t)) p.long m p.jobs p.later
+    (subst (λ u. HasLater u (world None s (long_story s earlier both) u) p.long) at before)
 
 -- and so after its quanta
-pub history_long : (s : Settings) (earlier : List PastStory) (story : Story) → AreWeighedStories earlier → IsWeighedStory story → (t : ℕ) (m : Member) → Among (history_over (origin_of_stories s earlier) s story t).members m
-    → HasLater (slot_of (origin_of_stories s earlier) t) (history_over None s (long_story s earlier story) (slot_of (origin_of_stories s earlier) t)).members m
+pub history_long : (s : Settings) (earlier : List PastStory) (story : Story) → AreWeighedStories earlier → IsWeighedStory story → (t : ℕ) (m : Member) → Among (history (origin_of_stories s earlier) s story t).members m
+    → HasLater (slot_of (origin_of_stories s earlier) t) (history None s (long_story s earlier story) (slot_of (origin_of_stories s earlier) t)).members m
 history_long s [] story h weights t m among =
-    let b = among_all (HasBegun t) (history_over None s story t).members (begun_over None s (begun_after s [] tt) story weights t) m among in
+    let b = among_all (HasBegun t) (history None s story t).members (begun_over None s (begun_after s [] tt) story weights t) m among in
     let joined = b.joined in
     record { jobs = 0; long = m; among = among; later = itself t m (omega (arith, joined)) }
 history_long s (r ∷ earlier) story h weights t m among =
     let o = origin_of_stories s earlier in
     let both = both_stories o s r.story r.slots story in
-    let left = (history_over o s r.story r.slots).members in
-    let p = paired left (slot_of o r.slots) (slot_of o r.slots + t) (history_over o s both (r.slots + t)).members (history_over (origin_of_stories s (r ∷ earlier)) s story t).members
+    let left = (history o s r.story r.slots).members in
+    let p = paired left (slot_of o r.slots) (slot_of o r.slots + t) (history o s both (r.slots + t)).members (history (origin_of_stories s (r ∷ earlier)) s story t).members
     (members_paired o s r.story r.slots (begun_after s earlier h.1) h.0 story weights t (r.slots + t) refl) m among in
     let before = history_long s earlier both h.1 (both_weights o s r.story r.slots story h.0 weights) (r.slots + t) p.long p.among in
     let at : slot_of o (r.slots + t) ≡ slot_of o r.slots + t = slot_on o r.slots t in
-    further (slot_of o r.slots + t) (history_over None s (long_story s earlier both) (slot_of o r.slots + t)).members p.long m p.jobs p.later
-    (subst (λ u. HasLater u (history_over None s (long_story s earlier both) u).members p.long) at before)
+    further (slot_of o r.slots + t) (history None s (long_story s earlier both) (slot_of o r.slots + t)).members p.long m p.jobs p.later
+    (subst (λ u. HasLater u (history None s (long_story s earlier both) u).members p.long) at before)
 
 -- ---- who runs
 
 -- the table of a slot of all runs
 abbrev pub through_stories : Settings → List PastStory → Story → ℕ → Table
-through_stories s [] story u = table_over None s story u
+through_stories s [] story u = table None s story u
 through_stories s (r ∷ earlier) story u =
     let o = origin_of_stories s (r ∷ earlier) in
-    if nat_lt u (slot_of o 0) then through_stories s earlier r.story u else table_over o s story (u - slot_of o 0)
+    if nat_lt u (slot_of o 0) then through_stories s earlier r.story u else table o s story (u - slot_of o 0)
 
 -- in the last of them
-through_late : (s : Settings) (earlier : List PastStory) (story : Story) (u : ℕ) → slot_of (origin_of_stories s earlier) 0 ≤ u → through_stories s earlier story u ≡ table_over (origin_of_stories s earlier) s story (u - slot_of (origin_of_stories s earlier) 0)
-through_late s [] story u le = ap (table_over None s story) (let e : u ≡ u - 0 = omega arith in e)
+through_late : (s : Settings) (earlier : List PastStory) (story : Story) (u : ℕ) → slot_of (origin_of_stories s earlier) 0 ≤ u → through_stories s earlier story u ≡ table (origin_of_stories s earlier) s story (u - slot_of (origin_of_stories s earlier) 0)
+through_late s [] story u le = ap (table None s story) (let e : u ≡ u - 0 = omega arith in e)
 through_late s (r ∷ earlier) story u le =
     let o = origin_of_stories s (r ∷ earlier) in
-    ap (λ b. if b then through_stories s earlier r.story u else table_over o s story (u - slot_of o 0)) (le-ltb u (slot_of o 0) le)
+    ap (λ b. if b then through_stories s earlier r.story u else table o s story (u - slot_of o 0)) (le-ltb u (slot_of o 0) le)
 
 -- stories that begin alike have the same tables there
-table_alike : (o : Origin) (s : Settings) (one other : Story) (n t : ℕ) → ((u : ℕ) → u < n → one u ≡ other u) → t < n → table_over o s one t ≡ table_over o s other t
+table_alike : (o : Origin) (s : Settings) (one other : Story) (n t : ℕ) → ((u : ℕ) → u < n → one u ≡ other u) → t < n → table o s one t ≡ table o s other t
 table_alike o s one other n t same less =
     let past = same_history o s one other t (λ u l. same u (omega (arith, l, less))) in
     let now = same t less in
@@ -173,12 +173,12 @@ through_alike s (r ∷ earlier) one other n u same less =
     elim (cases_lt u (slot_of o 0)) [
       | inl before ↦
           let test = lt-ltb u (slot_of o 0) before in
-          ap (λ b. if b then through_stories s earlier r.story u else table_over o s one (u - slot_of o 0)) test ∙ sym (ap (λ b. if b then through_stories s earlier r.story u else table_over o s other (u - slot_of o 0)) test)
+          ap (λ b. if b then through_stories s earlier r.story u else table o s one (u - slot_of o 0)) test ∙ sym (ap (λ b. if b then through_stories s earlier r.story u else table o s other (u - slot_of o 0)) test)
       | inr late ↦
           through_late s (r ∷ earlier) one u late ∙ table_alike o s one other n (u - slot_of o 0) same (omega (arith, less, late)) ∙ sym (through_late s (r ∷ earlier) other u late)
     ]
 
-names_long : (s : Settings) (earlier : List PastStory) (story : Story) → AreWeighedStories earlier → IsWeighedStory story → (u : ℕ) → names_of (through_stories s earlier story u) ≡ names_of (table_over None s (long_story s earlier story) u)
+names_long : (s : Settings) (earlier : List PastStory) (story : Story) → AreWeighedStories earlier → IsWeighedStory story → (u : ℕ) → names_of (through_stories s earlier story u) ≡ names_of (table None s (long_story s earlier story) u)
 names_long s [] story h weights u = refl
 names_long s (r ∷ earlier) story h weights u =
     let o = origin_of_stories s earlier in
@@ -188,7 +188,7 @@ names_long s (r ∷ earlier) story h weights u =
     elim (cases_lt u (slot_of next 0)) [
       | inl before ↦
           let test = lt-ltb u (slot_of next 0) before in
-          ap (λ b. names_of (if b then through_stories s earlier r.story u else table_over next s story (u - slot_of next 0))) test
+          ap (λ b. names_of (if b then through_stories s earlier r.story u else table next s story (u - slot_of next 0))) test
           ∙ ap names_of (through_alike s earlier r.story both r.slots u (λ k l. sym (long_early o s r.story r.slots (begun_after s earlier h.1) h.0 story weights k l)) (let base : slot_of next 0 ≡ slot_of o r.slots + 0 = refl in omega (arith, before, base))) ∙ rest
       | inr late ↦
           let from : slot_of o 0 ≤ slot_of o r.slots = grind arith in
@@ -205,6 +205,6 @@ by_names name [] = refl
 by_names name (p ∷ rows) = ap (λ b. name_eq name p.name || b) (by_names name rows)
 
 -- a task runs in a slot of all runs if it does so in the long run
-pub runs_long : (s : Settings) (earlier : List PastStory) (story : Story) → AreWeighedStories earlier → IsWeighedStory story → (name : Name) (u : ℕ) → names_task name (through_stories s earlier story u) ≡ names_task name (table_over None s (long_story s earlier story) u)
+pub runs_long : (s : Settings) (earlier : List PastStory) (story : Story) → AreWeighedStories earlier → IsWeighedStory story → (name : Name) (u : ℕ) → names_task name (through_stories s earlier story u) ≡ names_task name (table None s (long_story s earlier story) u)
 runs_long s earlier story h weights name u =
-    by_names name (through_stories s earlier story u) ∙ ap (λ ns. list_any (λ n. name_eq name n) ns) (names_long s earlier story h weights u) ∙ sym (by_names name (table_over None s (long_story s earlier story) u))
+    by_names name (through_stories s earlier story u) ∙ ap (λ ns. list_any (λ n. name_eq name n) ns) (names_long s earlier story h weights u) ∙ sym (by_names name (table None s (long_story s earlier story) u))

@@ -19,9 +19,8 @@ use Rattle.pfair_admission.proofs.Keeping.{eligible_not_early}
 use Rattle.pfair_weight.proofs.NamesApart.{apart_nil}
 use Rattle.pfair_table.specs.declared.pick.Pick.{Pick}
 use Rattle.pfair_table.specs.RunsOn.{IsWeighedStory, IsBegun, IsSlotOf, both_stories, left_over, key_and_freeing}
-use Rattle.pfair_table.specs.Table.{Settings, Origin, Story, machine, slot_of, chosen, index_of, pick, counted_one, history_over, world_over, table_over}
+use Rattle.pfair_table.specs.Table.{Settings, Origin, Story, machine, slot_of, chosen, index_of, pick, counted_one, history, world, table}
 use Rattle.pfair_table.proofs.FirstSubtasks.{found_own}
-use Rattle.pfair_table.proofs.FirstRuns.{world}
 use Rattle.pfair_table.proofs.Members.{label, named_from}
 use Rattle.pfair_table.proofs.NextIndexes.{counted_on}
 use Rattle.pfair_table.proofs.RunsOn.{left_begun, ran_eligible, slot_on, slot_same}
@@ -40,7 +39,7 @@ first_run s story frame weights t = record {
   rows_in_time = rows s story frame (each_weight story weights) t;
   none_misses = λ m h active.
       (let after = subst (λ ms. Among ms m) (counted_on s story t) h in
-      let before = among_map (counted_one (tables_before s story (suc t))) (world s story t) m after in
+      let before = among_map (counted_one (tables_before s story (suc t))) (world None s story t) m after in
       subst (λ (n : Member). suc t < deadline_of n.weight n.next (theta n n.next)) (sym before.2)
       (none s story frame (each_weight story weights) t before.0 before.1 (sym (ap is_departing before.2) ∙ active)));
 }
@@ -60,14 +59,14 @@ pub both_weights : (o : Origin) (s : Settings) (first : Story) (n : ℕ) (second
 both_weights o s first n second before after t = by (nat_lt t n)
   where
     left : List Member
-    left = (history_over o s first n).members
+    left = (history o s first n).members
 
     late : List Said
-    late = all_raised left (slot_of o n) (machine s) (slot_of o n + (t - n)) (present (slot_of o n + (t - n)) (history_over (Some (left_over o s first n)) s second (t - n)).members) (second (t - n))
+    late = all_raised left (slot_of o n) (machine s) (slot_of o n + (t - n)) (present (slot_of o n + (t - n)) (history (Some (left_over o s first n)) s second (t - n)).members) (second (t - n))
 
     by : (b : Bool) → AllByRecursion IsWeighed (announcements (if b then first t else late))
     by true = before t
-    by false = raised_weights left (slot_of o n) (machine s) (slot_of o n + (t - n)) (present (slot_of o n + (t - n)) (history_over (Some (left_over o s first n)) s second (t - n)).members) (second (t - n)) (after (t - n))
+    by false = raised_weights left (slot_of o n) (machine s) (slot_of o n + (t - n)) (present (slot_of o n + (t - n)) (history (Some (left_over o s first n)) s second (t - n)).members) (second (t - n)) (after (t - n))
 
 -- ---- a next run
 
@@ -91,24 +90,24 @@ module _ (o : Origin) (s : Settings) (first : Story) (n : ℕ) (began : IsBegun 
       at : slot_of o (n + t) ≡ slot_of next t
       at = slot_on o n t
 
-      none_late : (m : Member) → Among (history_over next s second (suc t)).members m → is_departing m ≡ false → suc (slot_of next t) < deadline_of m.weight m.next (theta m m.next)
+      none_late : (m : Member) → Among (history next s second (suc t)).members m → is_departing m ≡ false → suc (slot_of next t) < deadline_of m.weight m.next (theta m m.next)
       none_late m h active =
-          let l = alike (history_over next s second (suc t)).members (history_over o s long (suc (n + t))).members slot.left m h in
+          let l = alike (history next s second (suc t)).members (history o s long (suc (n + t))).members slot.left m h in
           let due = (long_run (n + t)).none_misses l.0 l.1 (ap (λ k. is_some k.1) (sym l.2) ∙ active) in
           let same = ap (λ (k : Key × Option ℕ). k.0.d) l.2 in
           omega (arith, due, same, at)
 
-      in_time : (p : Pick) → Among (table_over next s second t) p → (m : Member) × Among (world_over next s second t) m × IsInTime (slot_of next t) p m
+      in_time : (p : Pick) → Among (table next s second t) p → (m : Member) × Among (world next s second t) m × IsInTime (slot_of next t) p m
       in_time p h =
-          let S = world_over next s second t in
-          let left = (history_over o s first n).members in
+          let S = world next s second t in
+          let left = (history o s first n).members in
           let raise : Pick → Pick = λ q. record q { index = q.index + taken_off left (slot_of o n) (member_named S q.name) } in
-          let far = (long_run (n + t)).rows_in_time (raise p) (subst (λ rs. Among rs (raise p)) slot.rows (map_among raise (table_over next s second t) p h)) in
-          let m = alike (world_over o s long (n + t)) S (sym slot.members) far.0 far.1 in
+          let far = (long_run (n + t)).rows_in_time (raise p) (subst (λ rs. Among rs (raise p)) slot.rows (map_among raise (table next s second t) p h)) in
+          let m = alike (world o s long (n + t)) S (sym slot.members) far.0 far.1 in
           let named : p.name ≡ m.0.name = far.2.name ∙ ap (λ (k : Key × Option ℕ). k.0.name) m.2 in
           let key = among_map (pick S) (chosen s (slot_of next t) S) p h in
           let apart = named_from next s (left_begun o s began first weights n).named second t in
-          let runs = any_from_among (λ (r : Pick). name_eq m.0.name r.name) (table_over next s second t) p h (subst (λ k. name_eq m.0.name k ≡ true) (sym named) (name_itself m.0.name)) in
+          let runs = any_from_among (λ (r : Pick). name_eq m.0.name r.name) (table next s second t) p h (subst (λ k. name_eq m.0.name k ≡ true) (sym named) (name_itself m.0.name)) in
           let able = and_parts (not (is_departing m.0)) (nat_le (eligible_from m.0 m.0.next) (slot_of next t)) (ran_eligible s.processors (slot_of next t) S apart m.0 m.1 runs) in
           let due = far.2.before_deadline in
           let same = ap (λ (k : Key × Option ℕ). k.0.d) m.2 in (

@@ -11,7 +11,7 @@ use Rattle.pfair_admission.specs.Carried.{carried}
 use Rattle.pfair_table.specs.Events.{begin_at, run}
 use Rattle.pfair_table.specs.Laws.{OneSchedule}
 use Rattle.pfair_table.specs.RunsOn.{last_places, last_table, left_over}
-use Rattle.pfair_table.specs.Table.{Settings, Origin, Story, machine, slot_of, slot_after, history_over}
+use Rattle.pfair_table.specs.Table.{Settings, Origin, Story, machine, slot_of, slot_after, history}
 use Rattle.pfair_table.proofs.Runs.{sound_run, sound_start}
 use Rattle.pfair_in_time.specs.Dispatched.{DispatchersNeverMiss, DispatchersRunOn, NeverMisses, past_of}
 use Rattle.pfair_in_time.specs.Runs.{Past, origin_after, IsServed}
@@ -38,7 +38,7 @@ dispatchers_never_miss one earlier s capacity events frame replicas are untorn t
 
 -- ---- runs of other numbers of slots
 
-same_history : (o : Origin) (s : Settings) (slots : ℕ) (story : Story) (t : ℕ) → history_over o s story t ≡ history_over o (record s { slots = slots }) story t
+same_history : (o : Origin) (s : Settings) (slots : ℕ) (story : Story) (t : ℕ) → history o s story t ≡ history o (record s { slots = slots }) story t
 same_history o s slots story zero = refl
 same_history o s slots story (suc t) = ap (slot_after s (slot_of o t) (story t)) (same_history o s slots story t)
 

@@ -113,41 +113,41 @@ module _ (s : Settings) (x : Replica) (arrivals : List Arrival) (frame : 0 < s.f
   weights : HaveWeights (said x)
   weights = says_weights x arrivals says are
 
-  is_first : (m : Member) → Among (world s x 0) m → IsFirst m
+  is_first : (m : Member) → Among (world None s (said x) 0) m → IsFirst m
   is_first m among = firsts (machine s) arrivals [] (λ n no. absurd no) m (subst (λ l. Among (all_decided (machine s) 0 [] l) m) says.first among)
 
-  weight_of : (m : Member) → Among (world s x 0) m → IsWeight m.weight.cost m.weight.period
+  weight_of : (m : Member) → Among (world None s (said x) 0) m → IsWeight m.weight.cost m.weight.period
   weight_of m among = (here s (said x) weights 0 m among).sound.weight
 
   -- ---- the members of each slot
 
-  world_is : (t : ℕ) → world s x t ≡ counted (tables_before s (said x) t) (world s x 0)
-  world_is zero = sym (map_same (counted_one []) (λ m. m) (world s x 0) (λ m among. same m (is_first m among)) ∙ map-id (world s x 0))
+  world_is : (t : ℕ) → world None s (said x) t ≡ counted (tables_before s (said x) t) (world None s (said x) 0)
+  world_is zero = sym (map_same (counted_one []) (λ m. m) (world None s (said x) 0) (λ m among. same m (is_first m among)) ∙ map-id (world None s (said x) 0))
     where
       same : (m : Member) → IsFirst m → counted_one [] m ≡ m
       same m e = ap (counted_one []) e ∙ ap (stands m.name m.weight m.early) (omega arith) ∙ sym e
   world_is (suc t) =
       world_counted s (said x) t
-      ∙ ap (λ l. all_decided (machine s) (suc t) (present (suc t) (counted (tables_before s (said x) (suc t)) (world s x t))) (announcements l)) (says.later (suc t) (omega arith))
+      ∙ ap (λ l. all_decided (machine s) (suc t) (present (suc t) (counted (tables_before s (said x) (suc t)) (world None s (said x) t))) (announcements l)) (says.later (suc t) (omega arith))
       ∙ ap (λ ms. present (suc t) (counted (tables_before s (said x) (suc t)) ms)) (world_is t)
-      ∙ ap (present (suc t)) (map-map (counted_one (tables_before s (said x) (suc t))) (counted_one (tables_before s (said x) t)) (world s x 0))
-      ∙ all_present (suc t) (counted (tables_before s (said x) (suc t)) (world s x 0)) none_leaves
+      ∙ ap (present (suc t)) (map-map (counted_one (tables_before s (said x) (suc t))) (counted_one (tables_before s (said x) t)) (world None s (said x) 0))
+      ∙ all_present (suc t) (counted (tables_before s (said x) (suc t)) (world None s (said x) 0)) none_leaves
     where
-      none_leaves : NoneLeaves (counted (tables_before s (said x) (suc t)) (world s x 0))
+      none_leaves : NoneLeaves (counted (tables_before s (said x) (suc t)) (world None s (said x) 0))
       none_leaves n among =
-          let p = among_map (counted_one (tables_before s (said x) (suc t))) (world s x 0) n among in
+          let p = among_map (counted_one (tables_before s (said x) (suc t))) (world None s (said x) 0) n among in
           ap (λ (l : Member). l.freed_at) p.2 ∙ ap (λ (l : Member). l.freed_at) (is_first p.0 p.1)
 
-  member_at : (t : ℕ) (m : Member) → Among (world s x 0) m → Among (world s x t) (counted_one (tables_before s (said x) t) m)
-  member_at t m among = subst (λ l. Among l (counted_one (tables_before s (said x) t) m)) (sym (world_is t)) (map_among (counted_one (tables_before s (said x) t)) (world s x 0) m among)
+  member_at : (t : ℕ) (m : Member) → Among (world None s (said x) 0) m → Among (world None s (said x) t) (counted_one (tables_before s (said x) t) m)
+  member_at t m among = subst (λ l. Among l (counted_one (tables_before s (said x) t) m)) (sym (world_is t)) (map_among (counted_one (tables_before s (said x) t)) (world None s (said x) 0) m among)
 
-  joined_first : (m : Member) → Among (world s x 0) m → m.joined ≡ 0
+  joined_first : (m : Member) → Among (world None s (said x) 0) m → m.joined ≡ 0
   joined_first m among = ap (λ (l : Member). l.joined) (is_first m among)
 
   -- ---- after a common multiple of the periods
 
-  module _ (h : ℕ) (common : IsCommonMultiple h (world s x 0)) where
-    module _ (m : Member) (among : Among (world s x 0) m) where
+  module _ (h : ℕ) (common : IsCommonMultiple h (world None s (said x) 0)) where
+    module _ (m : Member) (among : Among (world None s (said x) 0) m) where
       abbrev jobs : ℕ
       jobs = h / m.weight.period
 
@@ -178,7 +178,7 @@ module _ (s : Settings) (x : Replica) (arrivals : List Arrival) (frame : 0 < s.f
                 ]
           ]
         where
-          not_released : (t : ℕ) (l : Member) → Among (world s x t) l → l.weight ≡ m.weight → l.next ≡ 1 + units_of m.weight h → runs s (said x) t l ≡ true → t < h → ⊥
+          not_released : (t : ℕ) (l : Member) → Among (world None s (said x) t) l → l.weight ≡ m.weight → l.next ≡ 1 + units_of m.weight h → runs s (said x) t l ≡ true → t < h → ⊥
           not_released t l inside same next named before =
               let units = units_are in
               let at : l.next ≡ jobs * m.weight.cost + 1 = omega arith in
@@ -216,7 +216,7 @@ module _ (s : Settings) (x : Replica) (arrivals : List Arrival) (frame : 0 < s.f
 
     -- the index of the next subtask is by so much greater
     abbrev IsAhead : ℕ → Type 0
-    IsAhead t = (m : Member) → Among (world s x 0) m → next_index (tables_before s (said x) (t + h)) m ≡ next_index (tables_before s (said x) t) m + units_of m.weight h
+    IsAhead t = (m : Member) → Among (world None s (said x) 0) m → next_index (tables_before s (said x) (t + h)) m ≡ next_index (tables_before s (said x) t) m + units_of m.weight h
 
     -- ---- then the table of the slot repeats
 
@@ -228,17 +228,17 @@ module _ (s : Settings) (x : Replica) (arrivals : List Arrival) (frame : 0 < s.f
       abbrev then_ : Member → Member
       then_ m = record m { next = next_index (tables_before s (said x) t) m + units_of m.weight h }
 
-      world_later : world s x (t + h) ≡ map then_ (world s x 0)
-      world_later = world_is (t + h) ∙ map_same (counted_one (tables_before s (said x) (t + h))) then_ (world s x 0) (λ m among. (λ i. record m { next = ahead m among i }))
+      world_later : world None s (said x) (t + h) ≡ map then_ (world None s (said x) 0)
+      world_later = world_is (t + h) ∙ map_same (counted_one (tables_before s (said x) (t + h))) then_ (world None s (said x) 0) (λ m among. (λ i. record m { next = ahead m among i }))
 
-      eligible_one : (m : Member) → Among (world s x 0) m → is_eligible (t + h) (then_ m) ≡ is_eligible t (now m)
+      eligible_one : (m : Member) → Among (world None s (said x) 0) m → is_eligible (t + h) (then_ m) ≡ is_eligible t (now m)
       eligible_one m among =
           ap (λ (l : Member). is_eligible (t + h) (record l { next = next_index (tables_before s (said x) t) m + units_of m.weight h })) (is_first m among)
           ∙ (λ i. is_eligible (t + sym (all_jobs m among) i) (stands m.name m.weight m.early (next_index (tables_before s (said x) t) m + units_are m among i)))
           ∙ eligible_repeats m.name m.weight m.early (next_index (tables_before s (said x) t) m) (jobs m among) (weight_of m among) (omega arith) t
           ∙ sym (ap (λ (l : Member). is_eligible t (record l { next = next_index (tables_before s (said x) t) m })) (is_first m among))
 
-      key_one : (m : Member) → Among (world s x 0) m → next_key (then_ m) ≡ key_later h (next_key (now m))
+      key_one : (m : Member) → Among (world None s (said x) 0) m → next_key (then_ m) ≡ key_later h (next_key (now m))
       key_one m among =
           ap (λ (l : Member). next_key (record l { next = next_index (tables_before s (said x) t) m + units_of m.weight h })) (is_first m among)
           ∙ (λ i. next_key (stands m.name m.weight m.early (next_index (tables_before s (said x) t) m + units_are m among i)))
@@ -246,41 +246,41 @@ module _ (s : Settings) (x : Replica) (arrivals : List Arrival) (frame : 0 < s.f
           ∙ (λ i. key_later (all_jobs m among i) (next_key (stands m.name m.weight m.early (next_index (tables_before s (said x) t) m))))
           ∙ sym (ap (λ (l : Member). key_later h (next_key (record l { next = next_index (tables_before s (said x) t) m }))) (is_first m among))
 
-      eligible_later : eligible (t + h) (map then_ (world s x 0)) ≡ map (key_later h) (eligible t (map now (world s x 0)))
+      eligible_later : eligible (t + h) (map then_ (world None s (said x) 0)) ≡ map (key_later h) (eligible t (map now (world None s (said x) 0)))
       eligible_later =
-          ap (map next_key) (filter_mapped (is_eligible (t + h)) then_ (world s x 0))
-          ∙ map-map next_key then_ (filter (λ m. is_eligible (t + h) (then_ m)) (world s x 0))
-          ∙ ap (map (λ m. next_key (then_ m))) (filter_same (λ m. is_eligible (t + h) (then_ m)) (λ m. is_eligible t (now m)) (world s x 0) eligible_one)
-          ∙ map_same (λ m. next_key (then_ m)) (λ m. key_later h (next_key (now m))) (filter (λ m. is_eligible t (now m)) (world s x 0))
-          (λ m among. key_one m (among_filter (λ m. is_eligible t (now m)) (world s x 0) m among).0)
-          ∙ sym (map-map (key_later h) (λ m. next_key (now m)) (filter (λ m. is_eligible t (now m)) (world s x 0)))
-          ∙ ap (map (key_later h)) (sym (map-map next_key now (filter (λ m. is_eligible t (now m)) (world s x 0))))
-          ∙ ap (λ l. map (key_later h) (map next_key l)) (sym (filter_mapped (is_eligible t) now (world s x 0)))
+          ap (map next_key) (filter_mapped (is_eligible (t + h)) then_ (world None s (said x) 0))
+          ∙ map-map next_key then_ (filter (λ m. is_eligible (t + h) (then_ m)) (world None s (said x) 0))
+          ∙ ap (map (λ m. next_key (then_ m))) (filter_same (λ m. is_eligible (t + h) (then_ m)) (λ m. is_eligible t (now m)) (world None s (said x) 0) eligible_one)
+          ∙ map_same (λ m. next_key (then_ m)) (λ m. key_later h (next_key (now m))) (filter (λ m. is_eligible t (now m)) (world None s (said x) 0))
+          (λ m among. key_one m (among_filter (λ m. is_eligible t (now m)) (world None s (said x) 0) m among).0)
+          ∙ sym (map-map (key_later h) (λ m. next_key (now m)) (filter (λ m. is_eligible t (now m)) (world None s (said x) 0)))
+          ∙ ap (map (key_later h)) (sym (map-map next_key now (filter (λ m. is_eligible t (now m)) (world None s (said x) 0))))
+          ∙ ap (λ l. map (key_later h) (map next_key l)) (sym (filter_mapped (is_eligible t) now (world None s (said x) 0)))
 
-      chosen_later : chosen s (t + h) (map then_ (world s x 0)) ≡ map (key_later h) (chosen s t (map now (world s x 0)))
-      chosen_later = ap (first_by_rank s.processors) eligible_later ∙ first_later h s.processors (eligible t (map now (world s x 0)))
+      chosen_later : chosen s (t + h) (map then_ (world None s (said x) 0)) ≡ map (key_later h) (chosen s t (map now (world None s (said x) 0)))
+      chosen_later = ap (first_by_rank s.processors) eligible_later ∙ first_later h s.processors (eligible t (map now (world None s (said x) 0)))
 
-      pick_one : (k : Key) → pick (map then_ (world s x 0)) (key_later h k) ≡ later_row h (world s x 0) (pick (map now (world s x 0)) k)
+      pick_one : (k : Key) → pick (map then_ (world None s (said x) 0)) (key_later h k) ≡ later_row h (world None s (said x) 0) (pick (map now (world None s (said x) 0)) k)
       pick_one k = λ i. record { name = k.name; index = index i }
         where
           each : (o : Option Member) → index_of (option_map then_ o) ≡ index_of (option_map now o) + quanta_in h o
           each None = refl
           each (Some m) = refl
 
-          index : index_of (member_named (map then_ (world s x 0)) k.name) ≡ index_of (member_named (map now (world s x 0)) k.name) + quanta_in h (member_named (world s x 0) k.name)
+          index : index_of (member_named (map then_ (world None s (said x) 0)) k.name) ≡ index_of (member_named (map now (world None s (said x) 0)) k.name) + quanta_in h (member_named (world None s (said x) 0) k.name)
           index =
-              ap index_of (find_mapped (is_named k.name) then_ (λ m. refl) (world s x 0))
-              ∙ each (member_named (world s x 0) k.name)
-              ∙ ap (λ o. index_of o + quanta_in h (member_named (world s x 0) k.name)) (sym (find_mapped (is_named k.name) now (λ m. refl) (world s x 0)))
+              ap index_of (find_mapped (is_named k.name) then_ (λ m. refl) (world None s (said x) 0))
+              ∙ each (member_named (world None s (said x) 0) k.name)
+              ∙ ap (λ o. index_of o + quanta_in h (member_named (world None s (said x) 0) k.name)) (sym (find_mapped (is_named k.name) now (λ m. refl) (world None s (said x) 0)))
 
-      repeats_if : table s x (t + h) ≡ map (later_row h (world s x 0)) (table s x t)
+      repeats_if : table None s (said x) (t + h) ≡ map (later_row h (world None s (said x) 0)) (table None s (said x) t)
       repeats_if =
           ap (table_of s (t + h)) world_later
-          ∙ ap (map (pick (map then_ (world s x 0)))) chosen_later
-          ∙ map-map (pick (map then_ (world s x 0))) (key_later h) (chosen s t (map now (world s x 0)))
-          ∙ map_same (λ k. pick (map then_ (world s x 0)) (key_later h k)) (λ k. later_row h (world s x 0) (pick (map now (world s x 0)) k)) (chosen s t (map now (world s x 0))) (λ k among. pick_one k)
-          ∙ sym (map-map (later_row h (world s x 0)) (pick (map now (world s x 0))) (chosen s t (map now (world s x 0))))
-          ∙ ap (λ ms. map (later_row h (world s x 0)) (table_of s t ms)) (sym (world_is t))
+          ∙ ap (map (pick (map then_ (world None s (said x) 0)))) chosen_later
+          ∙ map-map (pick (map then_ (world None s (said x) 0))) (key_later h) (chosen s t (map now (world None s (said x) 0)))
+          ∙ map_same (λ k. pick (map then_ (world None s (said x) 0)) (key_later h k)) (λ k. later_row h (world None s (said x) 0) (pick (map now (world None s (said x) 0)) k)) (chosen s t (map now (world None s (said x) 0))) (λ k among. pick_one k)
+          ∙ sym (map-map (later_row h (world None s (said x) 0)) (pick (map now (world None s (said x) 0))) (chosen s t (map now (world None s (said x) 0))))
+          ∙ ap (λ ms. map (later_row h (world None s (said x) 0)) (table_of s t ms)) (sym (world_is t))
 
     -- ---- and so on
 
@@ -298,13 +298,13 @@ module _ (s : Settings) (x : Replica) (arrivals : List Arrival) (frame : 0 < s.f
         let one = next_more s (said x) (t + h) m (omega arith) in
         let other = next_more s (said x) t m (omega arith) in
         let named : runs s (said x) (t + h) m ≡ runs s (said x) t m =
-        ap (names_task m.name) (repeats_if t (ahead_at t)) ∙ any_mapped (λ (r : Pick). name_eq m.name r.name) (later_row h (world s x 0)) (λ r. refl) (table s x t) in
+        ap (names_task m.name) (repeats_if t (ahead_at t)) ∙ any_mapped (λ (r : Pick). name_eq m.name r.name) (later_row h (world None s (said x) 0)) (λ r. refl) (table None s (said x) t) in
         let c = ap (λ b. cond {A = ℕ} b 1 0) named in
         let at : suc t + h ≡ suc (t + h) = omega arith in
         let same = ap (λ n. next_index (tables_before s (said x) n) m) at in
         omega arith
 
-    repeats : (t : ℕ) → table s x (t + h) ≡ map (later_row h (world s x 0)) (table s x t)
+    repeats : (t : ℕ) → table None s (said x) (t + h) ≡ map (later_row h (world None s (said x) 0)) (table None s (said x) t)
     repeats t = repeats_if t (ahead_at t)
 
 pub tables_repeat : TablesRepeat
@@ -313,13 +313,13 @@ tables_repeat s x arrivals h frame says are common t = repeats s x arrivals fram
 -- each multiple of h is one too
 pub repeats_by_periods : RepeatsByPeriods
 repeats_by_periods s x arrivals h frame says are common t =
-    ap (table s x) (let split = div-add-mod' t h in omega arith)
+    ap (table None s (said x)) (let split = div-add-mod' t h in omega arith)
     ∙ tables_repeat s x arrivals (t / h * h) frame says are multiple (t % h)
   where
     times : (q p k : ℕ) → k * p ≡ h → (q * h) % p ≡ 0
     times q p k whole = (let spread : q * h ≡ q * (k * p) = ap (λ n. q * n) (sym whole) in ap (λ n. n % p) (spread ∙ (omega arith)) ∙ mul-mod_left (q * k) p)
 
-    multiple : IsCommonMultiple (t / h * h) (world s x 0)
+    multiple : IsCommonMultiple (t / h * h) (world None s (said x) 0)
     multiple m among = times (t / h) m.weight.period (h / m.weight.period) (
         let rest = mod-eq-sub-div-mul h m.weight.period in
         let low = div-mul-le_self h m.weight.period in

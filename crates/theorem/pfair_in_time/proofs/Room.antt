@@ -1,15 +1,14 @@
 -- The weights of the members have room in every slot.
 use Rattle.std.proofs.Common.{◌≡◌, ℕ, zero, suc, List, [], ◌∷◌, arith, ap, refl, subst, sym}
-use Rattle.std.specs.Prelude.{map}
+use Rattle.std.specs.Prelude.{map, None}
 use Rattle.std.proofs.lemmas.List.Sums.{sum_by-cons}
 use Rattle.pfair_weight.specs.Share.{Share, units_of}
 use Rattle.pfair_admission.specs.Laws.{HaveRoom}
 use Rattle.pfair_admission.specs.Member.{Member}
 use Rattle.pfair_admission.specs.Admission.{claimed, announcements}
 use Rattle.pfair_admission.proofs.Keeping.{room_boundary}
-use Rattle.pfair_table.specs.Table.{Settings, machine, counted, counted_one, Story}
+use Rattle.pfair_table.specs.Table.{Settings, machine, counted, counted_one, Story, history, world}
 use Rattle.pfair_table.proofs.NextIndexes.{world_counted}
-use Rattle.pfair_table.proofs.FirstRuns.{history, world}
 
 same_claim : (frame : ℕ) (f : Member → Member) → ((m : Member) → (f m).weight ≡ m.weight) → (ms : List Member) → claimed frame (map f ms) ≡ claimed frame ms
 same_claim frame f keeps [] = refl
@@ -20,10 +19,10 @@ same_claim frame f keeps (m ∷ ms) =
     let first : units_of (f m).weight frame ≡ units_of m.weight frame = ap (λ (w : Share). units_of w frame) (keeps m) in
     omega arith
 
-pub room_world : (s : Settings) (x : Story) (t : ℕ) → HaveRoom (machine s) (world s x t)
+pub room_world : (s : Settings) (x : Story) (t : ℕ) → HaveRoom (machine s) (world None s x t)
 room_world s x zero = room_boundary (machine s) 0 [] (announcements (x 0)) (omega arith)
 room_world s x (suc t) =
-    let tables = (history s x (suc t)).tables in
+    let tables = (history None s x (suc t)).tables in
     subst (HaveRoom (machine s)) (sym (world_counted s x t))
-    (room_boundary (machine s) (suc t) (counted tables (world s x t)) (announcements (x (suc t)))
-    (let before = room_world s x t in let same = same_claim s.frame (counted_one tables) (λ m. refl) (world s x t) in omega arith))
+    (room_boundary (machine s) (suc t) (counted tables (world None s x t)) (announcements (x (suc t)))
+    (let before = room_world s x t in let same = same_claim s.frame (counted_one tables) (λ m. refl) (world None s x t) in omega arith))

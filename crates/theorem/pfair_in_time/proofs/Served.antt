@@ -153,7 +153,7 @@ module _ (s : Settings) (x : Replica) (arrivals : List Arrival) (frame : 0 < s.f
   weights : HaveWeights (said x)
   weights = says_weights x arrivals says are.weights
 
-  decisions_are : decisions s x 0 ≡ with_decisions (said x 0) (all_decisions (machine s) 0 [] (map announced arrivals))
+  decisions_are : decisions None s (said x) 0 ≡ with_decisions (said x 0) (all_decisions (machine s) 0 [] (map announced arrivals))
   decisions_are = ap (λ l. with_decisions (said x 0) (all_decisions (machine s) 0 [] l)) says.first
 
   as_many : length (all_decisions (machine s) 0 [] (map announced arrivals)) ≡ length (said x 0)
@@ -166,14 +166,14 @@ module _ (s : Settings) (x : Replica) (arrivals : List Arrival) (frame : 0 < s.f
   room_admits : units_wanted s.frame arrivals ≤ s.processors * s.frame → AllJoin (machine s) [] arrivals
   room_admits room = all_join (machine s) [] arrivals (λ m none_there. absurd none_there) (λ a h m none_there. absurd none_there) are.names are.periods (omega arith)
 
-  admitted : AllByRecursion IsAdmitted (decisions s x 0) ↔ (units_wanted s.frame arrivals ≤ s.processors * s.frame)
+  admitted : AllByRecursion IsAdmitted (decisions None s (said x) 0) ↔ (units_wanted s.frame arrivals ≤ s.processors * s.frame)
   admitted = (
     λ all. (let fit = all_fit (machine s) [] arrivals (λ m none_there. absurd none_there) (omega arith) (unpaired (said x 0) (all_decisions (machine s) 0 [] (map announced arrivals)) as_many (subst (AllByRecursion IsAdmitted) decisions_are all)) in omega arith),
     λ room. subst (AllByRecursion IsAdmitted) (sym decisions_are) (paired (said x 0) (all_decisions (machine s) 0 [] (map announced arrivals)) (room_admits room).decisions),
   )
 
   -- who is admitted is there in each slot
-  there : units_wanted s.frame arrivals ≤ s.processors * s.frame → (a : Arrival) → Among arrivals a → (t : ℕ) → (m : Member) × Among (world s x t) m × IsStill a m
+  there : units_wanted s.frame arrivals ≤ s.processors * s.frame → (a : Arrival) → Among arrivals a → (t : ℕ) → (m : Member) × Among (world None s (said x) t) m × IsStill a m
   there room a h zero = (
     joins a,
     subst (λ l. Among l (joins a)) (sym (ap (λ l. all_decided (machine s) 0 [] l) says.first ∙ (room_admits room).members)) (map_among joins arrivals a h),
@@ -181,24 +181,24 @@ module _ (s : Settings) (x : Replica) (arrivals : List Arrival) (frame : 0 < s.f
   )
   there room a h (suc t) =
       let p = there room a h t in
-      let m = counted_one (history s x (suc t)).tables p.0 in
+      let m = counted_one (history None s (said x) (suc t)).tables p.0 in
       let still = p.2 in
-      let among = filter_among (λ (n : Member). not (is_freed (suc t) n.freed_at)) (map (counted_one (history s x (suc t)).tables) (world s x t)) m (map_among (counted_one (history s x (suc t)).tables) (world s x t) p.0 p.1) (stays (suc t) m still.stays) in (
+      let among = filter_among (λ (n : Member). not (is_freed (suc t) n.freed_at)) (map (counted_one (history None s (said x) (suc t)).tables) (world None s (said x) t)) m (map_among (counted_one (history None s (said x) (suc t)).tables) (world None s (said x) t) p.0 p.1) (stays (suc t) m still.stays) in (
         m,
         subst (λ l. Among l m) (sym (world_counted s (said x) t))
-            (subst (λ l. Among (all_decided (machine s) (suc t) (present (suc t) (map (counted_one (history s x (suc t)).tables) (world s x t))) (announcements l)) m) (sym (says.later (suc t) (omega arith))) among),
+            (subst (λ l. Among (all_decided (machine s) (suc t) (present (suc t) (map (counted_one (history None s (said x) (suc t)).tables) (world None s (said x) t))) (announcements l)) m) (sym (says.later (suc t) (omega arith))) among),
         record { name = still.name; weight = still.weight; joined = still.joined; delays = still.delays; stays = still.stays },
       )
 
-  own_quanta : (m : Member) → m.joined ≡ 0 → (n : ℕ) → quanta (tables_before s (said x) n) m ≡ quanta_before (table s x) m.name n
+  own_quanta : (m : Member) → m.joined ≡ 0 → (n : ℕ) → quanta (tables_before s (said x) n) m ≡ quanta_before (table None s (said x)) m.name n
   own_quanta m joined zero = (let new = next_new s (said x) 0 m joined in omega arith)
   own_quanta m joined (suc n) =
       let before = own_quanta m joined n in
       let more = next_more s (said x) n m (omega arith) in
-      let other = quanta_more (table s x) m.name n in
+      let other = quanta_more (table None s (said x)) m.name n in
       omega arith
 
-  served : units_wanted s.frame arrivals ≤ s.processors * s.frame → (a : Arrival) → Among arrivals a → (t : ℕ) → IsServed (table s x) t a
+  served : units_wanted s.frame arrivals ≤ s.processors * s.frame → (a : Arrival) → Among arrivals a → (t : ℕ) → IsServed (table None s (said x)) t a
   served room a h t i within = elim (cases_eq i 0) [
     | inl first ↦ omega arith
     | inr other ↦ by_deadline (omega (arith, other))
@@ -208,20 +208,20 @@ module _ (s : Settings) (x : Replica) (arrivals : List Arrival) (frame : 0 < s.f
       due = deadline_of a.weight i 0
 
       had : ℕ
-      had = quanta_before (table s x) a.name due
+      had = quanta_before (table None s (said x)) a.name due
 
       weight : IsWeight a.weight.cost a.weight.period
       weight = among_all (λ (b : Arrival). IsWeight b.weight.cost b.weight.period) arrivals are.weights a h
 
       -- after the slot before it the next subtask isn't due yet
-      after : (m : Member) → Among (world s x (due - 1)) m → IsStill a m → 1 ≤ due → due < deadline_of a.weight (1 + had) 0
+      after : (m : Member) → Among (world None s (said x) (due - 1)) m → IsStill a m → 1 ≤ due → due < deadline_of a.weight (1 + had) 0
       after m inside still some =
           let late = none s (said x) frame weights (due - 1) m inside (ap is_some still.stays) in
           let offset = no_offset m (index_after s (said x) (due - 1) m) still.delays in
           let joined = still.joined in
           let own = own_quanta m still.joined (suc (due - 1)) in
           let at : suc (due - 1) ≡ due = omega arith in
-          let same = ap (λ n. quanta_before (table s x) n (suc (due - 1))) still.name ∙ ap (λ u. quanta_before (table s x) a.name u) at in
+          let same = ap (λ n. quanta_before (table None s (said x)) n (suc (due - 1))) still.name ∙ ap (λ u. quanta_before (table None s (said x)) a.name u) at in
           let index : index_after s (said x) (due - 1) m ≡ 1 + had = omega arith in
           let is = ap (λ (w : Share). deadline_of w (index_after s (said x) (due - 1) m) 0) still.weight ∙ ap (λ k. deadline_of a.weight k 0) index in
           omega arith

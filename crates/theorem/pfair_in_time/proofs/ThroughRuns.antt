@@ -14,8 +14,7 @@ use Rattle.pfair_admission.specs.Member.{Member, theta, is_departing}
 use Rattle.pfair_admission.proofs.Delays.{theta_rises}
 use Rattle.pfair_ready.specs.Names.{NameValue as Name}
 use Rattle.pfair_table.specs.RunsOn.{left_over}
-use Rattle.pfair_table.specs.Table.{Settings, Story, names_task, slot_of, world_over, table_over}
-use Rattle.pfair_table.proofs.FirstRuns.{world}
+use Rattle.pfair_table.specs.Table.{Settings, Story, names_task, slot_of, world, table}
 use Rattle.pfair_table.proofs.Within.{said_weighed}
 use Rattle.pfair_in_time.specs.Runs.{Past, origin_after, table_through, IsRunAfter, IsServed, NoneMisses}
 use Rattle.pfair_in_time.specs.Windows.{slots_since, slots_run, KeepsDeadlines, KeepsWindows, DeadlinesAreKept, WindowsAreKept}
@@ -38,7 +37,7 @@ long_undelayed slot k l m later undelayed i =
     let up = theta_rises l i (j + k * l.weight.cost) (omega arith) in
     omega (arith, far, here, joined, up)
 
-module _ (s : Settings) (x : Story) (frame : 0 < s.frame) (weights : HaveWeights x) (t k : ℕ) (l m : Member) (among : Among (world s x t) l) (later : IsLater t k l m) (active : is_departing l ≡ false) (undelayed : IsUndelayed m) where
+module _ (s : Settings) (x : Story) (frame : 0 < s.frame) (weights : HaveWeights x) (t k : ℕ) (l m : Member) (among : Among (world None s x t) l) (later : IsLater t k l m) (active : is_departing l ≡ false) (undelayed : IsUndelayed m) where
   some : 0 < l.weight.cost
   some = (here s x weights t l among).sound.weight.some_cost
 
@@ -52,7 +51,7 @@ module _ (s : Settings) (x : Story) (frame : 0 < s.frame) (weights : HaveWeights
   abbrev pub ran_in : ℕ → ℕ
   ran_in slots = length (passing (runs_at s x l) slots)
 
-  line_at : (slot : ℕ) → l.joined + slot ≤ t → (n : Member) × Among (world s x (l.joined + slot)) n × IsLine s x (l.joined + slot) t n l
+  line_at : (slot : ℕ) → l.joined + slot ≤ t → (n : Member) × Among (world None s x (l.joined + slot)) n × IsLine s x (l.joined + slot) t n l
   line_at slot le = back_to s x weights t (l.joined + slot) l among (omega arith) le
 
   kept_in : (slot : ℕ) → l.joined + slot ≤ t → runs_at s x l slot ≡ true → IsKept l slot (1 + ran_in slot)
@@ -96,7 +95,7 @@ module _ (s : Settings) (x : Story) (frame : 0 < s.frame) (weights : HaveWeights
           (let is = ap (λ (w : Share). deadline_of w (k * l.weight.cost) 0) (sym line.weight) ∙ job_due l.weight k 0 some in omega (arith, is, since)) in
           let many = served s x frame weights (l.joined + (before - 1)) n p.1 staying same_offset (k * l.weight.cost) (some_subtask other) due in
           let alike : length (slots_of s x (l.joined + (before - 1)) n) ≡ ran_in before =
-          ap (λ slots. length (passing (runs_at s x n) slots)) since ∙ ap (λ (a : Name × ℕ). length (passing (λ slot. names_task a.0 (table_over None s x (a.1 + slot))) before)) (λ i. (sym line.name i, sym line.joined i)) in
+          ap (λ slots. length (passing (runs_at s x n) slots)) since ∙ ap (λ (a : Name × ℕ). length (passing (λ slot. names_task a.0 (table None s x (a.1 + slot))) before)) (λ i. (sym line.name i, sym line.joined i)) in
           omega (arith, many, alike)
     ]
   ]
@@ -183,7 +182,7 @@ same_through : (s : Settings) (earlier : List Past) (story : Story) (u : ℕ) �
 same_through s [] story u = refl
 same_through s (r ∷ earlier) story u =
     let o = same_origin s (r ∷ earlier) in
-    λ i. if nat_lt u (slot_of (o i) 0) then same_through s earlier (said r.contents) u i else table_over (o i) s story (u - slot_of (o i) 0)
+    λ i. if nat_lt u (slot_of (o i) 0) then same_through s earlier (said r.contents) u i else table (o i) s story (u - slot_of (o i) 0)
 
 pub none_misses : NoneMisses
 none_misses earlier s x run t =
@@ -191,7 +190,7 @@ none_misses earlier s x run t =
 
 -- ---- windows
 
-module _ (earlier : List Past) (s : Settings) (x : Replica) (run : IsRunAfter earlier s x) (t : ℕ) (m : Member) (among : Among (world_over (origin_after s earlier) s (said x) t) m) (active : is_departing m ≡ false) (undelayed : m.delays ≡ []) where
+module _ (earlier : List Past) (s : Settings) (x : Replica) (run : IsRunAfter earlier s x) (t : ℕ) (m : Member) (among : Among (world (origin_after s earlier) s (said x) t) m) (active : is_departing m ≡ false) (undelayed : m.delays ≡ []) where
   abbrev stories : List PastStory
   stories = map past_story earlier
 
@@ -204,8 +203,8 @@ module _ (earlier : List Past) (s : Settings) (x : Replica) (run : IsRunAfter ea
   weights : HaveWeights long
   weights = each_weight long (long_weights s stories (said x) (weighed_stories earlier run.replicas) (said_weighed x run.replica))
 
-  has : HasLater slot (world s long slot) m
-  has = world_long s stories (said x) (weighed_stories earlier run.replicas) (said_weighed x run.replica) t m (subst (λ o. Among (world_over o s (said x) t) m) (same_origin s earlier) among)
+  has : HasLater slot (world None s long slot) m
+  has = world_long s stories (said x) (weighed_stories earlier run.replicas) (said_weighed x run.replica) t m (subst (λ o. Among (world o s (said x) t) m) (same_origin s earlier) among)
 
   abbrev ran : ℕ → Bool
   ran k = names_task m.name (table_through s earlier (said x) (m.joined + k))
@@ -216,7 +215,7 @@ module _ (earlier : List Past) (s : Settings) (x : Replica) (run : IsRunAfter ea
       let joined = later.joined in
       let at : m.joined + k ≡ has.long.joined + (has.jobs * has.long.weight.period + k) = omega (arith, joined) in
       ap (names_task m.name) (same_through s earlier (said x) (m.joined + k)) ∙ runs_long s stories (said x) (weighed_stories earlier run.replicas) (said_weighed x run.replica) m.name (m.joined + k)
-      ∙ (λ i. names_task (later.name i) (table_over None s long (at i)))
+      ∙ (λ i. names_task (later.name i) (table None s long (at i)))
 
   staying : is_departing has.long ≡ false
   staying = ap is_some (sym has.later.freed) ∙ active

@@ -1,6 +1,6 @@
 -- The slots in which a member runs are in its windows.
 use Rattle.std.proofs.Common.{◌≡◌, ℕ, zero, suc, ◌+◌, ◌<◌, ◌≤◌, Bool, true, false, List, [], length, drop, arith, ap, sym, ◌∙◌, inl, inr}
-use Rattle.std.specs.Prelude.{nat_le, filter, sum_by, count_by}
+use Rattle.std.specs.Prelude.{nat_le, filter, sum_by, count_by, None}
 use Rattle.std.proofs.lemmas.Bool.{cases_lt}
 use Rattle.pfair_weight.specs.Share.{Share}
 use Rattle.pfair_weight.specs.Window.{release_of, deadline_of, starts_job_of}
@@ -8,17 +8,16 @@ use Rattle.pfair_weight.specs.WindowFacts.{deadline_rises}
 use Rattle.pfair_replica.specs.Among.{Among}
 use Rattle.pfair_admission.specs.Member.{Member, theta, is_departing}
 use Rattle.pfair_admission.specs.declared.delay.Delay.{Delay}
-use Rattle.pfair_table.specs.Table.{Settings, names_task, quanta, next_index, Story}
+use Rattle.pfair_table.specs.Table.{Settings, names_task, quanta, next_index, Story, world, table}
 use Rattle.pfair_in_time.specs.Windows.{slots_since}
 use Rattle.pfair_in_time.proofs.Worlds.{tables_before, runs, next_more, next_new, here, HaveWeights, index_after}
 use Rattle.pfair_in_time.proofs.Lines.{IsLine}
 use Rattle.pfair_in_time.proofs.InTime.{none, in_time, released, started}
 use Rattle.pfair_in_time.proofs.Passing.{passing, one_more}
-use Rattle.pfair_table.proofs.FirstRuns.{world, table}
 
 -- whether a member runs in a slot that is counted from its joining
 abbrev pub runs_at : Settings → Story → Member → ℕ → Bool
-runs_at s x m slot = names_task m.name (table s x (m.joined + slot))
+runs_at s x m slot = names_task m.name (table None s x (m.joined + slot))
 
 -- all such slots up to slot t
 abbrev pub slots_of : Settings → Story → ℕ → Member → List ℕ
@@ -53,7 +52,7 @@ pub record IsKept (m : Member) (slot index : ℕ) : Type 0 where
   pub started : starts_job_of m.weight index ≡ true → release_of m.weight index 0 ≤ slot
 
 module _ (s : Settings) (x : Story) (frame : 0 < s.frame) (weights : HaveWeights x) where
-  pub kept_at : (t slot : ℕ) (m l : Member) → Among (world s x (m.joined + slot)) l → IsLine s x (m.joined + slot) t l m → IsUndelayed m → runs_at s x m slot ≡ true
+  pub kept_at : (t slot : ℕ) (m l : Member) → Among (world None s x (m.joined + slot)) l → IsLine s x (m.joined + slot) t l m → IsUndelayed m → runs_at s x m slot ≡ true
       → IsKept m slot (1 + length (passing (runs_at s x m) slot))
   kept_at t slot m l h line undelayed ran = record {
     before_deadline = (
@@ -68,7 +67,7 @@ module _ (s : Settings) (x : Story) (frame : 0 < s.frame) (weights : HaveWeights
   }
     where
       named : runs s x (m.joined + slot) l ≡ true
-      named = ap (λ n. names_task n (table s x (m.joined + slot))) (sym line.name) ∙ ran
+      named = ap (λ n. names_task n (table None s x (m.joined + slot))) (sym line.name) ∙ ran
 
       own : next_index (tables_before s x (m.joined + slot)) l ≡ next_index (tables_before s x (m.joined + slot)) m
       own = ap (λ n. 1 + count_by (names_task n) (drop l.joined (tables_before s x (m.joined + slot)))) (sym line.name) ∙ ap (λ j. 1 + count_by (names_task m.name) (drop j (tables_before s x (m.joined + slot)))) (sym line.joined)
@@ -83,7 +82,7 @@ module _ (s : Settings) (x : Story) (frame : 0 < s.frame) (weights : HaveWeights
           let joined = line.joined in
           omega arith
 
-  pub served : (t : ℕ) (m : Member) → Among (world s x t) m → is_departing m ≡ false → IsUndelayed m → (i : ℕ) → 1 ≤ i → deadline_of m.weight i 0 ≤ slots_since t m → i ≤ length (slots_of s x t m)
+  pub served : (t : ℕ) (m : Member) → Among (world None s x t) m → is_departing m ≡ false → IsUndelayed m → (i : ℕ) → 1 ≤ i → deadline_of m.weight i 0 ≤ slots_since t m → i ≤ length (slots_of s x t m)
   served t m h active undelayed i first due =
       elim (cases_lt (length (slots_of s x t m)) i) [
         | inr has ↦ has

@@ -1,6 +1,6 @@
 -- The members from one slot to the next.
 use Rattle.std.proofs.Common.{◌≡◌, ℕ, zero, suc, ◌+◌, ◌-◌, ◌≤◌, Bool, true, false, cond, List, [], ◌∷◌, Some, drop, arith, ap, refl, sym, ◌∙◌, subst, inl, inr, ⊎_elim}
-use Rattle.std.specs.Prelude.{◌⊎◌, not, ◌||◌, is_some, filter, nat_le, count_by}
+use Rattle.std.specs.Prelude.{◌⊎◌, not, ◌||◌, is_some, filter, nat_le, count_by, None}
 use Rattle.std.specs.List.{list_any}
 use Rattle.std.proofs.lemmas.Bool.{true≢false, false≢true, cases_Bool, and_parts, not-true}
 use Rattle.std.proofs.lemmas.List.{drop_all, drop-append-le}
@@ -20,7 +20,7 @@ use Rattle.pfair_order.proofs.NamesApart.{once_from_names}
 use Rattle.pfair_replica.specs.Among.{Among, among_all, among_filter, among_map, map_among, among_contains, contains_among}
 use Rattle.pfair_admission.specs.Member.{Member, is_departing, busy_until, eligible_from, next_key}
 use Rattle.pfair_admission.specs.Admission.{announcements}
-use Rattle.pfair_table.specs.Table.{Settings, Table, machine, names_task, quanta, next_index, counted_one, counted, is_eligible, eligible, pick, chosen, Story}
+use Rattle.pfair_table.specs.Table.{Settings, Table, machine, names_task, quanta, next_index, counted_one, counted, is_eligible, eligible, pick, chosen, Story, history, world, table}
 use Rattle.pfair_table.specs.declared.pick.Pick.{Pick}
 use Rattle.pfair_in_time.specs.Descent.{Descends, IsSound, IsNew}
 use Rattle.pfair_in_time.specs.Laws.{AllSound, AllHaveWeights, IsFreed}
@@ -28,7 +28,6 @@ use Rattle.pfair_table.proofs.Members.{named_world}
 use Rattle.pfair_table.proofs.NextIndexes.{IsCounted, counted_world, long_history, world_counted}
 use Rattle.pfair_table.proofs.RunsOn.{any_among}
 use Rattle.pfair_in_time.proofs.Boundaries.{named_is, boundaries_keep_members}
-use Rattle.pfair_table.proofs.FirstRuns.{history, world, table}
 
 -- each arrival that is said has a weight
 abbrev pub HaveWeights : Story → Type 0
@@ -36,7 +35,7 @@ HaveWeights x = (t : ℕ) → AllHaveWeights (announcements (x t))
 
 -- the tables of the slots before t
 abbrev pub tables_before : Settings → Story → ℕ → List Table
-tables_before s x t = (history s x t).tables
+tables_before s x t = (history None s x t).tables
 
 -- the index of a member's next subtask after the table of slot t
 abbrev pub index_after : Settings → Story → ℕ → Member → ℕ
@@ -44,40 +43,40 @@ index_after s x t m = next_index (tables_before s x (suc t)) m
 
 -- ---- names
 
-pub same_member : (s : Settings) (x : Story) (t : ℕ) (m n : Member) → Among (world s x t) m → Among (world s x t) n → m.name ≡ n.name → m ≡ n
+pub same_member : (s : Settings) (x : Story) (t : ℕ) (m n : Member) → Among (world None s x t) m → Among (world None s x t) n → m.name ≡ n.name → m ≡ n
 same_member s x t m n here there e =
-    let one = named_is (world s x t) m.name m (named_world s x t) here (name_itself m.name) in
-    let other = named_is (world s x t) m.name n (named_world s x t) there (subst (λ k. name_eq m.name k ≡ true) e (name_itself m.name)) in
+    let one = named_is (world None s x t) m.name m (named_world s x t) here (name_itself m.name) in
+    let other = named_is (world None s x t) m.name n (named_world s x t) there (subst (λ k. name_eq m.name k ≡ true) e (name_itself m.name)) in
     same_Some m n (sym one ∙ other)
 
 -- ---- who runs
 
 abbrev pub keys_at : Settings → Story → ℕ → List Key
-keys_at s x t = chosen s t (world s x t)
+keys_at s x t = chosen s t (world None s x t)
 
-pub keys_apart : (s : Settings) (x : Story) (t : ℕ) → NamesApart (λ (k : Key). k.name) (eligible t (world s x t))
-keys_apart s x t = apart_map (λ (m : Member). m.name) (λ (k : Key). k.name) next_key (λ m. refl) (filter (is_eligible t) (world s x t)) (apart_filter (λ (m : Member). m.name) (is_eligible t) (world s x t) (named_world s x t))
+pub keys_apart : (s : Settings) (x : Story) (t : ℕ) → NamesApart (λ (k : Key). k.name) (eligible t (world None s x t))
+keys_apart s x t = apart_map (λ (m : Member). m.name) (λ (k : Key). k.name) next_key (λ m. refl) (filter (is_eligible t) (world None s x t)) (apart_filter (λ (m : Member). m.name) (is_eligible t) (world None s x t) (named_world s x t))
 
-pub first_keys : (s : Settings) (x : Story) (t : ℕ) → AreFirst pd2_cmp s.processors (eligible t (world s x t)) (keys_at s x t)
-first_keys s x t = by_rank_first keys_total s.processors (eligible t (world s x t)) (once_from_names (eligible t (world s x t)) (keys_apart s x t))
+pub first_keys : (s : Settings) (x : Story) (t : ℕ) → AreFirst pd2_cmp s.processors (eligible t (world None s x t)) (keys_at s x t)
+first_keys s x t = by_rank_first keys_total s.processors (eligible t (world None s x t)) (once_from_names (eligible t (world None s x t)) (keys_apart s x t))
 
 -- a key that is chosen is that of an eligible member
-pub chosen_member : (s : Settings) (x : Story) (t : ℕ) (k : Key) → Among (keys_at s x t) k → (m : Member) × Among (world s x t) m × (is_eligible t m ≡ true) × (k ≡ next_key m)
+pub chosen_member : (s : Settings) (x : Story) (t : ℕ) (k : Key) → Among (keys_at s x t) k → (m : Member) × Among (world None s x t) m × (is_eligible t m ≡ true) × (k ≡ next_key m)
 chosen_member s x t k h =
     let at = place_of (keys_at s x t) k (among_contains (keys_at s x t) k h) in
-    let among = contains_among (eligible t (world s x t)) k ((first_keys s x t).at_rank at.0 k at.1).0 in
-    let p = among_map next_key (filter (is_eligible t) (world s x t)) k among in
-    let q = among_filter (is_eligible t) (world s x t) p.0 p.1 in
+    let among = contains_among (eligible t (world None s x t)) k ((first_keys s x t).at_rank at.0 k at.1).0 in
+    let p = among_map next_key (filter (is_eligible t) (world None s x t)) k among in
+    let q = among_filter (is_eligible t) (world None s x t) p.0 p.1 in
     (p.0, q.0, q.1, p.2)
 
 abbrev pub runs : Settings → Story → ℕ → Member → Bool
-runs s x t m = names_task m.name (table s x t)
+runs s x t m = names_task m.name (table None s x t)
 
 -- who is named in a table is eligible, and its key is chosen
-pub runs_chosen : (s : Settings) (x : Story) (t : ℕ) (m : Member) → Among (world s x t) m → runs s x t m ≡ true → (is_eligible t m ≡ true) × Among (keys_at s x t) (next_key m)
+pub runs_chosen : (s : Settings) (x : Story) (t : ℕ) (m : Member) → Among (world None s x t) m → runs s x t m ≡ true → (is_eligible t m ≡ true) × Among (keys_at s x t) (next_key m)
 runs_chosen s x t m here named =
-    let p = any_among (λ (r : Pick). name_eq m.name r.name) (table s x t) named in
-    let q = among_map (pick (world s x t)) (keys_at s x t) p.0 p.1 in
+    let p = any_among (λ (r : Pick). name_eq m.name r.name) (table None s x t) named in
+    let q = among_map (pick (world None s x t)) (keys_at s x t) p.0 p.1 in
     let n = chosen_member s x t q.0 q.1 in
     let name : m.name ≡ n.0.name = name_exact m.name p.0.name p.2 ∙ ap (λ (r : Pick). r.name) q.2 ∙ ap (λ (k : Key). k.name) n.3 in
     let same = same_member s x t m n.0 here n.1 name in
@@ -97,22 +96,22 @@ any_from_among p (y ∷ ys) x (inr h) e = by (p y) (any_from_among p ys x h e)
     by false e = e
 
 pub chosen_runs : (s : Settings) (x : Story) (t : ℕ) (m : Member) → Among (keys_at s x t) (next_key m) → runs s x t m ≡ true
-chosen_runs s x t m h = any_from_among (λ (r : Pick). name_eq m.name r.name) (table s x t) (pick (world s x t) (next_key m)) (map_among (pick (world s x t)) (keys_at s x t) (next_key m) h) (name_itself m.name)
+chosen_runs s x t m h = any_from_among (λ (r : Pick). name_eq m.name r.name) (table None s x t) (pick (world None s x t) (next_key m)) (map_among (pick (world None s x t)) (keys_at s x t) (next_key m) h) (name_itself m.name)
 
 -- ---- how far members have come
 
 -- one table more
 pub next_more : (s : Settings) (x : Story) (t : ℕ) (m : Member) → m.joined ≤ t → next_index (tables_before s x (suc t)) m ≡ next_index (tables_before s x t) m + cond (runs s x t m) 1 0
 next_more s x t m joined =
-    let long = long_history s x t in
+    let long = long_history None s x t in
     let more : quanta (tables_before s x (suc t)) m ≡ quanta (tables_before s x t) m + cond (runs s x t m) 1 0 =
-    ap (count_by (names_task m.name)) (drop-append-le m.joined (tables_before s x t) (table s x t ∷ []) (omega arith))
-    ∙ sum_by_push (λ ts. cond (names_task m.name ts) 1 0) (drop m.joined (tables_before s x t)) (table s x t) in
+    ap (count_by (names_task m.name)) (drop-append-le m.joined (tables_before s x t) (table None s x t ∷ []) (omega arith))
+    ∙ sum_by_push (λ ts. cond (names_task m.name ts) 1 0) (drop m.joined (tables_before s x t)) (table None s x t) in
     omega arith
 
 -- who joins has had no quantum
 pub next_new : (s : Settings) (x : Story) (t : ℕ) (m : Member) → m.joined ≡ t → next_index (tables_before s x t) m ≡ 1
-next_new s x t m e = let long = long_history s x t in ap (λ ts. 1 + count_by (names_task m.name) ts) (drop_all m.joined (tables_before s x t) (omega arith))
+next_new s x t m e = let long = long_history None s x t in ap (λ ts. 1 + count_by (names_task m.name) ts) (drop_all m.joined (tables_before s x t) (omega arith))
 
 -- what holds of each member of slot t
 pub record IsHere (s : Settings) (x : Story) (t : ℕ) (m : Member) : Type 0 where
@@ -128,7 +127,7 @@ pub on_next : (s : Settings) (x : Story) (t : ℕ) (m : Member) → IsHere s x t
 on_next s x t m here = let more = next_more s x t m here.by_now in let was = here.next in omega arith
 
 -- who is departing doesn't run
-pub departing_rests : (s : Settings) (x : Story) (t : ℕ) (m : Member) → Among (world s x t) m → is_departing m ≡ true → runs s x t m ≡ false
+pub departing_rests : (s : Settings) (x : Story) (t : ℕ) (m : Member) → Among (world None s x t) m → is_departing m ≡ true → runs s x t m ≡ false
 departing_rests s x t m h d = ⊎_elim
     (λ named. absurd (
     let p = and_parts (not (is_departing m)) (nat_le (eligible_from m m.next) t) (runs_chosen s x t m h named).0 in
@@ -137,7 +136,7 @@ departing_rests s x t m h d = ⊎_elim
     (cases_Bool (runs s x t m))
 
 module _ (s : Settings) (x : Story) (weights : HaveWeights x) where
-  on_sound : (t : ℕ) (m : Member) → Among (world s x t) m → IsHere s x t m → IsSound s.frame (on s x t m)
+  on_sound : (t : ℕ) (m : Member) → Among (world None s x t) m → IsHere s x t m → IsSound s.frame (on s x t m)
   on_sound t m h here = record { weight = here.sound.weight; period = here.sound.period; claim = λ slot e. kept slot e (here.sound.claim slot e) }
     where
       still : (slot : ℕ) → m.freed_at ≡ Some slot → (on s x t m).next ≡ m.next
@@ -150,38 +149,38 @@ module _ (s : Settings) (x : Story) (weights : HaveWeights x) where
       kept slot e (inl first) = inl (still slot e ∙ first)
       kept slot e (inr busy) = inr (subst (λ n. busy_until m (n - 1) ≤ slot) (sym (still slot e)) busy)
 
-  all_on_sound : (t : ℕ) → ((m : Member) → Among (world s x t) m → IsHere s x t m) → AllSound s.frame (counted (tables_before s x (suc t)) (world s x t))
+  all_on_sound : (t : ℕ) → ((m : Member) → Among (world None s x t) m → IsHere s x t m) → AllSound s.frame (counted (tables_before s x (suc t)) (world None s x t))
   all_on_sound t here n h =
-      let p = among_map (counted_one (tables_before s x (suc t))) (world s x t) n h in
+      let p = among_map (counted_one (tables_before s x (suc t))) (world None s x t) n h in
       subst (IsSound s.frame) (sym p.2) (on_sound t p.0 p.1 (here p.0 p.1))
 
-  apart_on : (t : ℕ) → NamesApart (λ (m : Member). m.name) (counted (tables_before s x (suc t)) (world s x t))
-  apart_on t = apart_map (λ (m : Member). m.name) (λ (m : Member). m.name) (counted_one (tables_before s x (suc t))) (λ m. refl) (world s x t) (named_world s x t)
+  apart_on : (t : ℕ) → NamesApart (λ (m : Member). m.name) (counted (tables_before s x (suc t)) (world None s x t))
+  apart_on t = apart_map (λ (m : Member). m.name) (λ (m : Member). m.name) (counted_one (tables_before s x (suc t))) (λ m. refl) (world None s x t) (named_world s x t)
 
-  here_if : (t : ℕ) (m : Member) → Among (world s x t) m → IsSound s.frame m → IsHere s x t m
+  here_if : (t : ℕ) (m : Member) → Among (world None s x t) m → IsSound s.frame m → IsHere s x t m
   here_if t m h sound =
-      let c = among_all (IsCounted t (tables_before s x t)) (world s x t) (counted_world s x t) m h in
+      let c = among_all (IsCounted t (tables_before s x t)) (world None s x t) (counted_world s x t) m h in
       record { sound = sound; by_now = c.by_now; next = c.next_is }
 
-  sound_world : (t : ℕ) (m : Member) → Among (world s x t) m → IsSound s.frame m
+  sound_world : (t : ℕ) (m : Member) → Among (world None s x t) m → IsSound s.frame m
   sound_world zero = boundaries_keep_members.sound (machine s) 0 [] (announcements (x 0)) (apart_nil (λ (m : Member). m.name)) (λ l none. absurd none) (weights 0)
   sound_world (suc t) = subst (AllSound s.frame) (sym (world_counted s x t))
-      (boundaries_keep_members.sound (machine s) (suc t) (counted (tables_before s x (suc t)) (world s x t)) (announcements (x (suc t))) (apart_on t) (all_on_sound t (λ m h. here_if t m h (sound_world t m h))) (weights (suc t)))
+      (boundaries_keep_members.sound (machine s) (suc t) (counted (tables_before s x (suc t)) (world None s x t)) (announcements (x (suc t))) (apart_on t) (all_on_sound t (λ m h. here_if t m h (sound_world t m h))) (weights (suc t)))
 
-  pub here : (t : ℕ) (m : Member) → Among (world s x t) m → IsHere s x t m
+  pub here : (t : ℕ) (m : Member) → Among (world None s x t) m → IsHere s x t m
   here t m h = here_if t m h (sound_world t m h)
 
   -- ---- from one slot to the next
 
-  pub came_from : (t : ℕ) (n : Member) → Among (world s x (suc t)) n → ((m : Member) × Among (world s x t) m × Descends (suc t) (on s x t m) n) ⊎ IsNew (suc t) n
+  pub came_from : (t : ℕ) (n : Member) → Among (world None s x (suc t)) n → ((m : Member) × Among (world None s x t) m × Descends (suc t) (on s x t m) n) ⊎ IsNew (suc t) n
   came_from t n h = ⊎_elim
-      (λ (p : (l : Member) × Among (counted (tables_before s x (suc t)) (world s x t)) l × Descends (suc t) l n).
-      (let q = among_map (counted_one (tables_before s x (suc t))) (world s x t) p.0 p.1 in inl (q.0, q.1, subst (λ l. Descends (suc t) l n) q.2 p.2)))
+      (λ (p : (l : Member) × Among (counted (tables_before s x (suc t)) (world None s x t)) l × Descends (suc t) l n).
+      (let q = among_map (counted_one (tables_before s x (suc t))) (world None s x t) p.0 p.1 in inl (q.0, q.1, subst (λ l. Descends (suc t) l n) q.2 p.2)))
       (λ new. inr new)
-      (boundaries_keep_members.from (machine s) (suc t) (counted (tables_before s x (suc t)) (world s x t)) (announcements (x (suc t))) (apart_on t) (all_on_sound t (here t)) (weights (suc t)) n
+      (boundaries_keep_members.from (machine s) (suc t) (counted (tables_before s x (suc t)) (world None s x t)) (announcements (x (suc t))) (apart_on t) (all_on_sound t (here t)) (weights (suc t)) n
       (subst (λ ms. Among ms n) (world_counted s x t) h))
 
-  pub goes_to : (t : ℕ) (m : Member) → Among (world s x t) m → ((n : Member) × Among (world s x (suc t)) n × Descends (suc t) (on s x t m) n) ⊎ ((n : Member) × IsFreed (suc t) s.frame (on s x t m) n)
+  pub goes_to : (t : ℕ) (m : Member) → Among (world None s x t) m → ((n : Member) × Among (world None s x (suc t)) n × Descends (suc t) (on s x t m) n) ⊎ ((n : Member) × IsFreed (suc t) s.frame (on s x t m) n)
   goes_to t m h = subst (λ ms. ((n : Member) × Among ms n × Descends (suc t) (on s x t m) n) ⊎ ((n : Member) × IsFreed (suc t) s.frame (on s x t m) n)) (sym (world_counted s x t))
-      (boundaries_keep_members.to (machine s) (suc t) (counted (tables_before s x (suc t)) (world s x t)) (announcements (x (suc t))) (apart_on t) (all_on_sound t (here t)) (weights (suc t)) (on s x t m)
-      (map_among (counted_one (tables_before s x (suc t))) (world s x t) m h))
+      (boundaries_keep_members.to (machine s) (suc t) (counted (tables_before s x (suc t)) (world None s x t)) (announcements (x (suc t))) (apart_on t) (all_on_sound t (here t)) (weights (suc t)) (on s x t m)
+      (map_among (counted_one (tables_before s x (suc t))) (world None s x t) m h))

@@ -8,12 +8,12 @@ use Rattle.pfair_table.specs.Events.{IsEvent, begin_at, run}
 use Rattle.pfair_table.specs.Limits.{IsSettings}
 use Rattle.pfair_table.specs.NextRun.{left_by}
 use Rattle.pfair_table.specs.Refinement.{Dispatch, HavePlannedAlike}
-use Rattle.pfair_table.specs.Table.{Settings, Origin, Table, table_from}
+use Rattle.pfair_table.specs.Table.{Settings, Origin, Table, table}
 use Rattle.pfair_in_time.specs.Runs.{Past, origin_after, IsServed}
 
 -- slot t was planned by the contents, and no member misses in it
 pub record IsServedSlot (o : Origin) (s : Settings) (x : Replica) (tables : List Table) (t : ℕ) : Type 0 where
-  pub table_is : slice_get tables t ≡ Some (table_from o s x t)
+  pub table_is : slice_get tables t ≡ Some (table o s (said x) t)
   pub served : IsServed o s (said x) t
 
 -- Dispatchers never miss: after any runs, of settings with a frame, after any events, while nothing that is held is torn, so is each slot

@@ -7,7 +7,7 @@ use Rattle.pfair_admission.specs.Member.{Member, is_departing, lag_at}
 use Rattle.pfair_lag.specs.Book.{Tally, lag_of}
 use Rattle.pfair_output.specs.Lags.{is_staying}
 use Rattle.pfair_output.specs.Booked.{all_slots_booked, first_book}
-use Rattle.pfair_table.specs.Table.{Settings, slot_of, history_over, table_over, decisions_over}
+use Rattle.pfair_table.specs.Table.{Settings, slot_of, history, table, decisions}
 use Rattle.pfair_in_time.specs.Runs.{Past, origin_after, IsRunAfter}
 
 -- a member's lag at a time is below one quantum and, unless the task is early, above minus one
@@ -20,7 +20,7 @@ abbrev pub LagsStayWithinOne : Type 0
 LagsStayWithinOne =
     (earlier : List Past) (s : Settings) (x : Replica) → IsRunAfter earlier s x → (t : ℕ)
     → let o = origin_after s earlier in
-    (m : Member) → Among (history_over o s (said x) (suc t)).members m → is_departing m ≡ false → m.delays ≡ []
+    (m : Member) → Among (history o s (said x) (suc t)).members m → is_departing m ≡ false → m.delays ≡ []
     → IsWithinOne (suc (slot_of o t)) m
 
 -- what a book has of a task, and what it is of a member: the name, the lag and the period
@@ -36,5 +36,5 @@ abbrev pub BooksShowLags : Type 0
 BooksShowLags =
     (earlier : List Past) (s : Settings) (x : Replica) → IsRunAfter earlier s x → (t : ℕ)
     → let o = origin_after s earlier in
-    map lag_shown (all_slots_booked (first_book o) (map (decisions_over o s (said x)) (numbers_below t)) (map (table_over o s (said x)) (numbers_below t))).entered
-    ≡ map (member_lag (slot_of o t)) (filter is_staying (history_over o s (said x) t).members)
+    map lag_shown (all_slots_booked (first_book o) (map (decisions o s (said x)) (numbers_below t)) (map (table o s (said x)) (numbers_below t))).entered
+    ≡ map (member_lag (slot_of o t)) (filter is_staying (history o s (said x) t).members)

@@ -3,7 +3,7 @@ use Rattle.std.specs.Prelude.{ℕ, ◌≡◌, ◌+◌, ◌*◌, ◌/◌, ◌%◌
 use Rattle.std.specs.List.{AllByRecursion}
 use Rattle.pfair_weight.specs.Share.{IsWeight, units_of}
 use Rattle.pfair_replica.specs.Among.{Among}
-use Rattle.pfair_replica.specs.Replica.{Replica}
+use Rattle.pfair_replica.specs.Replica.{Replica, said}
 use Rattle.pfair_admission.specs.Admission.{member_named}
 use Rattle.pfair_admission.specs.Member.{Member}
 use Rattle.pfair_table.specs.declared.pick.Pick.{Pick}
@@ -27,10 +27,10 @@ later_row h members p = record p { index = p.index + quanta_in h (member_named m
 abbrev pub TablesRepeat : Type 0
 TablesRepeat =
     (s : Settings) (x : Replica) (arrivals : List Arrival) (h : ℕ) → 0 < s.frame → SaysOnly x arrivals → AllByRecursion (λ a. IsWeight a.weight.cost a.weight.period) arrivals
-    → IsCommonMultiple h (world s x 0) → (t : ℕ) → table s x (t + h) ≡ map (later_row h (world s x 0)) (table s x t)
+    → IsCommonMultiple h (world None s (said x) 0) → (t : ℕ) → table None s (said x) (t + h) ≡ map (later_row h (world None s (said x) 0)) (table None s (said x) t)
 
 -- So the first h tables give those of all slots.
 abbrev pub RepeatsByPeriods : Type 0
 RepeatsByPeriods =
     (s : Settings) (x : Replica) (arrivals : List Arrival) (h : ℕ) → 0 < s.frame → SaysOnly x arrivals → AllByRecursion (λ a. IsWeight a.weight.cost a.weight.period) arrivals
-    → IsCommonMultiple h (world s x 0) → (t : ℕ) → table s x t ≡ map (later_row (t / h * h) (world s x 0)) (table s x (t % h))
+    → IsCommonMultiple h (world None s (said x) 0) → (t : ℕ) → table None s (said x) t ≡ map (later_row (t / h * h) (world None s (said x) 0)) (table None s (said x) (t % h))

@@ -7,7 +7,7 @@ use Rattle.pfair_replica.specs.Replica.{Replica, IsReplica, said}
 use Rattle.pfair_admission.specs.Member.{Member, theta, is_departing}
 use Rattle.pfair_table.specs.declared.pick.Pick.{Pick}
 use Rattle.pfair_table.specs.RunsOn.{left_over}
-use Rattle.pfair_table.specs.Table.{Settings, Origin, Story, Table, slot_of, history_over, world_over, table_over}
+use Rattle.pfair_table.specs.Table.{Settings, Origin, Story, Table, slot_of, history, world, table}
 use Rattle.pfair_in_time.specs.InTime.{IsInTime}
 
 -- a run that is over: how many slots it had, and what was held of its logs
@@ -28,8 +28,8 @@ pub record IsRunAfter (earlier : List Past) (s : Settings) (x : Replica) : Type 
 
 -- Each row of slot t of a run is in time, and after it the next subtask of each member that isn't departing is due after the slot's end.
 pub record IsServed (o : Origin) (s : Settings) (story : Story) (t : ℕ) : Type 0 where
-  pub rows_in_time : (p : Pick) → Among (table_over o s story t) p → (m : Member) × Among (world_over o s story t) m × IsInTime (slot_of o t) p m
-  pub none_misses : (m : Member) → Among (history_over o s story (suc t)).members m → is_departing m ≡ false → suc (slot_of o t) < deadline_of m.weight m.next (theta m m.next)
+  pub rows_in_time : (p : Pick) → Among (table o s story t) p → (m : Member) × Among (world o s story t) m × IsInTime (slot_of o t) p m
+  pub none_misses : (m : Member) → Among (history o s story (suc t)).members m → is_departing m ≡ false → suc (slot_of o t) < deadline_of m.weight m.next (theta m m.next)
 
 -- None misses: so it is in each slot of each run.
 abbrev pub NoneMisses : Type 0
@@ -37,7 +37,7 @@ NoneMisses = (earlier : List Past) (s : Settings) (x : Replica) → IsRunAfter e
 
 -- the table of a slot that is counted from the first run's first slot, in whichever run it lies
 abbrev pub table_through : Settings → List Past → Story → ℕ → Table
-table_through s [] story u = table_over None s story u
+table_through s [] story u = table None s story u
 table_through s (r ∷ earlier) story u =
     let o = origin_after s (r ∷ earlier) in
-    if nat_lt u (slot_of o 0) then table_through s earlier (said r.contents) u else table_over o s story (u - slot_of o 0)
+    if nat_lt u (slot_of o 0) then table_through s earlier (said r.contents) u else table o s story (u - slot_of o 0)

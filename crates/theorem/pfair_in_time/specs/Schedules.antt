@@ -1,5 +1,5 @@
 -- Which tasks can be served: tables of any planner, and how many quanta they give.
-use Rattle.std.specs.Prelude.{ℕ, ◌≡◌, ◌*◌, ◌%◌, ◌<◌, ◌≤◌, ◌↔◌, Bool, List, [], map, length, sum_by, count_by}
+use Rattle.std.specs.Prelude.{ℕ, ◌≡◌, ◌*◌, ◌%◌, ◌<◌, ◌≤◌, ◌↔◌, Bool, List, [], map, length, sum_by, count_by, None}
 use Rattle.std.specs.List.{AllByRecursion}
 use Rattle.pfair_weight.specs.Name.{NameValue as Name, NamesApart}
 use Rattle.pfair_weight.specs.Share.{Share, IsWeight, units_of}
@@ -57,8 +57,8 @@ IsLate tables t a = (i : ℕ) × (deadline_of a.weight i 0 ≤ t) × (quanta_bef
 abbrev pub ServedWhereThereIsRoom : Type 0
 ServedWhereThereIsRoom =
     (s : Settings) (x : Replica) (arrivals : List Arrival) → 0 < s.frame → AreArrivals s.frame arrivals → SaysOnly x arrivals
-    → (AllByRecursion (λ (d : Decided). d.decision ≡ Admitted) (decisions s x 0) ↔ (units_wanted s.frame arrivals ≤ s.processors * s.frame))
-    × (units_wanted s.frame arrivals ≤ s.processors * s.frame → (a : Arrival) → Among arrivals a → (t : ℕ) → IsServed (table s x) t a)
+    → (AllByRecursion (λ (d : Decided). d.decision ≡ Admitted) (decisions None s (said x) 0) ↔ (units_wanted s.frame arrivals ≤ s.processors * s.frame))
+    × (units_wanted s.frame arrivals ≤ s.processors * s.frame → (a : Arrival) → Among arrivals a → (t : ℕ) → IsServed (table None s (said x)) t a)
 
 -- No one serves more: if arrivals want more than there is, by any tables with no more rows in a slot than there are processors some
 -- task is late by the end of the frame.

@@ -5,7 +5,7 @@ use Rattle.pfair_lag.specs.Picks.{ArePicks, InWindows, MeetsDeadlines}
 use Rattle.pfair_replica.specs.Among.{Among}
 use Rattle.pfair_replica.specs.Replica.{Replica, said, numbers_below}
 use Rattle.pfair_admission.specs.Member.{Member, is_departing}
-use Rattle.pfair_table.specs.Table.{Settings, Story, names_task, slot_of, world_over}
+use Rattle.pfair_table.specs.Table.{Settings, Story, names_task, slot_of, world}
 use Rattle.pfair_in_time.specs.Runs.{Past, origin_after, table_through, IsRunAfter}
 
 -- how many slots there are from the slot from which a member counts its subtasks to the end of a slot
@@ -33,7 +33,7 @@ abbrev pub DeadlinesAreKept : Type 0
 DeadlinesAreKept =
     (earlier : List Past) (s : Settings) (x : Replica) → IsRunAfter earlier s x → (t : ℕ)
     → let o = origin_after s earlier in
-    (m : Member) → Among (world_over o s (said x) t) m → is_departing m ≡ false → m.delays ≡ []
+    (m : Member) → Among (world o s (said x) t) m → is_departing m ≡ false → m.delays ≡ []
     → KeepsDeadlines m.weight (slots_run s earlier (said x) (slot_of o t) m) (slots_since (slot_of o t) m)
 
 -- Windows are kept: the same of one that isn't early, and none of its subtasks ran before its release.
@@ -41,5 +41,5 @@ abbrev pub WindowsAreKept : Type 0
 WindowsAreKept =
     (earlier : List Past) (s : Settings) (x : Replica) → IsRunAfter earlier s x → (t : ℕ)
     → let o = origin_after s earlier in
-    (m : Member) → Among (world_over o s (said x) t) m → is_departing m ≡ false → m.delays ≡ [] → m.early ≡ false
+    (m : Member) → Among (world o s (said x) t) m → is_departing m ≡ false → m.delays ≡ [] → m.early ≡ false
     → KeepsWindows m.weight (slots_run s earlier (said x) (slot_of o t) m) (slots_since (slot_of o t) m)

@@ -1,5 +1,5 @@
 -- Facts of the works of a run, row by row.
-use Rattle.std.proofs.Common.{◌≡◌, ◌<◌, ℕ, List, [], ◌∷◌, length, slice_get, slice_index_or, Some, Ok, Err, IsOk, IfOk, subst, ap, sym, arith}
+use Rattle.std.proofs.Common.{◌≡◌, ◌<◌, ℕ, List, [], ◌∷◌, length, slice_get, slice_index_or, Some, Ok, Err, IsOk, IfOk, subst, ap, sym, arith, None}
 use Rattle.std.proofs.lemmas.Bool.{true≢false}
 use Rattle.pfair_replica.specs.Replica.{Replica, Below}
 use Rattle.pfair_replica.specs.Laws.{IsLeastJoin}
@@ -24,8 +24,8 @@ pub none_in_empty : {A : Type 0} (xs : List A) (k : ℕ) (x : A) → xs ≡ [] �
 none_in_empty xs k x empty at = let none : slice_get [] k ≡ Some x = subst (λ ys. slice_get ys k ≡ Some x) empty at in cc none
 
 -- what good work keeps has the plan of the script's replica
-pub kept_plan : {K : Type 0} (has : K → ℕ → List Table → Type 0) (r : LoggedRun) (b : BoardFrame) (k : ℕ) (w : Worked K) (kept : K) → IsGood has r b k w → w.kept ≡ Ok kept → has kept k (plan r.settings (replica_of_logs r.logs))
-kept_plan has r b k w kept good is = subst (λ x. IfOk x (λ y. has y k (plan r.settings (replica_of_logs r.logs)))) is good.plan
+pub kept_plan : {K : Type 0} (has : K → ℕ → List Table → Type 0) (r : LoggedRun) (b : BoardFrame) (k : ℕ) (w : Worked K) (kept : K) → IsGood has r b k w → w.kept ≡ Ok kept → has kept k (plan None r.settings (replica_of_logs r.logs))
+kept_plan has r b k w kept good is = subst (λ x. IfOk x (λ y. has y k (plan None r.settings (replica_of_logs r.logs)))) is good.plan
 
 -- good work has come to its end
 pub not_failed : {K : Type 0} (has : K → ℕ → List Table → Type 0) (r : LoggedRun) (b : BoardFrame) (k : ℕ) (w : Worked K) (f : RunFault) → IsGood has r b k w → w.kept ≡ Err f → ⊥

@@ -1,7 +1,7 @@
 -- What the desks of a board plan, whatever they do.
-use Rattle.std.specs.Prelude.{ℕ, ◌≡◌, ◌<◌, ◌⊎◌, List}
+use Rattle.std.specs.Prelude.{ℕ, ◌≡◌, ◌<◌, ◌⊎◌, List, None}
 use Rattle.std.specs.List.{AllByRecursion}
-use Rattle.pfair_replica.specs.Replica.{frontier}
+use Rattle.pfair_replica.specs.Replica.{frontier, said}
 use Rattle.pfair_table.specs.Laws.{IsPrefixOf}
 use Rattle.pfair_table.specs.Table.{Settings, plan, table}
 use Rattle.pfair_desk.specs.Steps.{Step, IsStep, empty_board, after_steps, desk_replica}
@@ -13,7 +13,7 @@ DesksPlanAlike =
     → (c d t : ℕ)
     → let x = desk_replica s.processors capacity (after_steps steps empty_board) c in
     let y = desk_replica s.processors capacity (after_steps steps empty_board) d in
-    t < frontier x → t < frontier y → table s x t ≡ table s y t
+    t < frontier x → t < frontier y → table None s (said x) t ≡ table None s (said y) t
 
 -- and of the plans of two desks, at equal settings, the shorter begins the longer.
 abbrev pub DesksShareAPlan : Type 0
@@ -22,4 +22,4 @@ DesksShareAPlan =
     → (c d : ℕ)
     → let x = desk_replica s.processors capacity (after_steps steps empty_board) c in
     let y = desk_replica s.processors capacity (after_steps steps empty_board) d in
-    IsPrefixOf (plan s x) (plan s y) ⊎ IsPrefixOf (plan s y) (plan s x)
+    IsPrefixOf (plan None s x) (plan None s y) ⊎ IsPrefixOf (plan None s y) (plan None s x)

@@ -18,7 +18,7 @@ pub record IsWorkOf {K : Type 0} (has : K → ℕ → List Table → Type 0) (ma
   pub desk : IsDeskOf w.desk b
   pub processor : w.desk.processor ≡ k
   pub log : OnOk w.kept (HoldsLog w.desk 1 (log_of r k))
-  pub plan : IfOk w.kept (λ kept. has kept k (plan r.settings (replica_of w.desk.replica)))
+  pub plan : IfOk w.kept (λ kept. has kept k (plan None r.settings (replica_of w.desk.replica)))
   pub fault : IfErr w.kept (IsWorkerFault may_give_up w.desk 1 (log_of r k))
 
 -- the work of each row of a board of the script's size, in order
@@ -38,7 +38,7 @@ pub record IsAtWork {K : Type 0} (has : K → ℕ → List Table → Type 0) (a 
 
 -- all is planned that the desk settles
 abbrev pub HasPlanned : Dispatch → DeskView → Type 0
-HasPlanned a d = a.tables ≡ plan a.settings (replica_of d.replica)
+HasPlanned a d = a.tables ≡ plan None a.settings (replica_of d.replica)
 
 -- the desk holds all that it held, and has published nothing
 pub record HasLearned (old now : DeskView) : Type 0 where

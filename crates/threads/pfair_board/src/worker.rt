@@ -1,5 +1,5 @@
 //! What each worker does.
-ghost use Rattle.std.specs.Prelude.{◌≡◌, ◌≤◌, ◌+◌, [], false, true, length, IfOk, IfErr, OnOk};
+ghost use Rattle.std.specs.Prelude.{◌≡◌, ◌≤◌, ◌+◌, [], false, true, length, IfOk, IfErr, OnOk, None};
 ghost use Rattle.pfair_replica.specs.ReplicaRows.{replica_of};
 ghost use Rattle.pfair_table.specs.Table.{plan};
 ghost use Rattle.pfair_desk.specs.Desks.{IsDeskOf, GrownDesk};
@@ -113,7 +113,7 @@ impl<R: Ready, K: Sink> Worker<R, K> {
         requires at_work { IsAtWork K.has self.planner self.sink desk.old }
         ensures grown { GrownDesk desk.old desk.new }
         ensures log { OnOk result (HasPublished desk.old desk.new log.now) }
-        ensures plan { IfOk result (λ sink. K.has sink desk.old.processor (plan self.planner.settings (replica_of desk.new.replica))) }
+        ensures plan { IfOk result (λ sink. K.has sink desk.old.processor (plan None self.planner.settings (replica_of desk.new.replica))) }
         ensures fault { IfErr result (IsWorkerFault G.may_give_up desk.new desk.old.next_number log.now) }
         ensures own { IsDeskOf desk.new board.now }
     {
@@ -136,7 +136,7 @@ impl<R: Ready, K: Sink> Worker<R, K> {
         requires at_work { IsAtWork K.has self.old.planner self.old.sink desk.old }
         ensures learned { HasLearned desk.old desk.new }
         ensures own { IsDeskOf desk.new board.now }
-        ensures plan { OnOk result (K.has self.new.sink desk.old.processor (plan self.old.planner.settings (replica_of desk.new.replica))) }
+        ensures plan { OnOk result (K.has self.new.sink desk.old.processor (plan None self.old.planner.settings (replica_of desk.new.replica))) }
         ensures fault { IfErr result (IsPlanningFault G.may_give_up) }
     {
         self.catch_up(rt, desk, gate)?;

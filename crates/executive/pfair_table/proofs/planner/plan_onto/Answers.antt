@@ -7,7 +7,7 @@ use Rattle.pfair_table.specs.Places.{places_after, places_in, table_before, plac
 use Rattle.pfair_table.specs.Limits.{IsOrigin}
 use Rattle.pfair_table.specs.Planned.{PlannedSlots, IsNext, last_or}
 use Rattle.pfair_table.specs.Refinement.{IsPlanOf}
-use Rattle.pfair_table.specs.Table.{Settings, Origin, Table, table_from, decisions_from, history_from}
+use Rattle.pfair_table.specs.Table.{Settings, Origin, Table, table, decisions, history}
 use Rattle.pfair_admission.proofs.Each.{each}
 use Rattle.pfair_table.proofs.PlacesOn.{fit_before, fit_plan, last_fit, last_places, next_are}
 use Rattle.pfair_table.proofs.PlacesKept.{places_before_are}
@@ -64,10 +64,10 @@ push-requires-clause-next g c =
     let slot_is = c.len-slot.ensures.tables in
     subst (λ (p : PlannedSlots). IsNext p c.args.replica.now (record { plan = record { table = c.in_ok-plan.plan.table; decided = c.in_ok-plan.plan.decided }; places = c.in_ok-places.places }))
     (sym c.take_room-room.ensures) (record {
-      tables_are = c.requires.so_far.plan.tables_are ∙ ap (λ (s : Settings). (history_from now.origin s y (length now.tables)).tables) settings_are;
-      decided_are = c.requires.so_far.plan.decided_are ∙ ap (λ (s : Settings). map (decisions_from now.origin s y) (numbers_below (length now.tables))) settings_are;
-      table_is = c.in_ok-plan.ensures.plan.table_is ∙ (λ i. table_from (origin_is i) (settings_are i) y (slot_is i));
-      decision_is = c.in_ok-plan.ensures.plan.decided_is ∙ (λ i. decisions_from (origin_is i) (settings_are i) y (slot_is i));
+      tables_are = c.requires.so_far.plan.tables_are ∙ ap (λ (s : Settings). (history now.origin s (said y) (length now.tables)).tables) settings_are;
+      decided_are = c.requires.so_far.plan.decided_are ∙ ap (λ (s : Settings). map (decisions now.origin s (said y)) (numbers_below (length now.tables))) settings_are;
+      table_is = c.in_ok-plan.ensures.plan.table_is ∙ (λ i. table (origin_is i) (settings_are i) (said y) (slot_is i));
+      decision_is = c.in_ok-plan.ensures.plan.decided_is ∙ (λ i. decisions (origin_is i) (settings_are i) (said y) (slot_is i));
       places_are = next_are now.origin now.tables c.in_ok-plan.plan.table.items
           ∙ ap (λ (ps : List ℕ). places_in now.origin now.tables ++ ps ∷ []) (sym (c.in_ok-places.ensures
           ∙ (λ i. places_after (c.last.ensures.table i) (c.last.ensures.places i) (c.deref.ensures.value i))

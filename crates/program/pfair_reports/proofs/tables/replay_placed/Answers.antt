@@ -1,4 +1,4 @@
-use Rattle.std.proofs.Common.{◌∙◌}
+use Rattle.std.proofs.Common.{◌∙◌, None}
 use Rattle.pfair_file.proofs.CommandFacts.{ends_cut, ends_well}
 use Rattle.pfair_table.specs.Script.{replica_of_logs}
 use Rattle.pfair_table.specs.Table.{plan}
@@ -9,7 +9,7 @@ use Rattle.pfair_reports.proofs.RunFacts.{output_of_plan, places_made}
 use Rattle.pfair_reports.proofs.tables.replay_placed.Goals as goal
 
 pub of_tables-requires : goal.of_tables-requires
-of_tables-requires g c = let has = c.in_ok-tables.ensures.plan in kept_fit c.in_ok-tables.tables 0 (plan has.0.settings (replica_of_logs has.0.logs)) has.1.plan
+of_tables-requires g c = let has = c.in_ok-tables.ensures.plan in kept_fit c.in_ok-tables.tables 0 (plan None has.0.settings (replica_of_logs has.0.logs)) has.1.plan
 
 pub returns : goal.returns
 returns g c =

@@ -1,6 +1,6 @@
-use Rattle.std.proofs.Common.{◌≡◌, ◌++◌, ◌∙◌, ap, arith}
+use Rattle.std.proofs.Common.{◌≡◌, ◌++◌, ◌∙◌, ap, arith, None}
 use Rattle.pfair_replica.specs.ReplicaRows.{replica_of}
-use Rattle.pfair_replica.specs.Replica.{Replica}
+use Rattle.pfair_replica.specs.Replica.{Replica, said}
 use Rattle.pfair_table.specs.Table.{Settings, decisions}
 use Rattle.pfair_text.specs.Rows.{line, lines_text, text_so_far}
 use Rattle.pfair_output.specs.Decisions.{decided_rows, decisions_header}
@@ -12,7 +12,7 @@ slots-preserved g c =
     let s : Settings = c.args.planner.now.settings in
     let x : Replica = replica_of c.args.replica.now in
     let next = c.in_ok-plan.ensures in
-    let decided : c.deref.result.now ≡ decisions s x c.slots.slot = c.deref.ensures.value ∙ next.decided ∙ (λ i. decisions (c.slots.invariant.settings i) x (c.slots.invariant.planned i)) in
+    let decided : c.deref.result.now ≡ decisions None s (said x) c.slots.slot = c.deref.ensures.value ∙ next.decided ∙ (λ i. decisions None (c.slots.invariant.settings i) (said x) (c.slots.invariant.planned i)) in
     record {
       is_open = c.in_ok-add_decisions.ensures.open;
       able = next.able;

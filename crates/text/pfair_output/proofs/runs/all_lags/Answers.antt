@@ -1,7 +1,7 @@
-use Rattle.std.proofs.Common.{◌≡◌, ◌∙◌, ap, arith}
+use Rattle.std.proofs.Common.{◌≡◌, ◌∙◌, ap, arith, None}
 use Rattle.pfair_lag.specs.Book.{Book}
 use Rattle.pfair_replica.specs.ReplicaRows.{replica_of}
-use Rattle.pfair_replica.specs.Replica.{Replica}
+use Rattle.pfair_replica.specs.Replica.{Replica, said}
 use Rattle.pfair_table.specs.Table.{Settings, table, decisions}
 use Rattle.pfair_text.specs.Rows.{line, text_so_far}
 use Rattle.pfair_output.specs.Lags.{lags_header}
@@ -21,8 +21,8 @@ slots-preserved g c =
     let x : Replica = replica_of c.args.replica.now in
     let n = c.slots.slot in
     let next = c.in_ok-plan.ensures in
-    let decided : c.deref.result.now ≡ decisions s x n = c.deref.ensures.value ∙ next.decided ∙ (λ i. decisions (c.slots.invariant.settings i) x (c.slots.invariant.planned i)) in
-    let rows : c.deref-in-slots.result.now ≡ table s x n = c.deref-in-slots.ensures.value ∙ next.table ∙ (λ i. table (c.slots.invariant.settings i) x (c.slots.invariant.planned i)) in
+    let decided : c.deref.result.now ≡ decisions None s (said x) n = c.deref.ensures.value ∙ next.decided ∙ (λ i. decisions None (c.slots.invariant.settings i) (said x) (c.slots.invariant.planned i)) in
+    let rows : c.deref-in-slots.result.now ≡ table None s (said x) n = c.deref-in-slots.ensures.value ∙ next.table ∙ (λ i. table None (c.slots.invariant.settings i) (said x) (c.slots.invariant.planned i)) in
     let book : Book = c.book_slot.new.book in
     let booked = book_more s x n (line lags_header) (text_so_far c.slots.writer) (text_so_far c.add_lags.new.writer) c.slots.book book c.slots.invariant.book
     (c.in_ok-book_slot.ensures ∙ (λ i. slot_booked (decided i) (rows i) c.slots.book)) in

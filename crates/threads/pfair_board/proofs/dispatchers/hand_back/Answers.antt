@@ -1,9 +1,9 @@
-use Rattle.std.proofs.Common.{◌≡◌, ◌∙◌, sym, ap, ◌+◌, ◌∷◌, rules, arith, subst, add-one, length, slice_get, Some, vec_len}
+use Rattle.std.proofs.Common.{◌≡◌, ◌∙◌, sym, ap, ◌+◌, ◌∷◌, rules, arith, subst, add-one, length, slice_get, Some, vec_len, None}
 use Rattle.std.proofs.lemmas.Grind.{common_steps}
 use Rattle.std.specs.Vec.Iter.{into_iter_items}
 use Rattle.pfair_board.specs.Finish.{IsGood, IsFullDesk, IsRunOf}
 use Rattle.pfair_desk.proofs.Rows.{each_snoc}
-use Rattle.pfair_table.specs.Places.{places_of}
+use Rattle.pfair_table.specs.Places.{places_in}
 use Rattle.pfair_table.specs.Planned.{as_tables}
 use Rattle.pfair_table.specs.Script.{replica_of_logs}
 use Rattle.pfair_table.specs.Table.{plan}
@@ -33,7 +33,7 @@ pub of_tables-requires : goal.of_tables-requires
 of_tables-requires c =
     let first : slice_get (into_iter_items c.loop-work.work-iterator) 0 ≡ Some c.in-Some.work = grind (arith, common_steps) in
     let has = kept_plan has_kept c.args.script.now c.args.board (vec_len c.loop-work.desks + 0) c.in-Some.work c.in-Ok.tables (c.loop-work.invariant.good 0 c.in-Some.work first) c.in-Ok.is in
-    kept_fit c.in-Ok.tables (vec_len c.loop-work.desks + 0) (plan c.args.script.now.settings (replica_of_logs c.args.script.now.logs)) has
+    kept_fit c.in-Ok.tables (vec_len c.loop-work.desks + 0) (plan None c.args.script.now.settings (replica_of_logs c.args.script.now.logs)) has
 
 pub loop-work-preserved : goal.loop-work-preserved
 loop-work-preserved c =
@@ -60,6 +60,6 @@ loop-work-preserved c =
       runs = λ k run at. each_snoc (λ j x. IsRunOf script.settings (replica_of_logs script.logs) x) c.loop-work.runs.items made c.loop-work.invariant.runs
           (record {
             tables = ap as_tables c.in_ok-made.ensures.tables ∙ has.0;
-            places = c.in_ok-made.ensures.places ∙ ap (λ v. places_of (as_tables v)) (sym c.in_ok-made.ensures.tables);
+            places = c.in_ok-made.ensures.places ∙ ap (λ v. places_in None (as_tables v)) (sym c.in_ok-made.ensures.tables);
           }) k run (rw (← c.in_ok-push-2.ensures.items) at);
     }

@@ -1,4 +1,4 @@
-use Rattle.std.proofs.Common.{subst, arith}
+use Rattle.std.proofs.Common.{subst, arith, None}
 use Rattle.pfair_table.specs.Table.{plan}
 use Rattle.pfair_table.specs.Script.{replica_of_logs}
 use Rattle.pfair_board.specs.Sinks.{has_first}
@@ -14,7 +14,7 @@ unreachable-requires g c =
 pub unreachable-requires-in_default-first : goal.unreachable-requires-in_default-first
 unreachable-requires-in_default-first g c =
     let works = c.in_ok-works.works.items in
-    let tables = plan c.args.script.now.settings (replica_of_logs c.args.script.now.logs) in
+    let tables = plan None c.args.script.now.settings (replica_of_logs c.args.script.now.logs) in
     let at = first_is works c.swap_remove-kept.result (omega (arith, c.in_ok-works.ensures.count, c.processors-processors.ensures.value, c.processors-processors.ensures.limits)) c.swap_remove-kept.ensures.value in
     let kept : has_first g.K.Sink.has c.in-Ok.first 0 tables = kept_plan (has_first g.K.Sink.has) c.args.script.now _ 0 c.swap_remove-kept.result c.in-Ok.first (c.in_ok-works.ensures.good 0 c.swap_remove-kept.result at) c.in-Ok.is in
     subst (λ s. has_first g.K.Sink.has s 0 tables) c.in_default-first.is kept
@@ -22,7 +22,7 @@ unreachable-requires-in_default-first g c =
 pub returns-clause-plan : goal.returns-clause-plan
 returns-clause-plan g c =
     let works = c.in_ok-works.works.items in
-    let tables = plan c.args.script.now.settings (replica_of_logs c.args.script.now.logs) in
+    let tables = plan None c.args.script.now.settings (replica_of_logs c.args.script.now.logs) in
     let at = first_is works c.swap_remove-kept.result (omega (arith, c.in_ok-works.ensures.count, c.processors-processors.ensures.value, c.processors-processors.ensures.limits)) c.swap_remove-kept.ensures.value in
     let kept : has_first g.K.Sink.has c.in-Ok.first 0 tables = kept_plan (has_first g.K.Sink.has) c.args.script.now _ 0 c.swap_remove-kept.result c.in-Ok.first (c.in_ok-works.ensures.good 0 c.swap_remove-kept.result at) c.in-Ok.is in
     record {

@@ -30,7 +30,7 @@ returns-in-None-clause-good g c = λ k w at.
         replica = same;
       };
       kept = held.0;
-      plan = subst (λ x. IfOk w.kept (λ kept. g.K.Sink.has kept k (plan script.settings x))) same work.plan;
+      plan = subst (λ x. IfOk w.kept (λ kept. g.K.Sink.has kept k (plan None script.settings x))) same work.plan;
     }
 
 pub returns-in-None-clause-far_enough : goal.returns-in-None-clause-far_enough

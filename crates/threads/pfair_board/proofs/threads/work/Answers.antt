@@ -1,4 +1,4 @@
-use Rattle.std.proofs.Common.{◌≡◌, ◌∙◌, [], sym, subst, refl, OnOk, IfOk, IfErr, Ok, Err, Result, slice_index_or}
+use Rattle.std.proofs.Common.{◌≡◌, ◌∙◌, [], sym, subst, refl, OnOk, IfOk, IfErr, Ok, Err, Result, slice_index_or, None}
 use Rattle.std.proofs.lemmas.Option.{get_or_from_slice_get}
 use Rattle.pfair_replica.specs.ReplicaRows.{replica_of}
 use Rattle.pfair_table.specs.Table.{plan}
@@ -28,7 +28,7 @@ returns g c =
             processor = w.run-kept.ensures.grown.processor;
             log = on_ok kept w.run-kept.ensures.log (λ published.
                 subst (HoldsLog desk 1) (sym log_is) (subst (λ n. HoldsLog desk n c.log-log.result.now) c.requires.place.first published.held));
-            plan = subst (λ s. IfOk kept (λ sink. g.K.Sink.has sink row (plan s (replica_of desk.replica)))) settings_are w.run-kept.ensures.plan;
+            plan = subst (λ s. IfOk kept (λ sink. g.K.Sink.has sink row (plan None s (replica_of desk.replica)))) settings_are w.run-kept.ensures.plan;
             fault = subst (λ log. IfErr kept (IsWorkerFault g.G.Gate.may_give_up desk 1 log)) (sym log_is)
                 (subst (λ n. IfErr kept (IsWorkerFault g.G.Gate.may_give_up desk n c.log-log.result.now)) c.requires.place.first w.run-kept.ensures.fault);
           })

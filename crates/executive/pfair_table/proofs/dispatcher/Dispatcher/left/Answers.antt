@@ -8,7 +8,7 @@ use Rattle.pfair_table.specs.Places.{table_before, places_before, places_in}
 use Rattle.pfair_table.specs.Planned.{last_or}
 use Rattle.pfair_table.specs.Refinement.{Dispatch}
 use Rattle.pfair_table.specs.RunsOn.{last_places, last_table}
-use Rattle.pfair_table.specs.Table.{Carried, History, Table, machine, history_over}
+use Rattle.pfair_table.specs.Table.{Carried, History, Table, machine, history}
 use Rattle.pfair_table.proofs.NextRuns.{carried_on, left_tables}
 use Rattle.pfair_table.proofs.States.{state_of}
 use Rattle.pfair_table.proofs.dispatcher.Dispatcher.left.Goals as goal
@@ -37,7 +37,7 @@ returns g c =
     let finished = subst IsFinished (sym view) c.requires.finished in
     let tables = left_tables c.self.invariant.0 c.processors.ensures.rows.entries finished.whole finished.able finished.all in
     let o = c.self.inside.planned.origin in
-    let past : Dispatch → History = λ e. history_over e.origin e.settings (said (replica_of e.replica)) e.settings.slots in
+    let past : Dispatch → History = λ e. history e.origin e.settings (said (replica_of e.replica)) e.settings.slots in
     let table_is = c.in_ok-from_slice.ensures.items ∙ c.last.ensures.table ∙ ap (last_or (table_before o)) tables ∙ ap (λ (e : Dispatch). last_table e.origin (past e)) view in
     let places_are = c.in_ok-from_slice-2.ensures.items ∙ c.last.ensures.places ∙ ap (λ (ts : List Table). last_or (places_before o) (places_in o ts)) tables ∙ ap (λ (e : Dispatch). last_places e.origin (past e)) view in
     λ i. record { slot = c.requires.slot i; machine = c.requires.carried.machine_is i; members = c.requires.carried.members_are i; table = table_is i; places = places_are i }

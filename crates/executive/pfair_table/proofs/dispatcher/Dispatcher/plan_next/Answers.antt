@@ -6,7 +6,8 @@ use Rattle.pfair_replica.proofs.TornKeys.{untorn_by_test}
 use Rattle.pfair_table.specs.Events.{is_plannable, with_next_slot}
 use Rattle.pfair_table.specs.Planned.{PlannedSlots}
 use Rattle.pfair_table.specs.Refinement.{Dispatch, IsInStep, IsKept, IsNextStep, IsWholePlan, course_of}
-use Rattle.pfair_table.specs.Table.{Settings, table_from, decisions_from}
+use Rattle.pfair_replica.specs.Replica.{said}
+use Rattle.pfair_table.specs.Table.{Settings, table, decisions}
 use Rattle.pfair_table.proofs.Keeping.{is_of_held, plan_now, step_now, kept_next, whole_plan, next_planned, next_none, course_next, course_same}
 use Rattle.pfair_table.proofs.dispatcher.Dispatcher.plan_next.Goals as goal
 
@@ -36,7 +37,7 @@ pub invariant_of-self : goal.invariant_of-self
 invariant_of-self g c =
     let a = c.self.inside in
     let x = replica_of a.replica in
-    let rows = table_from a.planned.origin a.planned.settings x (length a.planned.tables) in
+    let rows = table a.planned.origin a.planned.settings (said x) (length a.planned.tables) in
     let there = next_planned c.self.inside.planner.settings (replica_of c.self.inside.replica) (length c.self.inside.planned.tables) c.in-Planned.field-0 c.in_ok-step.step
     (subst (λ n. IsNextStep c.self.inside.planner.settings (replica_of c.self.inside.replica) n c.in_ok-step.step) c.len-planned.ensures.tables c.in_ok-step.ensures.step) c.in-Planned.is in
     let planner = c.plan_onto.new.planner in
@@ -44,8 +45,8 @@ invariant_of-self g c =
       subst (λ (d : PlannedSlots × Settings). IsKept d.0.origin d.1 x d.0.tables d.0.decided planner.spent planner.members (g.R.Ready.now planner.ready) (g.R.Ready.held planner.ready))
           (λ i. (sym c.in_ok-plan_onto.ensures.planned i, sym c.plan_onto.ensures.settings i))
           (kept_next c.self.invariant.0 c.next_step.ensures.replica c.in_ok-step.ensures.able.0 there.0 there.1
-          (ap (λ (s : Settings). a.planned.tables ++ table_from a.planned.origin s x (length a.planned.tables) ∷ []) c.self.invariant.2)
-          (ap (λ (s : Settings). a.planned.decided ++ decisions_from a.planned.origin s x (length a.planned.tables) ∷ []) c.self.invariant.2)
+          (ap (λ (s : Settings). a.planned.tables ++ table a.planned.origin s (said x) (length a.planned.tables) ∷ []) c.self.invariant.2)
+          (ap (λ (s : Settings). a.planned.decided ++ decisions a.planned.origin s (said x) (length a.planned.tables) ∷ []) c.self.invariant.2)
           (subst (λ n. IsInStep a.planned.origin a.planner.settings x n planner.members (g.R.Ready.now planner.ready) (g.R.Ready.held planner.ready)) longer c.in_ok-plan_onto.ensures.step)),
       c.plan_onto.ensures.readings,
       ap (λ (d : PlannedSlots). d.settings) c.in_ok-plan_onto.ensures.planned ∙ c.self.invariant.2 ∙ sym c.plan_onto.ensures.settings,

@@ -2,7 +2,7 @@ use Rattle.std.proofs.Common.{ℕ, zero, suc, ◌<◌, ◌≤◌, ◌≡◌, ◌
 use Rattle.std.specs.List.{AllByRecursion}
 use Rattle.std.proofs.lemmas.List.{get_or-map, length-map, map-append, take-map, take_more}
 use Rattle.pfair_table.specs.declared.pick.Pick.{Pick}
-use Rattle.pfair_table.specs.Places.{places_after, places_of, IsFit}
+use Rattle.pfair_table.specs.Places.{places_after, places_in, IsFit}
 use Rattle.pfair_table.specs.Planned.{as_tables, last_or}
 use Rattle.pfair_table.specs.Table.{Table}
 use Rattle.pfair_weight.proofs.NamesApart.{apart_nil}
@@ -38,7 +38,7 @@ before c =
     c.last_of-before.ensures
     ∙ ap (last_or []) (sym (take-map (λ (v : Vec Pick Global). v.items) c.loop-slot.slot c.deref.result.now) ∙ ap (λ (vs : List (Vec Pick Global)). take c.loop-slot.slot (map (λ v. v.items) vs)) c.deref.ensures.value)
 
-there : (c : After-new) → c.last_of-there.result.now ≡ last_or [] (places_of (sofar c))
+there : (c : After-new) → c.last_of-there.result.now ≡ last_or [] (places_in None (sofar c))
 there c = c.last_of-there.ensures ∙ ap (λ (vs : List (Vec ℕ Global)). last_or [] (map (λ v. v.items) vs)) c.deref-in-loop-slot.ensures.value ∙ ap (last_or []) c.loop-slot.invariant
 
 here : (c : After-new) → c.deref-in-loop-slot-2.result.now ≡ get_or (all c) c.loop-slot.slot []
@@ -61,8 +61,8 @@ places_beside-requires-clause-rows c = subst (λ (rows : Table). length rows ≤
 pub loop-slot-preserved : goal.loop-slot-preserved
 loop-slot-preserved c =
     let at = (goal.at.loop-slot-preserved c).After-new in
-    let next : c.in_ok-next.next.items ≡ places_after (last_or [] (sofar at)) (last_or [] (places_of (sofar at))) (get_or (all at) c.loop-slot.slot [])
+    let next : c.in_ok-next.next.items ≡ places_after (last_or [] (sofar at)) (last_or [] (places_in None (sofar at))) (get_or (all at) c.loop-slot.slot [])
     = c.in_ok-next.ensures ∙ (λ i. places_after (before at i) (there at i) (here at i)) in
     ap (map (λ (v : Vec ℕ Global). v.items)) c.in_ok-push.ensures.items ∙ map-append (λ (v : Vec ℕ Global). v.items) c.loop-slot.places.items _
     ∙ (λ i. c.loop-slot.invariant i ++ next i ∷ [])
-    ∙ sym (next_are None (sofar at) (get_or (all at) c.loop-slot.slot [])) ∙ ap places_of (sym (take_more (all at) c.loop-slot.slot [] (within at)))
+    ∙ sym (next_are None (sofar at) (get_or (all at) c.loop-slot.slot [])) ∙ ap (places_in None) (sym (take_more (all at) c.loop-slot.slot [] (within at)))

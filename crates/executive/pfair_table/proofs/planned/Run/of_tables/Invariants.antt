@@ -1,8 +1,8 @@
-use Rattle.std.proofs.Common.{◌≡◌, take}
-use Rattle.pfair_table.specs.Places.{places_of}
+use Rattle.std.proofs.Common.{◌≡◌, take, None}
+use Rattle.pfair_table.specs.Places.{places_in}
 use Rattle.pfair_table.specs.Planned.{as_tables, as_places}
 use Rattle.pfair_table.proofs.planned.Run.of_tables.Given as goal
 
 -- the places so far are those of the tables so far
 abbrev pub invariant-loop-slot : goal.invariant-loop-slot
-invariant-loop-slot l = as_places l.places ≡ places_of (take l.slot (as_tables l.fn.tables))
+invariant-loop-slot l = as_places l.places ≡ places_in None (take l.slot (as_tables l.fn.tables))

@@ -5,6 +5,7 @@ use Rattle.pfair_table.specs.Readings.{AreReadingsOf}
 use Rattle.pfair_table.specs.Planned.{tables_to, decided_to}
 use Rattle.pfair_table.specs.Refinement.{Dispatch, IsInStep, IsKept, IsPlanFault, IsWholePlan}
 use Rattle.pfair_table.specs.SlotPlans.{seeing}
+use Rattle.pfair_replica.specs.Replica.{said}
 use Rattle.pfair_table.specs.Table.{Settings, table, decisions}
 use Rattle.pfair_table.proofs.Keeping.{is_of_held, next_planned, next_none}
 use Rattle.pfair_table.proofs.SlotPlanned.{at_slot, memory_only, plannable, next_plan, kept_of, step_seen, kept_seen, whole_seen, seen_after}
@@ -75,7 +76,7 @@ returns-clause-next g c =
     let spent_is = c.in_ok-next.ensures.spent ∙ sym c.in_ok-slot.ensures.able.1 in
     (λ i. at_slot (c.plan.ensures.settings i) a.seen.value c.of.result.value (a.planned + 1) (spent_is i))
     ∙ seen_after a.of.value a.planned c.self.invariant.0 (c.self.view_is ∙ c.see.ensures) c.next_step.ensures.replica c.in_ok-slot.ensures.able.0 c.in_ok-next.next c.of.ensures
-    (c.in_ok-next.ensures.plan.table_is ∙ ap (table a.planner.settings y) there.2) (c.in_ok-next.ensures.plan.decided_is ∙ ap (decisions a.planner.settings y) there.2)
+    (c.in_ok-next.ensures.plan.table_is ∙ ap (table None a.planner.settings (said y)) there.2) (c.in_ok-next.ensures.plan.decided_is ∙ ap (decisions None a.planner.settings (said y)) there.2)
 
 pub returns-clause-slot : goal.returns-clause-slot
 returns-clause-slot g c =
@@ -83,4 +84,4 @@ returns-clause-slot g c =
     let y = replica_of c.args.replica.now in
     let there = next_planned a.planner.settings (replica_of c.args.replica.now) a.planned c.in-Planned.slot c.in_ok-slot.field-0 c.in_ok-slot.ensures.step c.in-Planned.is in
     next_plan a.of.value a.planned (c.self.view_is ∙ c.see.ensures) c.in_ok-next.next there.3 c.in_ok-next.ensures.plan.limits.processors.1
-    (c.in_ok-next.ensures.plan.table_is ∙ ap (table a.planner.settings y) there.2) (c.in_ok-next.ensures.plan.decided_is ∙ ap (decisions a.planner.settings y) there.2)
+    (c.in_ok-next.ensures.plan.table_is ∙ ap (table None a.planner.settings (said y)) there.2) (c.in_ok-next.ensures.plan.decided_is ∙ ap (decisions None a.planner.settings (said y)) there.2)

@@ -2,7 +2,7 @@ use Rattle.std.proofs.Common.{◌≡◌, ◌∙◌, sym, ap, subst, None}
 use Rattle.pfair_replica.specs.ReplicaRows.{ReplicaRows, replica_of}
 use Rattle.pfair_replica.specs.Replica.{Below}
 use Rattle.pfair_table.specs.Refinement.{Dispatch}
-use Rattle.pfair_table.specs.Table.{plan_from}
+use Rattle.pfair_table.specs.Table.{plan}
 use Rattle.pfair_board.proofs.worker.Worker.plan_next.Goals as goal
 
 pub plan_next-requires-clause-above : goal.plan_next-requires-clause-above
@@ -15,4 +15,4 @@ returns-in-Ok-None-clause-all g c = λ none.
     let after : now ≡ record c.args.self.now.planner { replica = c.replica.result.now } = rw c.in-Ok-None.field-0-is at c.in-Ok-None.ensures.next in
     let first : now.origin ≡ None = ap (λ (d : Dispatch). d.origin) after ∙ c.requires.first in
     let held : now.replica ≡ c.args.desk.now.replica = ap (λ (d : Dispatch). d.replica) after ∙ c.replica.ensures.value in
-    (c.in-Ok-None.ensures.settled c.in-Ok-None.field-0-is).tables_are ∙ (λ i. plan_from (first i) now.settings (replica_of (held i)))
+    (c.in-Ok-None.ensures.settled c.in-Ok-None.field-0-is).tables_are ∙ (λ i. plan (first i) now.settings (replica_of (held i)))
