@@ -180,8 +180,7 @@ impl<R: Ready> Follower<R> {
 
     // Writes the rows of planned slots that aren't written yet.
     fn write_rows<W: Write>(&mut self, writer: &mut W) -> Result<(), ProgramFault>
-        ensures rest { self.new ≡ record self.old { unwritten = self.new.unwritten } }
-        ensures unwritten { OnOk result (self.new.unwritten ≡ max self.old.unwritten (length self.old.dispatch.tables)) }
+        ensures ok { OnOk result (self.new ≡ record self.old { unwritten = max self.old.unwritten (length self.old.dispatch.tables) }) }
         ensures stands { OnErr result (self.new ≡ self.old) }
         ensures written { OnOk result (Appends (W.contents writer.old) (W.contents writer.new) (news self.old self.old)) }
         ensures cut { IsErrOf result WriteFailed → TakesPrefix (W.contents writer.old) (W.contents writer.new) (news self.old self.old) }

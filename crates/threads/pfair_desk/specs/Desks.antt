@@ -1,9 +1,10 @@
 -- What a desk is to its callers.
 use Rattle.std.specs.Prelude.{◌≡◌, ℕ, ◌+◌, List, Some}
 use Rattle.pfair_lattice.specs.declared.flat.Flat.{Flat}
+use Rattle.pfair_lattice.specs.declared.flat.Flat.TheVariants.{One}
 use Rattle.pfair_entry.specs.Entry.{Logged}
 use Rattle.pfair_replica.specs.Replica.{Replica, join, with_entry, empty_replica}
-use Rattle.pfair_replica.specs.ReplicaRows.{ReplicaRows, replica_of}
+use Rattle.pfair_replica.specs.ReplicaRows.{ReplicaRows, held, replica_of}
 use Rattle.pfair_replica.specs.Faults.{IsPartlyMerged}
 use Rattle.pfair_desk.specs.Boards.{BoardFrame}
 
@@ -43,6 +44,11 @@ fresh_desk b k = record { processor = k; next_number = 1; cells = b.cells; repli
 -- the desk with e learned at (k, n)
 abbrev pub learned : DeskState → ℕ → ℕ → Logged → DeskState
 learned d k n e = record d { replica = with_entry d.replica k n e }
+
+-- the same, after which e stands there, and nothing else with it
+pub record IsLearned (old now : DeskView) (k n : ℕ) (e : Logged) : Type 0 where
+  pub state : state_of now ≡ learned (state_of old) k n e
+  pub there : held now.replica k n ≡ Some (One e)
 
 -- the desk with e learned at its own next number, and one number further
 abbrev pub numbered : DeskState → Logged → DeskState

@@ -1,9 +1,9 @@
 -- What a desk gains.
 use Rattle.std.specs.Prelude.{◌≡◌, ℕ, suc, zero, ◌+◌, ◌≤◌, Bool, not, ◌&&◌, cond, is_some, None, IsSome}
-use Rattle.pfair_replica.specs.ReplicaRows.{ReplicaRows, held}
+use Rattle.pfair_replica.specs.ReplicaRows.{ReplicaRows, held, replica_of}
 use Rattle.pfair_replica.specs.Replica.{Replica}
 use Rattle.pfair_desk.specs.Boards.{IsKey}
-use Rattle.pfair_desk.specs.Desks.{DeskView}
+use Rattle.pfair_desk.specs.Desks.{DeskView, Keeps}
 
 -- (k, n) is held in y and was missing in x
 abbrev pub is_gained : Replica → Replica → ℕ → ℕ → Bool
@@ -41,3 +41,10 @@ pub record SameDesk (old now : DeskView) : Type 0 where
   pub cells : now.cells ≡ old.cells
   pub processors : now.replica.processors ≡ old.replica.processors
   pub capacity : now.replica.capacity ≡ old.replica.capacity
+
+-- the desk after more of one processor's row was read: no number up to a new one is missing there, and other rows are as they were
+pub record HasReadRow (old now : DeskView) (processor : ℕ) : Type 0 where
+  pub same : SameDesk old now
+  pub kept : Keeps (replica_of old.replica) (replica_of now.replica)
+  pub others : (k n : ℕ) → (k ≡ processor → ⊥) → held now.replica k n ≡ held old.replica k n
+  pub no_gap : NoGapInRow (replica_of old.replica) (replica_of now.replica) processor

@@ -7,9 +7,9 @@ ghost use Rattle.pfair_replica.specs.ReplicaRows.{IsShape, IsReplicaRows, held, 
 ghost use Rattle.pfair_replica.specs.Faults.{HoldsMore, IsTakeFaultOf};
 ghost use Rattle.pfair_replica.specs.Replica.{Untorn};
 ghost use Rattle.pfair_desk.specs.Boards.{BoardFrame, IsKey, place_of};
-ghost use Rattle.pfair_desk.specs.Desks.{DeskView, state_of, IsDeskOf, OfOneBoard, IsPartlyMet, GrownDesk, Keeps, fresh_desk, learned, numbered, met};
+ghost use Rattle.pfair_desk.specs.Desks.{DeskView, state_of, IsDeskOf, OfOneBoard, IsPartlyMet, GrownDesk, IsLearned, fresh_desk, numbered, met};
 ghost use Rattle.pfair_desk.specs.Faults.{IsPublishFaultOf};
-ghost use Rattle.pfair_desk.specs.Gained.{LacksSome, gained, gained_in_row, NoGapInRow, SameDesk};
+ghost use Rattle.pfair_desk.specs.Gained.{HasReadRow, LacksSome, gained, gained_in_row, NoGapInRow};
 
 use crate::board::Board;
 use crate::fault::PublishFault;
@@ -109,12 +109,11 @@ impl Desk {
     /// `NumberOutOfRange`, and `Memory`, which happens only if the desk had no entry of that key.
     pub fn look(&mut self, board: &Board, proc: u8, number: u32) -> Result<Option<Entry>, LookFault>
         requires own { IsDeskOf self.old board.now }
-        ensures some { (e : Logged) → result ≡ Ok (Some e) → state_of self.new ≡ learned (state_of self.old) proc number e }
+        ensures some { (e : Logged) → result ≡ Ok (Some e) → IsLearned self.old self.new proc number e }
         ensures none { result ≡ Ok None → (held self.old.replica proc number ≡ None) × (self.new ≡ self.old) }
         ensures key { OnOk result (IsKey self.old.replica.processors self.old.replica.capacity proc number) }
         ensures fault { IfErr result (IsTakeFaultOf self.old.replica proc number) }
         ensures unchanged { OnErr result (self.new ≡ self.old) }
-        ensures held_now { (e : Logged) → result ≡ Ok (Some e) → held self.new.replica proc number ≡ Some (One e) }
         ensures kept { GrownDesk self.old self.new }
         ensures own { IsDeskOf self.new board.now }
     {
@@ -252,11 +251,8 @@ impl Desk {
         requires row { processor < self.old.replica.processors }
         ensures count { IfOk result (λ c. c ≡ gained_in_row (replica_of self.old.replica) (replica_of self.new.replica) processor self.new.replica.capacity) }
         ensures few { IfOk result (λ c. c ≤ self.new.replica.capacity) }
-        ensures no_gap { NoGapInRow (replica_of self.old.replica) (replica_of self.new.replica) processor }
         ensures lacking { OnErr result (LacksSome self.new.replica) }
-        ensures same { SameDesk self.old self.new }
-        ensures kept { Keeps (replica_of self.old.replica) (replica_of self.new.replica) }
-        ensures others { (k n : ℕ) → (k ≡ processor → ⊥) → held self.new.replica k n ≡ held self.old.replica k n }
+        ensures read { HasReadRow self.old self.new processor }
         ensures own { IsDeskOf self.new board.now }
     {
         read_by_number();

@@ -2,6 +2,7 @@ use Rattle.std.proofs.Common.{◌≡◌, ap, sym, ◌∙◌, subst, refl, Some, 
 use Rattle.pfair_lattice.specs.declared.flat.Flat.TheVariants.{One}
 use Rattle.pfair_replica.specs.ReplicaRows.{held, replica_of}
 use Rattle.pfair_desk.specs.Boards.{IsKey}
+use Rattle.pfair_desk.specs.Desks.{DeskView, learned, state_of}
 use Rattle.pfair_desk.specs.Knowledge.{Knowledge}
 use Rattle.pfair_desk.proofs.NotedLemmas.{in_order_after, in_order_only, keeps_after, now_one, place_there}
 use Rattle.pfair_desk.proofs.desk.Desk.look.Goals.{in-Ok, in-Err}
@@ -31,14 +32,24 @@ returns-after-take-clause-kept c =
       ];
     })
 
-pub returns-after-take-clause-held_now : goal.returns-after-take-clause-held_now
-returns-after-take-clause-held_now c =
+pub returns-after-take-clause-some : goal.returns-after-take-clause-some
+returns-after-take-clause-some c =
     let at = place_there _ c.args.self.now c.args.proc c.args.number _ c.self.view_is c.place-place.ensures.value in
     elim c.match-take.branch [
       | in-Ok w ↦ λ e is.
           (let both = sym w.result-is ∙ is in
           let same : c.in-Some.entry ≡ e = cc both in
-          subst (λ f. held c.take.new.self c.args.proc c.args.number ≡ Some (One f)) same
-          (now_one (replica_of c.self.inside.replica) c.self.inside.notes c.args.proc c.args.number _ c.in-Some.entry (replica_of c.take.new.self) c.self.invariant.noted at c.in-Some.ensures.same w.in-Ok.ensures.taken))
+          record {
+            state = (λ i. record {
+              processor = c.self.inside.processor;
+              next_number = c.self.inside.next_number;
+              cells = ap (λ (k : Knowledge). k.cells) c.in-Some.ensures.some i;
+              replica = w.in-Ok.ensures.taken i;
+            })
+                ∙ ap (λ (d : DeskView). learned (state_of d) c.args.proc c.args.number c.in-Some.entry) c.self.view_is
+                ∙ ap (learned (state_of c.args.self.now) c.args.proc c.args.number) same;
+            there = subst (λ f. held c.take.new.self c.args.proc c.args.number ≡ Some (One f)) same
+                (now_one (replica_of c.self.inside.replica) c.self.inside.notes c.args.proc c.args.number _ c.in-Some.entry (replica_of c.take.new.self) c.self.invariant.noted at c.in-Some.ensures.same w.in-Ok.ensures.taken);
+          })
       | in-Err w ↦ λ e is. absurd (cc (w.result-is, is))
     ]
