@@ -8,8 +8,6 @@ mod entries;
 mod fault;
 mod rows;
 mod state;
-#[cfg(test)]
-mod tests;
 
 use entries::entries;
 use fault::{FollowFault, write_fault};
