@@ -75,10 +75,10 @@ def test_decisions_in_words(stands):
 
 
 def test_a_reader_that_ends_first(stands):
-    rows = stands({**ANSWERS, "lags": "time,task,numerator,period\n" + 200_000 * "1,b,-2,3\n"})
-    lags = rows.lags()
-    assert next(lags) == Lag(1, "b", -2, 3)
-    lags.close()
+    goes_on = "import atexit, time; atexit.register(lambda: (time.sleep(3), open(sys.argv[2], 'w')))"
+    answers = {**ANSWERS, "lags": "time,task,numerator,period\n" + 200_000 * "1,b,-2,3\n"}
+    lags = stands(answers, f"if sys.argv[1] == 'lags': {goes_on}").lags()
+    assert (next(lags), lags.close(), stands.file.read_text()) == (Lag(1, "b", -2, 3), None, FILE)
 
 
 def test_a_file_without_entries(stands):
@@ -89,8 +89,8 @@ def test_a_file_without_entries(stands):
 
 @pytest.mark.parametrize("ends, said, status", [
     ("sys.stderr.write('pfair: 61 missing slots at 0\\n'); sys.exit(2)", "61 missing slots at 0", 2),
-    ("sys.stderr.write('a word\\npfair: 52 stalled at slot 4\\n'); sys.exit(3)", "52 stalled at slot 4", 3),
-    ("sys.stderr.write('7: 61 missing slots at 0'); sys.exit(2)", "61 missing slots at 0", 2),
+    ("sys.stderr.write('a: word\\npfair: 52 stalled at slot 4\\n'); sys.exit(3)", "52 stalled at slot 4", 3),
+    ("sys.stderr.write(': 61 missing slots at 0'); sys.exit(2)", "61 missing slots at 0", 2),
     ("sys.stderr.buffer.write(b'pfair: 61 missing \\xff at 0'); sys.exit(2)", "61 missing \ufffd at 0", 2),
     ("sys.stdout.buffer.write(b'\\xff\\n\\xff\\n'); sys.exit(4)", "{} ended with status 4", 4),
     ("sys.exit(4)", "{} ended with status 4", 4),
