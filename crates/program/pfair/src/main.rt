@@ -1,9 +1,6 @@
 //! `pfair`: windows of Pfair tasks, and the tables, decisions and lags of task files.
 #![tactic(auto)]
 
-#[cfg(test)]
-mod tests;
-
 use pfair_board::OpenGate;
 use pfair_file::{ProgramFault, given_words, opened};
 use pfair_reports::{decisions, lags, replay, replay_placed, windows, write_fault};
