@@ -245,8 +245,8 @@ impl<R: Ready> Follower<R> {
         self.unwritten
     }
 
-    /// Returns whether all slots of the run are planned.
-    pub fn is_planned(&self) -> bool
+    // Whether all slots of the run are planned.
+    pub(crate) fn is_planned(&self) -> bool
         ensures { IsTrue result ↔ IsPlannedOut self.now }
     {
         self.dispatcher.next_slot() >= self.dispatcher.settings().slots()

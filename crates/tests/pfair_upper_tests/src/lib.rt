@@ -10,16 +10,10 @@ mod failures;
 #[cfg(test)]
 mod faults;
 #[cfg(test)]
-mod feed;
-#[cfg(test)]
 mod follower;
 #[cfg(test)]
 mod gates;
 #[cfg(test)]
-mod given;
-#[cfg(test)]
 mod lag;
 #[cfg(test)]
 mod reports;
-#[cfg(test)]
-mod states;
