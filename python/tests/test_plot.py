@@ -6,6 +6,7 @@ import pathlib
 from collections import Counter
 from xml.etree import ElementTree
 
+import matplotlib
 import pytest
 from made_rows import CASES
 from matplotlib.image import imread
@@ -28,7 +29,7 @@ def told(figure):
         font = (text.get_color(), round(text.get_fontsize(), 3), text.get_weight())
         yield f"{text.get_position()} {text.get_text()} {font} {text.get_ha()} {text.get_va()} {text.get_zorder()}"
     for made in axes.collections:
-        paths = [rounded(path.vertices) for path in made.get_paths()]
+        paths = [(rounded(path.vertices), str(path.codes)) for path in made.get_paths()]
         colours = (rounded(made.get_facecolor()), rounded(made.get_edgecolor()))
         widths = [round(float(width), 3) for width in made.get_linewidth()]
         yield f"{type(made).__name__} {made.get_zorder()} {made.get_hatch()} {colours} {widths} {paths}"
@@ -44,7 +45,8 @@ def test_plot(name, kind):
     """The figure has what the picture has, and its looks the kept sum; PFAIR_KEEP_PICTURES=yes writes that anew."""
     svg = picture.svg(CASES[name][0], kind, 0, 14)
     root = ElementTree.fromstring(svg)
-    figure = _plot.Plot(svg, 5.0).figure
+    with matplotlib.rc_context({"font.weight": "bold", "patch.force_edgecolor": True}):
+        figure = _plot.Plot(svg, 5.0).figure
     wide, high = int(root.get("width")), int(root.get("height"))
     assert figure.get_size_inches().tolist() == [5.0, 5.0 * high / wide]
     axes = figure.axes[0]

@@ -46,7 +46,7 @@ def slot_width(slots: int) -> int:
 def scale_step(wide: int, end: int) -> int:
     """Returns by how many slots numbers of the scale are apart, so that their digits have room."""
     need = max(24, 7 * len(str(end)) + 4)
-    return next(some for tens in (1, 10, 100) for some in (tens, 2 * tens, 5 * tens) if some * wide >= need)
+    return next(some for tens in (1, 10) for some in (tens, 2 * tens, 5 * tens) if some * wide >= need)
 
 
 def name_width(name: str) -> int:
@@ -69,7 +69,7 @@ def shortened(names: Iterable[str], room: int) -> dict[str, str]:
     alike: dict[str, list[str]] = {}
     for name, words in short.items():
         alike.setdefault(words, []).append(name)
-    taken = {words for words, group in alike.items() if len(group) == 1}
+    taken: set[str] = set()
     for words, group in alike.items():
         if len(group) > 1:
             apart = told_apart(group, room, taken) if words else []
@@ -161,14 +161,14 @@ class Shown(NamedTuple):
 
     start: int
     stop: int
-    title: Optional[str] = None
-    has_key: bool = True
+    title: Optional[str]
+    has_key: bool
 
 
 class Figure:
     """A picture: its parts, in the order in which they are drawn."""
 
-    title = ""
+    title: str
 
     def __init__(self, source: PictureRows, shown: Shown, names: list[str], sizes: Sizes, processors: int) -> None:
         self.start, self.stop, title, self.has_key = shown

@@ -19,7 +19,7 @@ ALIGNS = {"start": "left", "middle": "center", "end": "right"}
 def styles_of(css: str) -> dict[str, dict[str, str]]:
     """Returns the properties of each class."""
     rules = re.findall(r"\.?(\w+){([^}]*)}", css)
-    return {name: dict(part.split(":", 1) for part in body.split(";") if part) for name, body in rules}
+    return {name: dict(part.split(":") for part in body.split(";") if part) for name, body in rules}
 
 
 def elements_of(root: Any) -> Iterator[Any]:
@@ -55,7 +55,7 @@ class Plot:
         self.axes.axis("off")
         drawn = itertools.groupby(elements_of(root), lambda one: (one.tag, one.get("class") or one.get("href")))
         for order, ((tag, style), elements) in enumerate(drawn, 1):
-            getattr(self, tag[len(SVG) :])(list(elements), style, order)
+            getattr(self, tag[len(SVG) :])(elements, style, order)
 
     def style(self, classes: str) -> dict[str, str]:
         """Returns the properties of an element, by its classes."""
@@ -64,7 +64,7 @@ class Plot:
             found.update(self.styles.get(name, {}))
         return found
 
-    def rect(self, elements: list[Any], classes: str, order: int) -> None:
+    def rect(self, elements: Iterator[Any], classes: str, order: int) -> None:
         style, corners = self.style(classes), []
         for element in elements:
             x, y, width, height = numbers(element, "x", "y", "width", "height")
@@ -75,7 +75,7 @@ class Plot:
             bars.set(facecolor="#eef1f4", hatch="////")
         else:
             bars.set(facecolor=colour(style["fill"]))
-        self.axes.add_collection(bars, autolim=False)
+        self.axes.add_collection(bars)
 
     def lines(self, points: list[Any], style: dict[str, str], order: int) -> None:
         width = float(style.get("stroke-width", 1))
@@ -83,25 +83,25 @@ class Plot:
         drawn = LineCollection(points, colors=style["stroke"], linewidths=self.scale * width, zorder=order)
         if dashes:
             drawn.set_linestyle((0, dashes))
-        self.axes.add_collection(drawn, autolim=False)
+        self.axes.add_collection(drawn)
 
-    def line(self, elements: list[Any], classes: str, order: int) -> None:
+    def line(self, elements: Iterator[Any], classes: str, order: int) -> None:
         ends = (numbers(element, "x1", "y1", "x2", "y2") for element in elements)
         self.lines([[(x1, y1), (x2, y2)] for x1, y1, x2, y2 in ends], self.style(classes), order)
 
-    def path(self, elements: list[Any], classes: str, order: int) -> None:
+    def path(self, elements: Iterator[Any], classes: str, order: int) -> None:
         steps = (map(float, re.findall(r"-?[\d.]+", element.get("d"))) for element in elements)
         self.lines([[(x1, y1), (x2, y1), (x2, y2)] for x1, y1, x2, y2 in steps], self.style(classes), order)
 
-    def text(self, elements: list[Any], classes: str, order: int) -> None:
+    def text(self, elements: Iterator[Any], classes: str, order: int) -> None:
         style = {**self.styles["text"], "font-size": "11px", **self.style(classes)}
         size, weight = self.scale * float(style["font-size"].removesuffix("px")), style.get("font-weight", "normal")
         align = ALIGNS[style.get("text-anchor", "start")]
         given = {"color": style["fill"], "size": size, "weight": weight, "ha": align}
         for element in elements:
-            self.axes.text(*numbers(element, "x", "y"), element.text or "", va="baseline", zorder=order, **given)
+            self.axes.text(*numbers(element, "x", "y"), element.text or "", zorder=order, **given)
 
-    def use(self, elements: list[Any], name: str, order: int) -> None:
+    def use(self, elements: Iterator[Any], name: str, order: int) -> None:
         mark = self.marks[name[1:]]
         places = [numbers(element, "x", "y") for element in elements]
         is_line = mark.get("fill") == "none"

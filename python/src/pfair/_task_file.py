@@ -49,4 +49,4 @@ def _log_of(dispatcher: Dispatcher, processor: int) -> list[Entry]:
     """Returns the entries of a log, without the promise that closes it."""
     held = (dispatcher.held(processor, number) for number in range(1, dispatcher.capacity + 1))
     log = [entry for entry in held if entry is not None]
-    return log[:-1] if log and log[-1] == promise(dispatcher.slots) else log
+    return log[:-1] if log[-1] == promise(dispatcher.slots) else log
