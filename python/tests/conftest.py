@@ -6,6 +6,7 @@ import io
 import os
 import pathlib
 import signal
+import subprocess
 import sys
 import tempfile
 import tomllib
@@ -71,6 +72,7 @@ def module_of(name):
     loader = importlib.machinery.SourceFileLoader(f"script_{name}", str(SCRIPTS / name))
     module = importlib.util.module_from_spec(importlib.util.spec_from_loader(loader.name, loader))
     loader.exec_module(module)
+    assert sys.dont_write_bytecode
     return module
 
 
@@ -154,6 +156,12 @@ class Done(NamedTuple):
     status: int
     out: str
     err: str
+
+
+def as_program(name, *words, given=b""):
+    """How a run of a script ends in a process of its own."""
+    done = subprocess.run([sys.executable, SCRIPTS / name, *map(str, words)], input=given, capture_output=True)
+    return Done(done.returncode, done.stdout.decode(), done.stderr.decode())
 
 
 @pytest.fixture

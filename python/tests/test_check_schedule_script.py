@@ -1,38 +1,27 @@
 """scripts/check_schedule: its lines and statuses, and what can't be read."""
-import subprocess
-import sys
+import functools
 
-from conftest import EXAMPLES, SCRIPTS, ended, failing, module_of
+from conftest import EXAMPLES, as_program, ended, failing, module_of
 
 import pfair
 
-CHECK = module_of("check_schedule")
+CHECK, run = module_of("check_schedule"), functools.partial(as_program, "check_schedule")
 TASKS, ROWS = EXAMPLES / "full_load.toml", EXAMPLES / "full_load.replay"
-
-
-def run(*words, rows=b""):
-    program = [sys.executable, SCRIPTS / "check_schedule", *map(str, words)]
-    done = subprocess.run(program, input=rows, capture_output=True)
-    return done.returncode, done.stdout.decode(), done.stderr.decode()
-
-
-def test_right(call):
-    for words in ((), ("--order",)):
-        assert call(CHECK, *words, TASKS, ROWS) == (0, "nothing is wrong\n", "")
 
 
 def test_wrong(call, tmp_path):
     script = pfair.Script(1, 6, 6, [[pfair.arrive("a", 1, 3), pfair.arrive("b", 1, 2)]])
     tasks, rows = tmp_path / "tasks.toml", tmp_path / "rows.csv"
     tasks.write_text(script.text())
-    rows.write_text("slot,task,index\n0,b,1\n0,a,1\n2,b,2\n3,a,2\n3,b,9\n5,b,4\n")
+    rows.write_text("slot,task,index\n0,b,1\n0,a,1\n2,b,2\n3,a,2\n3,b,9\n4,x,1\n5,b,4\n")
     lines = [f"slot {slot}: crowded: 2 quanta on 1 processors" for slot in (0, 3)]
     lines += ["slot 3, b 3: early: its release is 4", "slot 3, b 9: index: subtask 3 is the next"]
-    wanted = "\n".join([*lines, "4 wrong: 2 crowded, 1 early, 1 index", ""])
+    lines += ["slot 4, x: absent: no task of this name is admitted"]
+    wanted = "\n".join([*lines, "5 wrong: 1 absent, 2 crowded, 1 early, 1 index", ""])
     assert call(CHECK, tasks, rows) == (1, wanted, "")
     done = call(CHECK, "--order", tasks, rows)
     order = "slot 0, a 1: order: it isn't among the first 1\n"
-    wanted = "\n".join([*lines[1:], "5 wrong: 2 crowded, 1 early, 1 index, 1 order", ""])
+    wanted = "\n".join([*lines[1:], "6 wrong: 1 absent, 2 crowded, 1 early, 1 index, 1 order", ""])
     assert done == (1, f"{lines[0]}\n{order}{wanted}", "")
 
 
@@ -56,9 +45,10 @@ def test_refused(call, tmp_path):
 
 def test_as_a_program():
     text = ROWS.read_bytes()
-    assert run(TASKS, "-", rows=text) == (0, "nothing is wrong\n", "")
-    assert run("--order", TASKS, "-", rows=text.replace(b"\n0,0,", b"\n0,0,x"))[0] == 1
-    status, out, said = run(TASKS, "-", rows=b"")
+    for words in ((TASKS, "-"), ("--order", TASKS, "-"), ("--order", TASKS, ROWS)):
+        assert run(*words, given=text) == (0, "nothing is wrong\n", "")
+    assert run("--order", TASKS, "-", given=text.replace(b"\n0,0,", b"\n0,0,x"))[0] == 1
+    status, out, said = run(TASKS, "-", given=b"")
     assert (status, out, said) == (2, "", "scripts/check_schedule: -: line 1: the header has no column 'slot': ''\n")
     assert run(TASKS)[0] == 2 and "usage: " in run(TASKS)[2]
     status, out, said = run("--help")
@@ -82,10 +72,11 @@ def test_comment_lines(call, tmp_path):
         f"{header}# first\n{''.join(lines)}# last",
         header + "".join(f"#{place},x,y\n{line}" for place, line in enumerate(lines)),
         f"#{plain.strip()}".replace("\n", "\n#") + f"\n{plain}".rstrip("\n"),
+        header + ("#" + 99 * "x" + "\n") * 700 + "".join(lines),
     ):
         rows.write_text(text)
         assert call(CHECK, TASKS, rows) == (0, "nothing is wrong\n", "")
-        assert run(TASKS, "-", rows=text.encode()) == (0, "nothing is wrong\n", "")
+        assert run(TASKS, "-", given=text.encode()) == (0, "nothing is wrong\n", "")
     rows.write_text(f"# one\n# two\nslot,task\n0,a\n# five\n# six\n1,?\n")
     assert call(CHECK, TASKS, rows) == (2, "", f"scripts/check_schedule: {rows}: line 7: '?' is no task's name\n")
     rows.write_text("slot,task\n0,#a\n")

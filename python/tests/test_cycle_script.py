@@ -1,21 +1,20 @@
 """scripts/cycle: the header for C, the rows and the object, and each status and complaint."""
 import csv
+import functools
 import io
 import json
 import os
 import re
-import subprocess
-import sys
 
 import pytest
 import static_sets
-from conftest import EXAMPLES, SCRIPTS, ended, failing, module_of
+from conftest import EXAMPLES, SCRIPTS, as_program, ended, failing, module_of
 from hypothesis import given
 from static_sets import script_with
 
 import pfair
 
-CYCLE = module_of("cycle")
+CYCLE, run = module_of("cycle"), functools.partial(as_program, "cycle")
 FULL = EXAMPLES / "full_load.toml"
 TYPES = {"uint8_t": 2**8, "uint16_t": 2**16, "uint32_t": 2**32}
 COMMENT = '''\
@@ -47,7 +46,7 @@ def read_header(text, name="cycle"):
     sizes = {"name": of_task, "quanta": of_task, "task": of_slot, "index": of_slot}
     assert {what: size for what, (_, size, _) in arrays.items()} == sizes and arrays["name"][0] == "char *const"
     assert all(len(line) <= 120 for what in ("name", "quanta") for line in arrays[what][2].splitlines())
-    names = re.findall(r'"(.*?)"', arrays["name"][2])
+    names = json.loads(f"[{arrays['name'][2]}]")
     grids = {what: [numbers_of(line) for line in arrays[what][2].splitlines()] for what in ("task", "index")}
     types = {what: arrays[what][0] for what in ("quanta", "task", "index")}
     return macros, names, numbers_of(arrays["quanta"][2]), grids, types
@@ -201,19 +200,10 @@ def test_refused(call, tmp_path):
         assert call(CYCLE, file) == (2, "", f"scripts/cycle: {file}: {said}\n")
 
 
-def test_memory_that_is_refused(call, monkeypatch):
-    monkeypatch.setattr(CYCLE, "Table", failing(MemoryError("no memory")))
-    assert call(CYCLE, FULL) == (2, "", f"scripts/cycle: {FULL}: no memory\n")
-
-
-def test_package_that_cant_be_made(call, monkeypatch):
-    monkeypatch.setattr(CYCLE, "package", failing(ImportError("no numpy")))
-    assert call(CYCLE, FULL) == (2, "", "scripts/cycle: pfair: no numpy\n")
-
-
-def run(*words):
-    done = subprocess.run([sys.executable, SCRIPTS / "cycle", *map(str, words)], capture_output=True, text=True)
-    return done.returncode, done.stdout, done.stderr
+def test_what_cant_be_made(call, monkeypatch):
+    for name, fault, of in ("Table", MemoryError("no memory"), FULL), ("package", ImportError("no numpy"), "pfair"):
+        monkeypatch.setattr(CYCLE, name, failing(fault))
+        assert call(CYCLE, FULL) == (2, "", f"scripts/cycle: {of}: {fault}\n")
 
 
 def test_as_a_program(call):

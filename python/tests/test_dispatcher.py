@@ -34,7 +34,7 @@ def group_deadline(cost, period, index):
 @given(some.integers(1, 30), some.integers(0, 30), some.integers(1, 40), some.integers(0, 12), some.integers(0, 2**40))
 def test_windows(cost, more, first, count, theta):
     period = cost + more
-    rows = pfair.windows(cost, period, count, first, theta)
+    rows = pfair.windows(cost, period, count, first, *[theta] * (theta > 0))
     assert rows.dtype == pfair.WINDOW and rows.shape == (count,)
     for index, row in enumerate(rows.tolist(), first):
         release, deadline = (index - 1) * period // cost, ceiling(index * period, cost)

@@ -11,7 +11,6 @@ from conftest import WRONG_WEIGHTS, Told, outside, refusal
 import pfair
 from pfair import _dispatcher
 
-
 # runs by itself, since a process keeps memory that was freed and uses it again
 MEMORY = """
 import resource

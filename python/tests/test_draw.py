@@ -96,9 +96,10 @@ def test_faults(command, monkeypatch):
 def test_files(command, tmp_path, monkeypatch):
     """A file is written whole or not at all."""
     out = tmp_path / "made.svg"
+    mask = os.umask(0o007)
     assert command("schedule", "file", "-o", str(out)) == (0, b"", b"")
     assert out.read_text() == picture.svg(CASES["every_kind"][0])
-    assert out.stat().st_mode & 0o777 == 0o666 & ~draw.umask()
+    assert (out.stat().st_mode & 0o777, os.umask(mask)) == (0o660, 0o007)
     out.chmod(0o640)
     for form, start in (("png", b"\x89PNG"), ("pdf", b"%PDF")):
         for found in (RSVG, None):

@@ -38,7 +38,7 @@ def test_each_answer_has_its_exception():
 def test_what_an_answer_raises(number):
     for where, found in (("", {}), ("slot 7", {}), ("here", {"place": 3, "number": 4})):
         with pytest.raises(pfair.BY_NUMBER[number]) as raised:
-            errors.check(number, where, **found)
+            errors.check(number, *[where] * bool(where), **found)
         text = f"{TEXTS[number]}: {where}" if where else TEXTS[number]
         for fault in (raised.value, pickle.loads(pickle.dumps(raised.value))):
             assert type(fault) is pfair.BY_NUMBER[number] and fault.args == (text,) and str(fault) == text
@@ -46,8 +46,9 @@ def test_what_an_answer_raises(number):
 
 
 def test_what_they_have_in_common():
-    assert pfair.PfairError.number == pfair.TaskFileError.number == 0 and pfair.PfairError.__bases__ == (Exception,)
-    assert pfair.TaskFileError.__bases__ == (pfair.PfairError, ValueError)
+    kinds, texts = (pfair.PfairError, pfair.TaskFileError), ["", "a task file is refused"]
+    assert [(kind.number, kind.text) for kind in kinds] == [(0, text) for text in texts]
+    assert [kind.__bases__ for kind in kinds] == [(Exception,), (pfair.PfairError, ValueError)]
     plain = pfair.PfairError()
     assert str(plain) == "" and plain.found == {} and pfair.PfairError("said", slot=1).found == {"slot": 1}
     said = "a slot of a list isn't before the horizon: found has \"place\", its place from 0"

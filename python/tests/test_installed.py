@@ -3,6 +3,7 @@ import os
 import shutil
 import stat
 import subprocess
+import sys
 
 import pytest
 from conftest import EXAMPLES, SCRIPTS, Done
@@ -88,7 +89,8 @@ def test_install_twice(clone, prefix):
     shutil.rmtree(clone)
     for name in ("pfair", "pfair_follow"):
         assert run(clone, place / "bin" / name, "a", "b  c", "") == (0, f"{name}<a><b  c><>", "")
-    picture = place / "share/pfair/scripts/pfair_picture"
+    picture = clone.parent / "a link"
+    picture.symlink_to(place / "share/pfair/scripts/pfair_picture")
     assert run(clone, picture, "--version") == (0, f"pfair_picture {VERSION}\n", "")
 
 
@@ -162,3 +164,5 @@ def test_pictures(clone, stand_in):
         (clone / "scripts" / name).unlink()
     calls.write_text("")
     assert run(clone, picture, "schedule", "file", PATH=path) == drawn and "beside" not in calls.read_text()
+    said = "pfair_picture: 70 reading failed: the program pfair can't be run\n"
+    assert run(clone, sys.executable, picture, "lags", "file", PATH=str(clone.parent)) == (5, "", said)

@@ -1,12 +1,10 @@
 """scripts/misses: its sums against the test's own, and each status and complaint."""
 import os
 import re
-import subprocess
-import sys
 from fractions import Fraction
 
 import pytest
-from conftest import HEADER, SCRIPTS, failing, module_of
+from conftest import HEADER, as_program, failing, module_of
 from hypothesis import given, settings
 from hypothesis import strategies as some
 
@@ -123,10 +121,9 @@ SUMS = "a,1,1/2,1/2,-,0\nall 1 tasks,1,1/2,1/2,0 at or past 1,0 with late releas
 def test_files(call, tmp_path):
     """Rows in a file, of either command first; and a file that isn't there."""
     file = tmp_path / "rows"
-    file.write_text(JOINED + LAGS + "1,a,1,2\n")
-    assert call(MISSES, file) == (0, HEAD + SUMS, "")
-    file.write_text(LAGS + "1,a,1,2\n" + JOINED)
-    assert call(MISSES, file) == (0, HEAD + SUMS, "")
+    for rows in (JOINED + LAGS + "1,a,1,2\n", LAGS + "1,a,1,2\n" + JOINED):
+        file.write_text(rows)
+        assert call(MISSES, file) == (0, HEAD + SUMS, "")
     done = call(MISSES, tmp_path / "none")
     assert done.status == 2 and done.out == "" and done.err.startswith("scripts/misses: ") and "none" in done.err
 
@@ -134,21 +131,16 @@ def test_files(call, tmp_path):
 def test_task_files(call, stand_in, tmp_path, monkeypatch):
     """The rows of a task file are those of two commands of `pfair`, or of the script beside if none is on the path."""
     file = tmp_path / "tasks.toml"
-    file.write_text("version = 1\n")
+    file.write_text("# gr\u00fcn\nversion = 1\n", encoding="utf-8")
     answers = {"decisions": JOINED, "lags": LAGS + "1,a,1,2\n"}
-    path = os.environ["PATH"]
-    monkeypatch.setenv("PATH", f"{stand_in(answers).parent}:{path}")
+    monkeypatch.setenv("PATH", f"{stand_in(answers).parent}:{os.environ['PATH']}")
     assert call(MISSES, file) == (0, HEAD + SUMS, "")
     assert (tmp_path / "calls").read_text() == f"decisions {file}\nlags {file}\n"
     beside = str(stand_in(answers, "beside"))
     monkeypatch.setattr(MISSES, "program", lambda: beside)
     assert call(MISSES, file) == (0, HEAD + SUMS, "")
-
-
-def test_a_program_that_cant_be_built(call, tmp_path, monkeypatch):
-    (tmp_path / "tasks.toml").touch()
     monkeypatch.setattr(MISSES, "program", failing(ImportError("build failed")))
-    assert call(MISSES, tmp_path / "tasks.toml") == (2, "", "scripts/misses: build failed\n")
+    assert call(MISSES, file) == (2, "", "scripts/misses: build failed\n")
 
 
 def test_refused_task_files(call, stand_in, tmp_path, monkeypatch):
@@ -163,9 +155,6 @@ def test_refused_task_files(call, stand_in, tmp_path, monkeypatch):
 
 
 def test_as_a_program():
-    program, how = [sys.executable, SCRIPTS / "misses"], {"capture_output": True, "text": True}
-    done = subprocess.run(program, input=rows_of_lags(FINE), **how)
-    assert done.returncode == 3 and done.stdout.startswith(HEAD + "a,1,")
-    said = subprocess.run([*program, "--help"], **how)
-    assert said.returncode == 0 and "[--bound BOUND] [--let-pass] [FILE]" in said.stdout
-    assert MISSES.__doc__.strip() in said.stdout
+    done, said = as_program("misses", given=rows_of_lags(FINE).encode()), as_program("misses", "--help")
+    assert done.status == 3 and done.out.startswith(HEAD + "a,1,")
+    assert said.status == 0 and "[--bound BOUND] [--let-pass] [FILE]" in said.out and MISSES.__doc__.strip() in said.out

@@ -15,7 +15,7 @@ from hypothesis import strategies as st
 import pfair
 from conftest import EXAMPLES, script_of
 from made_rows import CASES, KEPT, WHOLE, Rows, crowd
-from pfair import _figure, picture
+from pfair import _figure, _lags_figure, picture
 from recorded import drawn, rows_of, stays_of
 
 FILES = sorted(EXAMPLES.glob("*.toml"))
@@ -156,9 +156,9 @@ def test_names_are_cut_to_their_room():
 
 def test_names_that_begin_alike_are_told_apart():
     """By their last letters, with whole numbers if these fit, or by those in which they differ."""
-    names = ["worker12", "worker13", "radar", "radio", "axle_a_left", "axle_b_left", "camera"]
-    fitting = {39: "wor.12 wor.13 radar radio axle.a axle.b camera", 27: "w.12 w.13 ra.r ra.o ax.a ax.b cam."}
-    for room, wanted in {**fitting, 17: ".2 .3 .r .o .a .b c."}.items():
+    names = "worker12 worker13 radar radio axle_a_left axle_b_left lane1y44 lane2y55 camera".split()
+    fitting = {39: "wor.12 wor.13 radar radio axle.a axle.b lane1. lane2. camera", 17: ".2 .3 .r .o .a .b .4 .5 c."}
+    for room, wanted in {**fitting, 27: "w.12 w.13 ra.r ra.o ax.a ax.b l.44 l.55 cam."}.items():
         assert list(_figure.shortened(names, room).values()) == wanted.split()
     assert set(_figure.shortened(names, 11).values()) == {""}
 
@@ -177,6 +177,7 @@ def test_no_two_names_are_cut_alike(names, room):
 
 
 def test_numbers_of_a_scale_have_room():
+    assert [_lags_figure.lag_sizes(4_096, tasks).lane for tasks in (24, 25, 60, 61)] == [20, 14, 14, 9]
     for wide in (2, 4, 8, 12, 18, 28, 40):
         for end in (1, 9, 10, 999, 1000, 9999, 10_000, 1_000_000):
             step = _figure.scale_step(wide, end)

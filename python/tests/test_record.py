@@ -50,7 +50,7 @@ def test_arrays_and_rows(rows):
     assert columns(read_record(array[["task", "slot"]])) == [row[:2] for row in rows]
     for kind in ("U16", "O"):
         assert columns(read_record(array.astype([(name, kind if name == "task" else "u8") for name in FIELDS]))) == rows
-    some_rows = [(str(a), b.encode(), np.uint64(c)) for a, b, c, _ in rows]
+    some_rows = [(f" {a} ", b.encode(), np.uint64(c)) for a, b, c, _ in rows]
     assert columns(read_record(some_rows)) == [row[:3] for row in rows]
 
 
@@ -68,7 +68,8 @@ def test_frames(rows, kind):
 def test_refused_frames():
     pandas = pytest.importorskip("pandas")
     good = pandas.DataFrame({"slot": [1, 2], "task": ["a", "b"]})
-    assert columns(read_record(good)) == [(1, "a"), (2, "b")]
+    assert columns(read_record(good)) == [(1, "a"), (2, "b")] and not hasattr(_record, "DataFrame")
+    assert columns(read_record(pandas.Series([(1, "a")]))) == [(1, "a")]
     refusal(ValueError, "a frame without the column 'task'", read_record, good[["slot"]])
     refusal(ValueError, "a frame without the column 'slot'", read_record, good[["task"]])
     refusal(ValueError, "row 2: it has no task", read_record, good.assign(task=["a", None]))
@@ -109,7 +110,8 @@ def test_forms_of_texts(tmp_path):
         assert columns(read_record(given_as)) == [(7, "b"), (0, "a")]
     with open(file) as opened:
         assert columns(read_record(opened)) == [(7, "b"), (0, "a")]
-    assert columns(read_record("slot,task,a;b\n1,a,0\n")) == [(1, "a")]
+    for text in ("slot,task,a;b\n1,a,0\n", 'slot,task\n" ",\n1,a\n'):
+        assert columns(read_record(text)) == [(1, "a")]
     assert columns(read_record("\ufeffSlot ; TASK\n 3 ; a \n;\n")) == [(3, "a")]
     for empty in ("slot,task\n", b"slot,task", [], np.zeros(0, [("slot", "u8"), ("task", "S16")])):
         read = read_record(empty)
@@ -121,6 +123,7 @@ HEADS |= {b"x" * 99 + b"\n": "x" * 80}
 COMPLAINTS = [
     *((text, f"line 1: the header has no column 'slot': '{head}'") for text, head in HEADS.items()),
     (b"slot,name\n", "line 1: the header has no column 'task': 'slot,name'"),
+    (b"x" * 131_073, "line 1: field larger than field limit (131072)"),
     (b"slot,task\n1,a\n2\n", "line 3: it has 1 columns, and the header 2"),
     (b"slot,task\n1,a\n2,a,3\n1,a\n", "line 3: it has 3 columns, and the header 2"),
     (b"slot,task,index\n1,a,1\n\n1,a,\n", "line 4: '' is no whole number from 0 on"),
@@ -153,11 +156,11 @@ def test_refused_rows():
     refusal(ValueError, "row 2: '-1' is no whole number from 0 on", read_record, [(1, "a"), ("-1", "a")])
     refusal(ValueError, "row 1: 1.5 is no whole number from 0 on", read_record, [(1.5, "a")])
     refusal(ValueError, "row 1: True is no whole number from 0 on", read_record, [(True, "a")])
-    for name, shown in (("é", "é"), (b"\xff", "\ufffd")):
+    for name, shown in (("é", "é"), (b"\xff", "\ufffd"), (5, "5")):
         refusal(ValueError, f"row 1: {shown!r} is no task's name", read_record, [(1, name)])
-    refusal(ValueError, "line 2: 'é' is no task's name", read_record, "slot,task\n1,é\n")
-    rows = [(1, "a"), (1, "a"), (1, "a", 1)]
-    refusal(ValueError, "row 3: it has 3 columns, and the first row 2", read_record, rows)
+    for form in (str, io.StringIO):
+        refusal(ValueError, "line 2: 'é' is no task's name", read_record, form("slot,task\n1,é\n"))
+    refusal(ValueError, "row 2: it has 3 columns, and the first row 2", read_record, [(1, "a"), (1, "a", 1)])
     refusal(ValueError, "row 1: not enough values to unpack (expected at least 2, got 1)", read_record, [(1,)])
     refusal(ValueError, "row 1: cannot unpack non-iterable int object", read_record, [1])
     assert columns(read_record([(1, "a", 2, 3, "more")])) == [(1, "a", 2, 3)]

@@ -112,7 +112,7 @@ def counts_by_a_loop(script):
 
 AGAIN = [
     pfair.arrive("a", 1, 3), pfair.arrive("b", 2, 3), pfair.depart("a", at=10),
-    pfair.arrive("a", 1, 6, at=20, floor=20), pfair.arrive("c", 1, 5, at=21, floor=21),
+    pfair.arrive("a", 2, 6, at=20, floor=20), pfair.arrive("c", 1, 5, at=21, floor=21),
     pfair.depart("x", at=22, floor=22), pfair.late("b", 20, 5, at=23, floor=23),
 ]
 SMALL = [AGAIN], [], [[pfair.arrive("a", 1, 6), pfair.late("a", 2, 5, at=1, floor=1)]]
@@ -176,7 +176,7 @@ def test_pandas():
     script = pfair.Script(2, 12, 60, [[pfair.arrive("beginning_b", 5, 12), pfair.arrive("beginning_a", 1, 3)], AGAIN])
     schedule = pfair.schedule(script)
     frames = schedule.to_pandas(lags=True)
-    assert len(schedule.to_pandas()) == 2
+    assert len(schedule.to_pandas()) == 2 and not hasattr(_schedule, "DataFrame")
     for frame, rows in zip(frames, (schedule.quanta, schedule.decisions, schedule.lags())):
         others = [name for name in rows.dtype.names if name != "task"]
         assert list(frame.columns) == ["task", *others] and len(frame) == len(rows) > 5

@@ -28,9 +28,11 @@ def closing(victims, at, floor, slots=20):
     return [*departures, pfair.arrive("down_1", 1, 1, at=at, floor=floor), pfair.promise(slots)]
 
 
-def test_a_log_is_closed():
-    held = [GAP[1], pfair.promise(0), GAP[3]]
-    assert pfair.succeed(joined(), 1) == ([*held, *closing("ab", 9, 6)], 3, 6, 9, ["a", "b"])
+def test_a_log_is_closed(monkeypatch):
+    held, one, read = [GAP[1], pfair.promise(0), GAP[3]], joined(), pfair.Dispatcher.held
+    # nobody changes it meanwhile
+    monkeypatch.setattr(pfair.Dispatcher, "held", lambda one, *words: read(one, *words) if one._lock._is_owned() else 0)
+    assert pfair.succeed(one, 1) == ([*held, *closing("ab", 9, 6)], 3, 6, 9, ["a", "b"])
     assert pfair.succeed(joined(), 1, victims=["nobody", "b", "a"]).log[3:] == closing("ba", 9, 6)
     # of those that are free at one slot the heaviest departs, here of 1/4; who departs already can't
     light = [*(pfair.arrive(name, 1, 3) for name in ("own", "other")), pfair.arrive("b", 2, 12)]

@@ -1,14 +1,12 @@
 """scripts/task_file: its files against the test's own reckoning, its limits at both sides, and its warnings."""
 import random
-import subprocess
-import sys
 import tomllib
 import types
 import zlib
 from fractions import Fraction
 
 import pytest
-from conftest import SCRIPTS, module_of, refusal
+from conftest import as_program, module_of, refusal
 from hypothesis import assume, given, settings
 from hypothesis import strategies as some
 
@@ -113,7 +111,7 @@ def test_limits_of_files(listing, call, tmp_path):
         assert (done.status, done.out) == (1, "") and done.err.endswith(f"scripts/task_file: {complaint}\n")
     done = call(TASK_FILE, "list", tmp_path / "none", *ONE)
     assert done.status == 1 and done.err.startswith("scripts/task_file: ") and "none" in done.err
-    assert listing("a,1,2\n", *ONE, "--leave", "a=1000000").status == 0
+    assert {listing("a,1,2\n", *ONE, "--leave", f"a={at}").status for at in (0, 1_000_000)} == {0}
     file = tmp_path / "tasks.csv"
     for text, status in ((b"# \xfc\na,1,2\n", 1), ("\ufeff# \u00fc\na,1,2\n".encode(), 0), (b"\xef\xbb\xbfa,1,2\n", 0)):
         file.write_bytes(text)
@@ -209,6 +207,17 @@ def test_draws_are_given_up():
     assert len(asked) == 100_000
 
 
+# what the generator draws, the load, the processors, the periods, and what the tasks cost
+COSTS = (0, 100, 1, [8], [8]), (0, 57, 1, [100], [57]), (0, 25, 2, [4, 4], [1, 1]), (2 / 3, 75, 2, [3, 100], [1, 100])
+
+
+@pytest.mark.parametrize("number,load,processors,periods,costs", COSTS)
+def test_costs(number, load, processors, periods, costs):
+    draws = types.SimpleNamespace(random=lambda: number, choice=lambda left: left.pop(0))
+    made = TASK_FILE.drawn(len(costs), load, processors, [*periods], draws)
+    assert [task.cost for task in made] == costs
+
+
 def test_shares_are_unbiased():
     """Of three weights with the sum 0.9 each is below x with probability 1 - (1 - x / 0.9)^2 (Kolmogorov, Smirnov)."""
     rng = random.Random(1)
@@ -275,8 +284,8 @@ def test_words(call):
     for words in ([], ["list"], ["list", "x"], ["random"], *(every[:left] + every[left + 1 :] for left in range(1, 6))):
         assert call(TASK_FILE, *words).status == 2
     assert call(TASK_FILE, *every, "--load=60.5").status == 2
-    said = subprocess.run([sys.executable, SCRIPTS / "task_file", "--help"], capture_output=True, text=True)
-    assert said.returncode == 0 and TASK_FILE.__doc__.strip() in said.stdout
+    said = as_program("task_file", "--help")
+    assert said.status == 0 and TASK_FILE.__doc__.strip() in said.out
     helped = {way: " ".join(call(TASK_FILE, way, "--help").out.split()) for way in ("list", "random")}
     assert "[--early] [--leave NAME=SLOT] TASKS positional" in helped["list"]
     assert "--load PERCENT --processors PROCESSORS --periods P,P,.. --seed" in helped["random"]
