@@ -72,7 +72,7 @@ def test_comment_lines(call, tmp_path):
         f"{header}# first\n{''.join(lines)}# last",
         header + "".join(f"#{place},x,y\n{line}" for place, line in enumerate(lines)),
         f"#{plain.strip()}".replace("\n", "\n#") + f"\n{plain}".rstrip("\n"),
-        header + ("#" + 99 * "x" + "\n") * 700 + "".join(lines),
+        header + ("#" + 99 * "x" + "\n") * 21_000 + "".join(lines),
     ):
         rows.write_text(text)
         assert call(CHECK, TASKS, rows) == (0, "nothing is wrong\n", "")

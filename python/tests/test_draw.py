@@ -96,16 +96,16 @@ def test_faults(command, monkeypatch):
 def test_files(command, tmp_path, monkeypatch):
     """A file is written whole or not at all."""
     out = tmp_path / "made.svg"
-    mask = os.umask(0o007)
+    mask = os.umask(0o026)
     assert command("schedule", "file", "-o", str(out)) == (0, b"", b"")
     assert out.read_text() == picture.svg(CASES["every_kind"][0])
-    assert (out.stat().st_mode & 0o777, os.umask(mask)) == (0o660, 0o007)
-    out.chmod(0o640)
+    assert (out.stat().st_mode & 0o777, os.umask(mask)) == (0o640, 0o026)
+    out.chmod(0o604)
     for form, start in (("png", b"\x89PNG"), ("pdf", b"%PDF")):
         for found in (RSVG, None):
             monkeypatch.setattr(draw.shutil, "which", {"rsvg-convert": found}.__getitem__)
             assert command("schedule", "file", f"--{form}", "-o", str(out)) == (0, b"", b"")
-            assert out.read_bytes().startswith(start) and out.stat().st_mode & 0o777 == 0o640
+            assert out.read_bytes().startswith(start) and out.stat().st_mode & 0o777 == 0o604
     before = out.read_bytes()
     assert command("schedule", "file", "9", "8", "-o", str(out))[0] == 1
     monkeypatch.setattr(draw.os, "replace", failing(OSError()))

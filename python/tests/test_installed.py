@@ -164,5 +164,4 @@ def test_pictures(clone, stand_in):
         (clone / "scripts" / name).unlink()
     calls.write_text("")
     assert run(clone, picture, "schedule", "file", PATH=path) == drawn and "beside" not in calls.read_text()
-    said = "pfair_picture: 70 reading failed: the program pfair can't be run\n"
-    assert run(clone, sys.executable, picture, "lags", "file", PATH=str(clone.parent)) == (5, "", said)
+    assert run(clone, sys.executable, picture, "lags", "file", PATH="").err.endswith("the program pfair can't be run\n")

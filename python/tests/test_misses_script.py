@@ -102,8 +102,8 @@ def test_rows_may_come_in_parts(call):
 
 NEITHER = f"the first line is neither '{DECISIONS[:-1]}' nor '{LAGS[:-1]}'"
 COMPLAINTS = [("", "there are no rows"), ("a,b\n", NEITHER), ("\n" + LAGS, NEITHER)]
-NO_DECISIONS = "-1,0,2,a,admitted,-", "0,x,2,a,admitted,-", "0,0,x,a,refused,22", "0,0,1,a,admitted"
-NO_ROWS = [*((DECISIONS, row) for row in NO_DECISIONS), *((LAGS, row) for row in ("1,a,1,0", "x,a,1,2", "1,a,1", "1,a,1,2x"))]
+WRONG = "-1,0,2,a,admitted,-", "0,x,2,a,admitted,-", "0,0,x,a,refused,22", "0,0,1,a,admitted"
+NO_ROWS = [*((DECISIONS, row) for row in WRONG), *((LAGS, row) for row in ("1,a,1,0", "x,a,1,2", "1,a,1", "1,a,1,2x"))]
 NO_ROWS += [(JOINED, "0,0,2,a,gone,-"), (JOINED + LAGS, "1,a,x,2"), (LAGS + "1,a,1,2\n", "")]
 for before, row in NO_ROWS:
     kind = "lags" if LAGS in before else "decisions"

@@ -160,7 +160,9 @@ def test_refused_rows():
         refusal(ValueError, f"row 1: {shown!r} is no task's name", read_record, [(1, name)])
     for form in (str, io.StringIO):
         refusal(ValueError, "line 2: 'é' is no task's name", read_record, form("slot,task\n1,é\n"))
-    refusal(ValueError, "row 2: it has 3 columns, and the first row 2", read_record, [(1, "a"), (1, "a", 1)])
+    for before in (1, 2):
+        text, rows = f"row {before + 1}: it has 3 columns, and the first row 2", [*[(1, "a")] * before, (1, "a", 1)]
+        refusal(ValueError, text, read_record, rows)
     refusal(ValueError, "row 1: not enough values to unpack (expected at least 2, got 1)", read_record, [(1,)])
     refusal(ValueError, "row 1: cannot unpack non-iterable int object", read_record, [1])
     assert columns(read_record([(1, "a", 2, 3, "more")])) == [(1, "a", 2, 3)]

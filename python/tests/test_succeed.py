@@ -30,7 +30,6 @@ def closing(victims, at, floor, slots=20):
 
 def test_a_log_is_closed(monkeypatch):
     held, one, read = [GAP[1], pfair.promise(0), GAP[3]], joined(), pfair.Dispatcher.held
-    # nobody changes it meanwhile
     monkeypatch.setattr(pfair.Dispatcher, "held", lambda one, *words: read(one, *words) if one._lock._is_owned() else 0)
     assert pfair.succeed(one, 1) == ([*held, *closing("ab", 9, 6)], 3, 6, 9, ["a", "b"])
     assert pfair.succeed(joined(), 1, victims=["nobody", "b", "a"]).log[3:] == closing("ba", 9, 6)
