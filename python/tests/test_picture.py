@@ -151,13 +151,13 @@ def test_text_is_escaped(name):
 def test_names_are_cut_to_their_room():
     cut = {room: _figure.shortened(["camera"], room)["camera"] for room in (11, 12, 17, 18, 26, 27, 38, 39)}
     assert cut == {11: "", 12: "c.", 17: "c.", 18: "ca.", 26: "ca.", 27: "cam.", 38: "came.", 39: "camera"}
-    assert [_figure.shortened("a", room) for room in (5, 6)] == [{"a": ""}, {"a": "a"}]
+    assert [_figure.shortened("x", room) for room in (5, 6)] == [{"x": ""}, {"x": "x"}]
 
 
 def test_names_that_begin_alike_are_told_apart():
     """By their last letters, with whole numbers if these fit, or by those in which they differ."""
-    names = "worker12 worker13 radar radio axle_a_left axle_b_left lane1y44 lane2y55 camera".split()
-    fitting = {39: "wor.12 wor.13 radar radio axle.a axle.b lane1. lane2. camera", 17: ".2 .3 .r .o .a .b .4 .5 c."}
+    names = "worker12 worker13 radar radio axle_a_left axle_b_left lane6y44 lane7y55 camera".split()
+    fitting = {39: "wor.12 wor.13 radar radio axle.a axle.b lane6. lane7. camera", 17: ".2 .3 .r .o .a .b .4 .5 c."}
     for room, wanted in {**fitting, 27: "w.12 w.13 ra.r ra.o ax.a ax.b l.44 l.55 cam."}.items():
         assert list(_figure.shortened(names, room).values()) == wanted.split()
     assert set(_figure.shortened(names, 11).values()) == {""}
@@ -217,9 +217,9 @@ def test_titles_and_keys():
                 texts = [one.text for one in root.iter(SVG + "text")]
                 assert texts[0] == (told if title is None else title or texts[0]) == (root[0].text or texts[0])
                 assert ("processors: 2, frame: 12, slots: 0 to 13 of 130" in texts) == (title is None)
-                assert ("1/2 is a weight" in texts) == has_key
+                assert ("1/2 is a weight" in texts) == has_key and (root.get("width") == "1022") == (title == "m" * 90)
                 drawn[title, has_key] = int(root.get("height"))
-        assert drawn[None, True] > drawn["m" * 90, True] > drawn["", True] > drawn["", False]
+        assert drawn[None, True] - 18 == drawn["m" * 90, True] == drawn["", True] + 24 > drawn["", False] + 24
 
 
 def test_few_slots_of_many_processors():
