@@ -38,11 +38,11 @@ def test_rows_of_entries(entries):
 
 def test_names_in_rows():
     """A name keeps its first 16 bytes, and its whole length, by which the library refuses it."""
-    rows = pfair.rows_of([pfair.Entry(name=name) for name in ("abcdefgh" * 3, "é" * 9, "a" * 16)])
-    assert rows["name"].tolist() == [b"abcdefgh" * 2, "é".encode() * 8, b"a" * 16]
-    assert rows["length"].tolist() == [24, 18, 16]
-    text = f"{pfair.NameBadByte.text}: name = 'a\\x00b'"
-    refusal(pfair.NameBadByte, text, pfair.rows_of, [pfair.Entry(name="a\0b")])
+    rows = pfair.rows_of([pfair.Entry(name=name) for name in ("abcdefgh" * 3, "é" * 9, "a" * 16, "\ud800")])
+    assert rows["name"].tolist() == [b"abcdefgh" * 2, "é".encode() * 8, b"a" * 16, b"\xed\xa0\x80"]
+    assert rows["length"].tolist() == [24, 18, 16, 3]
+    text = f"{pfair.NameBadByte.text}: name = 'a\\x00\\ud800'"
+    refusal(pfair.NameBadByte, text, pfair.rows_of, [pfair.Entry(name="a\0\ud800")])
 
 
 def test_numbers_in_rows():
@@ -88,7 +88,7 @@ def test_whole_takes_whole_numbers_alone():
 # ---- entries that are made
 
 
-NAME = some.one_of(some.sampled_from(["", "a", "a" * 16, "a" * 17, "é" * 8, "é" * 9, "A", "_a", "1a", "a-"]), NAMES)
+NAME = some.one_of(some.sampled_from(["", "a", "a" * 16, "a" * 17, "é" * 8, "é" * 9, "A", "1a", "\ud800"]), NAMES)
 
 
 def near(*bounds):

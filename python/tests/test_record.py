@@ -156,10 +156,10 @@ def test_refused_rows():
     refusal(ValueError, "row 2: '-1' is no whole number from 0 on", read_record, [(1, "a"), ("-1", "a")])
     refusal(ValueError, "row 1: 1.5 is no whole number from 0 on", read_record, [(1.5, "a")])
     refusal(ValueError, "row 1: True is no whole number from 0 on", read_record, [(True, "a")])
-    for name, shown in (("é", "é"), (b"\xff", "\ufffd"), (5, "5")):
+    for name, shown in (("é", "é"), (b"\xff", "\ufffd"), ("\ud800", 3 * "\ufffd"), (5, "5")):
         refusal(ValueError, f"row 1: {shown!r} is no task's name", read_record, [(1, name)])
-    for form in (str, io.StringIO):
-        refusal(ValueError, "line 2: 'é' is no task's name", read_record, form("slot,task\n1,é\n"))
+    for of in (str, io.StringIO):
+        refusal(ValueError, "line 2: '\ufffd\ufffd\ufffd' is no task's name", read_record, of("slot,task\n1,\ud800\n"))
     for before in (1, 2):
         text, rows = f"row {before + 1}: it has 3 columns, and the first row 2", [*[(1, "a")] * before, (1, "a", 1)]
         refusal(ValueError, text, read_record, rows)

@@ -171,7 +171,7 @@ _Fault = tuple[type[errors.PfairError], tuple[Optional[Kind], ...], tuple[str, .
 _NAMED = KINDS[1:]
 _FAULTS: tuple[_Fault, ...] = (
     (errors.NameEmpty, _NAMED, ("name",), lambda entry: not entry.name),
-    (errors.NameTooLong, _NAMED, ("name",), lambda entry: len(entry.name.encode(errors="replace")) > 16),
+    (errors.NameTooLong, _NAMED, ("name",), lambda entry: len(entry.name.encode(errors="surrogatepass")) > 16),
     (errors.NameBadByte, _NAMED, ("name",), lambda entry: not re.fullmatch("[a-z][a-z0-9_]*", entry.name)),
     (errors.ZeroCost, ("arrive",), ("cost",), lambda entry: entry.cost == 0),
     (errors.CostOverPeriod, ("arrive",), ("cost", "period"), lambda entry: entry.cost > entry.period),
@@ -231,7 +231,7 @@ def rows_of(entries: Union[Sequence[Entry], Rows]) -> Rows:
     for row, entry in zip(rows, entries):
         if entry.kind not in KINDS:
             raise errors.OutOfRange(f"{errors.OutOfRange.text}: kind = {entry.kind!r}")
-        name = entry.name.encode()
+        name = entry.name.encode(errors="surrogatepass")
         if b"\0" in name:
             raise errors.NameBadByte(f"{errors.NameBadByte.text}: name = {entry.name!r}")
         row["name"], row["length"] = name[:16], len(name)

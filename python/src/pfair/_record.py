@@ -94,10 +94,8 @@ def read_record(given: Given) -> Record:
     """
     if isinstance(given, np.ndarray):
         return _of_array(given)
-    if isinstance(given, (str, bytes)) and b"\n" in (text := given.encode() if isinstance(given, str) else given):
-        return _of_text(io.BytesIO(text))
-    if isinstance(given, bytes):
-        return _of_text(io.BytesIO(given))
+    if isinstance(given, bytes) or isinstance(given, str) and "\n" in given:
+        return _of_text(io.BytesIO(_bytes_of(given)))
     if isinstance(given, (str, os.PathLike)):
         with open(given, "rb") as file:
             return _of_text(file)
@@ -122,7 +120,7 @@ def _of_frame(frame: Any) -> Record:
 
 
 def _bytes_of(name: Any) -> bytes:
-    return name if isinstance(name, bytes) else str(name).encode()
+    return name if isinstance(name, bytes) else str(name).encode(errors="surrogatepass")
 
 
 def _of_array(rows: Rows) -> Record:
@@ -209,7 +207,7 @@ def _pieces(file: Union[IO[bytes], IO[str]]) -> Iterator[bytes]:
     """Yields whole lines, some megabytes at once, each with a newline at its end."""
     rest = b""
     while read := file.read(_AT_ONCE):
-        piece = read.encode() if isinstance(read, str) else read
+        piece = _bytes_of(read)
         lines, newline, after = piece.rpartition(b"\n")
         if newline:
             yield (rest + lines + newline).replace(b"\r\n", b"\n")
