@@ -23,11 +23,11 @@ def holding(entries, order=None):
     return one
 
 
-def test_rows_by_hand():
-    one = holding([ENTRIES[place] for place in ROWS.values()])
+def test_rows_by_hand(monkeypatch):
+    one, read = holding([ENTRIES[place] for place in ROWS.values()]), pfair.Dispatcher.held
+    monkeypatch.setattr(pfair.Dispatcher, "held", lambda one, *key: read(one, *key) if one._lock._is_owned() else None)
     for count in range(6):
-        text = "".join(f"{row}\n" for row in [*ROWS][:count])
-        assert one.digest(1, count) == hashlib.sha256(text.encode()).digest()
+        assert one.digest(1, count) == hashlib.sha256("".join(f"{row}\n" for row in [*ROWS][:count]).encode()).digest()
 
 
 @given(some.lists(some.sampled_from(ENTRIES), min_size=1, max_size=6), some.data())

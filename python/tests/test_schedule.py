@@ -14,7 +14,7 @@ from hypothesis import given, settings
 from hypothesis import strategies as some
 
 import pfair
-from pfair import _names, _program, _schedule, _source, _task_file, _trace
+from pfair import _frames, _names, _program, _schedule, _source, _task_file, _trace
 from recorded import rows_of, stays_of
 
 FILES = sorted(EXAMPLES.glob("*.toml"))
@@ -176,7 +176,7 @@ def test_pandas():
     script = pfair.Script(2, 12, 60, [[pfair.arrive("beginning_b", 5, 12), pfair.arrive("beginning_a", 1, 3)], AGAIN])
     schedule = pfair.schedule(script)
     frames = schedule.to_pandas(lags=True)
-    assert len(schedule.to_pandas()) == 2 and not hasattr(_schedule, "DataFrame")
+    assert len(schedule.to_pandas()) == 2 and not {*vars(_schedule), *vars(_frames)} & {"DataFrame"}
     for frame, rows in zip(frames, (schedule.quanta, schedule.decisions, schedule.lags())):
         others = [name for name in rows.dtype.names if name != "task"]
         assert list(frame.columns) == ["task", *others] and len(frame) == len(rows) > 5
