@@ -66,10 +66,10 @@ def test_help(command):
     ("schedule file 0", "slots are asked for by --slots A..B, or by FROM TO behind the file"),
     ("schedule file 0 1 2", "slots are asked for by --slots A..B, or by FROM TO behind the file"),
     ("schedule file 0 1 --slots 0..1", "slots are asked for by --slots A..B, or by FROM TO behind the file"),
-    ("schedule file 0 x", "argument FROM TO: 'x' is no slot"),
+    ("schedule file 0 x\udcff", "argument FROM TO: 'x\\udcff' is no slot"),
     ("schedule file --slots 3", "argument --slots: '3' is not A..B, the slots A to B - 1"),
     ("schedule file --slots 3..9x", "argument --slots: '3..9x' is not A..B, the slots A to B - 1"),
-    ("schedule file --gif", "unrecognized arguments: --gif"),
+    ("schedule file --title \udcff", "argument --title: '\\udcff' is no text"),
     ("schedule file --htm", "unrecognized arguments: --htm"),
     ("schedule file --html --pdf", "argument --pdf: not allowed with argument --html"),
 ])  # fmt: skip

@@ -70,6 +70,14 @@ def number(text: str) -> int:
     return int(text)
 
 
+def title(text: str) -> str:
+    try:
+        text.encode()
+    except UnicodeEncodeError:
+        raise argparse.ArgumentTypeError(f"{text!r} is no text") from None
+    return text
+
+
 def words_of(argv: Optional[list[str]]) -> argparse.Namespace:
     """Returns the options of the command line."""
     layout = functools.partial(argparse.RawDescriptionHelpFormatter, width=100)
@@ -87,7 +95,7 @@ def words_of(argv: Optional[list[str]]) -> argparse.Namespace:
         said = f"the picture in {format.upper()}, if the command rsvg-convert or Python's matplotlib is here"
         forms.add_argument(f"--{format}", dest="format", action="store_const", const=format, help=said)
     said = "the title, in place of the usual one and the line below it; no title if TEXT is empty"
-    parser.add_argument("--title", metavar="TEXT", help=said)
+    parser.add_argument("--title", type=title, metavar="TEXT", help=said)
     said = "no key below the picture, for a paper"
     parser.add_argument("--no-legend", dest="legend", action="store_false", help=said)
     said = "the slots A to B - 1, at most 4096; without it all slots of the file"
@@ -218,7 +226,7 @@ def main(argv: Optional[list[str]] = None, program: Optional[str] = None) -> int
         return 130
     else:
         return 0
-    os.write(2, f"{NAME}: {fault}\n".encode())
+    os.write(2, f"{NAME}: {fault}\n".encode(errors="backslashreplace"))
     return fault.status
 
 
