@@ -52,8 +52,8 @@ fn look_on(board: &Board, call: Call) -> Look {
     }
 }
 
-// The desk of a row, one of a new set.
-fn row(board: &Board, processor: u8) -> Made<Desk>
+/// The desk of a row, one of a new set.
+pub(crate) fn row(board: &Board, processor: u8) -> Made<Desk>
     requires { processor < board.now.processors }
     ensures { IfOk result (λ desk. IsDeskOf desk board.now × (desk.next_number ≡ 1)) }
 {

@@ -1,17 +1,18 @@
-//! Dispatchers: plans, reopening, and runs of events.
+//! Dispatchers: plans, reopening, next runs, and runs of events.
 
 use crate::entries::{TABLES, is_planned, quiet, ten};
 use crate::{Look, Made, Named};
 use pfair_ready::Ready;
 use pfair_replica::{TakeFault, Taken};
-use pfair_table::{Dispatcher, Event, PlanFault, Settings, Step, run_events};
+use pfair_table::{Dispatcher, Event, NextRunFault, PlanFault, Settings, Step, run_events};
 use std::alloc::{AllocError, Global};
 
-pub(crate) fn looks<R: Ready>(alloc: Global) -> [Named; 4] {
+pub(crate) fn looks<R: Ready>(alloc: Global) -> [Named; 5] {
     [
         ("plans", look_at::<R>(alloc, Call::Plan)),
         ("reopening", look_at::<R>(alloc, Call::Reopen)),
         ("a second content", look_at::<R>(alloc, Call::Tear)),
+        ("a next run", look_at::<R>(alloc, Call::NextRun)),
         ("a run of events", events::<R>(alloc, &mut Vec::new(alloc))),
     ]
 }
@@ -25,6 +26,8 @@ enum Call {
     Reopen,
     // A second content after three plans.
     Tear,
+    // A next run after all six plans.
+    NextRun,
 }
 
 fn look_at<R: Ready>(alloc: Global, call: Call) -> Look {
@@ -44,6 +47,7 @@ fn look_with<R: Ready>(dispatcher: &mut Dispatcher<R>, call: Call) -> Look {
             plan_three(dispatcher)?;
             tears(dispatcher)
         }
+        Call::NextRun => Ok(plans_rest(dispatcher)? && goes_on(dispatcher)?),
     }
 }
 
@@ -130,6 +134,20 @@ fn tears<R: Ready>(dispatcher: &mut Dispatcher<R>) -> Look {
             && dispatcher.reopen() == Err(torn)
             && is_planned(dispatcher, slots),
     )
+}
+
+// A next run. After a failed allocation this run stands; then the next one is begun once more.
+fn goes_on<R: Ready>(dispatcher: &Dispatcher<R>) -> Look {
+    let mut next = dispatcher.next_run(6);
+    if matches!(next, Err(NextRunFault::Memory)) && is_planned(dispatcher, 6) {
+        next = dispatcher.next_run(6);
+    }
+    let left = dispatcher.members().map_or(0, |members| members.len());
+    match next {
+        Ok(next) => Ok(next.members().map_or(0, |members| members.len()) == left && left > 0),
+        Err(NextRunFault::Memory) => Err(AllocError),
+        Err(_) => Ok(false),
+    }
 }
 
 // A run of the coming of each of the ten entries, and of as many plans as there are slots.

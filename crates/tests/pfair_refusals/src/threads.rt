@@ -1,8 +1,11 @@
-//! Runs of a script in threads, one for each processor.
+//! A worker, and runs of a script in threads, one for each processor.
+ghost use Rattle.std.specs.Prelude.{◌≡◌};
+ghost use Rattle.pfair_desk.specs.Desks.{IsDeskOf};
 
+use crate::board::row;
 use crate::entries::{is_whole, ten};
 use crate::{Look, Made, Named};
-use pfair_board::{Desk, Finished, OpenGate, RunFault, run_dispatchers};
+use pfair_board::{Board, Desk, Finished, Hints, OpenGate, RunFault, run_dispatchers, run_worker};
 use pfair_entry::Entry;
 use pfair_ready::HeapReady;
 use pfair_table::{Script, Settings};
@@ -10,8 +13,11 @@ use std::alloc::{AllocError, Global};
 use std::sync::Wait;
 use std::thread::Threads;
 
-pub(crate) fn looks<P: Threads + Wait + Sync>(rt: &P, alloc: Global) -> [Named; 1] {
-    [("run_dispatchers of two processors", runs(rt, alloc))]
+pub(crate) fn looks<P: Threads + Wait + Sync>(rt: &P, alloc: Global) -> [Named; 2] {
+    [
+        ("run_worker without hints", works_on_new(rt, alloc)),
+        ("run_dispatchers of two processors", runs(rt, alloc)),
+    ]
 }
 
 // The script of the ten entries.
@@ -62,4 +68,46 @@ fn is_finished(finished: &Finished) -> bool {
 fn holds_ten(desk: &Desk) -> bool {
     let held = desk.replica();
     held.missing(0).is_none() && held.missing(1).is_none() && held.frontier() == 6
+}
+
+fn works_on_new<P: Wait>(rt: &P, alloc: Global) -> Look {
+    works_on(rt, alloc, &Board::new(alloc, 2, 5)?)
+}
+
+// A worker of the second log, while the first stands on the board: no hint tells of it, so that the
+// worker's last refresh finds it.
+fn works_on<P: Wait>(rt: &P, alloc: Global, board: &Board) -> Look {
+    if board.processors() != 2 || board.capacity() != 5 {
+        return Ok(false);
+    }
+    publishes_first(board, &mut row(board, 0)?)?;
+    works(rt, alloc, board, &mut row(board, 1)?)
+}
+
+// Publishes the first log.
+fn publishes_first(board: &Board, desk: &mut Desk) -> Made<()>
+    requires { IsDeskOf desk.old board.now }
+{
+    for (processor, _, entry) in ten()? {
+        if processor == 0 && desk.publish(board, entry).is_err() {
+            return Err(AllocError);
+        }
+    }
+    Ok(())
+}
+
+fn works<P: Wait>(rt: &P, alloc: Global, board: &Board, desk: &mut Desk) -> Look
+    requires own { IsDeskOf desk.old board.now }
+    requires first { desk.old.next_number ≡ 1 }
+    requires processors { board.now.processors ≡ 2 }
+    requires capacity { board.now.capacity ≡ 5 }
+{
+    let settings = Settings::new(2, 6, 6).ok_or(AllocError)?;
+    let hints = Hints::all(alloc, 1)?.pop().ok_or(AllocError)?;
+    let ten = ten()?;
+    let log = [ten[5].2, ten[6].2, ten[7].2, ten[8].2, ten[9].2];
+    match run_worker::<HeapReady, _>(rt, alloc, settings, desk, board, &log, hints, &OpenGate) {
+        Ok(run) => Ok(is_whole(&run)),
+        Err(fault) => Ok(fault == RunFault::Memory),
+    }
 }
