@@ -1,13 +1,11 @@
 -- The quanta of several slots, row by row and slot by slot.
-use Rattle.std.proofs.Common.{◌≡◌, ◌+◌, ◌-◌, ℕ, zero, suc, ◌<◌, ◌≤◌, ◌++◌, ◌∷◌, [], List, Some, length, min, take, drop, set, get_or, slice_get, ap, subst, refl, arith, ◌∙◌, append_assoc, sym}
-use Rattle.std.specs.List.{AllByRecursion}
+use Rattle.std.proofs.Common.{◌≡◌, ◌+◌, ◌-◌, ℕ, zero, suc, ◌<◌, ◌≤◌, ◌++◌, ◌∷◌, [], List, length, min, take, drop, set, get_or, slice_get, ap, refl, arith, ◌∙◌, append_assoc, sym}
 use Rattle.std.proofs.lemmas.List.{length-append}
-use Rattle.std.proofs.lemmas.Option.{same_Some, none-some}
 use Rattle.pfair_table.specs.declared.pick.Pick.{Pick}
 use Rattle.pfair_table.specs.Table.{Origin, Table}
 use Rattle.pfair_c.specs.declared.quanta.PfairQuantum.{PfairQuantum}
 use Rattle.std.proofs.Math.Seq.{take-length, take-append_seam, drop-append_seam}
-use Rattle.pfair_table.specs.Places.{places_in, IsFit}
+use Rattle.pfair_table.specs.Places.{places_in}
 use Rattle.pfair_c.specs.Rows.{quantum_row, quanta_at, quanta_in, rows_of, slot_of, written_over}
 
 -- a slot has a quantum for each row of its table
@@ -17,12 +15,6 @@ as-many places slot k (p ∷ more) = ap suc (as-many places slot (suc k) more)
 
 pub as-many-at : (o : Origin) (tables : List Table) (t : ℕ) → length (quanta_at o tables t) ≡ length (slot_of tables t)
 as-many-at o tables t = as-many (slot_of (places_in o tables) t) t 0 (slot_of tables t)
-
--- no table has more rows than there are processors
-pub no-more-rows : (m : ℕ) (tables : List Table) → AllByRecursion (IsFit m) tables → (t : ℕ) (rows : Table) → slice_get tables t ≡ Some rows → length rows ≤ m
-no-more-rows m [] all t rows is = absurd (none-some rows is)
-no-more-rows m (table ∷ tables) all zero rows is = subst (λ (found : Table). length found ≤ m) (same_Some table rows is) all.0.0
-no-more-rows m (table ∷ tables) all (suc t) rows is = no-more-rows m tables all.1 t rows is
 
 -- one row more of a slot's
 pub one-quantum-more : (places : List ℕ) (slot k : ℕ) (xs : Table) (rows : List PfairQuantum) (i j : ℕ) (x : Pick)

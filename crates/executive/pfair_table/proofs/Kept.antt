@@ -1,6 +1,6 @@
 -- What is kept of planned slots: the list of all of them from one on.
-use Rattle.std.proofs.Common.{ℕ, zero, suc, ◌+◌, ◌-◌, ◌<◌, ◌≤◌, ◌≡◌, refl, sym, ap, ◌∙◌, arith, List, [], ◌∷◌, ◌++◌, length, drop, map, Option, Some, None}
-use Rattle.std.specs.Prelude.{slice_get, option_to_list}
+use Rattle.std.proofs.Common.{ℕ, zero, suc, ◌+◌, ◌-◌, ◌<◌, ◌≤◌, ◌≡◌, refl, sym, ap, ◌∙◌, arith, List, [], ◌∷◌, ◌++◌, length, drop, map}
+use Rattle.std.specs.Prelude.{slice_get}
 use Rattle.std.specs.Option.{option_map}
 use Rattle.std.proofs.lemmas.List.{length-map, length-append, length-drop, map-append, drop-append-le, drop-map}
 use Rattle.std.proofs.lemmas.Option.{slice_get_past, slice_get-map}
@@ -46,11 +46,6 @@ drop_twice : {A : Type 0} (k n : ℕ) (xs : List A) → drop k (drop n xs) ≡ d
 drop_twice k zero xs = ap (λ m. drop m xs) (let same : k ≡ 0 + k = omega arith in same)
 drop_twice k (suc n) [] = drop-nil k ∙ sym (drop-nil (suc n + k))
 drop_twice k (suc n) (x ∷ xs) = drop_twice k n xs ∙ ap (λ m. drop m (x ∷ xs)) (let same : suc (n + k) ≡ suc n + k = omega arith in same)
-
--- with its first element taken off, if there is one
-pub without_first : {A : Type 0} (xs rest : List A) (i : ℕ) (first : Option A) → drop i xs ≡ option_to_list first ++ rest → (first ≡ None → rest ≡ []) → drop (i + 1) xs ≡ rest
-without_first xs rest i (Some x) e none = sym (drop_twice 1 i xs) ∙ ap (drop 1) e
-without_first xs rest i None e none = sym (drop_twice 1 i xs) ∙ ap (drop 1) (e ∙ none refl) ∙ sym (none refl)
 
 -- if there are none, then none is before them
 none_before : (n m : ℕ) → (0 < n → 0 < m) → 0 ≡ m → n ≡ 0

@@ -120,9 +120,6 @@ counted_on s x t = one_on s x t (counted_world s x t)
 pub runs_are_counted : RunsAreCounted
 runs_are_counted s x t = counted_on s (said x) t
 
-pub joined_world : (s : Settings) (x : Story) (t : ℕ) → AllByRecursion (λ m. m.joined ≤ t) (world None s x t)
-joined_world s x t = each (IsCounted t (history None s x t).tables) (λ m. m.joined ≤ t) (λ m c. c.by_now) (world None s x t) (counted_world s x t)
-
 -- so the members of the next slot follow from those of this one, counted by the tables so far
 pub world_counted : (s : Settings) (x : Story) (t : ℕ) → world None s x (suc t) ≡ boundary (machine s) (suc t) (counted (history None s x (suc t)).tables (world None s x t)) (announcements (x (suc t)))
 world_counted s x t = ap (λ ms. boundary (machine s) (suc t) ms (announcements (x (suc t)))) (counted_on s x t)

@@ -2,7 +2,6 @@
 use Rattle.std.proofs.Common.{ℕ, zero, suc, ◌-◌, ◌≡◌, refl, sym, ap, ◌∙◌, subst, arith, List, [], ◌∷◌, ◌++◌, length, map, Some, None}
 use Rattle.std.specs.Prelude.{slice_get}
 use Rattle.std.specs.List.{AllByRecursion}
-use Rattle.std.proofs.lemmas.Option.{slice_get-get_or}
 use Rattle.pfair_replica.specs.Replica.{Replica, said, numbers_below}
 use Rattle.pfair_weight.proofs.NamesApart.{apart_nil}
 use Rattle.pfair_table.specs.declared.pick.Decided.{Decided}
@@ -26,10 +25,6 @@ last_is f d (x ∷ []) zero y e h = ap f (let same : x ≡ y = cc in same)
 last_is f d (x ∷ []) (suc n) y e h = absurd (omega (arith, e))
 last_is f d (x ∷ z ∷ zs) zero y e h = absurd (omega (arith, e))
 last_is f d (x ∷ z ∷ zs) (suc n) y e h = last_is f d (z ∷ zs) n y (omega (arith, e)) h
-
-pub last_none : {A B : Type 0} (f : A → B) (d : B) (xs : List A) (n : ℕ) → n ≡ length xs - 1 → None ≡ slice_get xs n → d ≡ last_or d (map f xs)
-last_none f d [] n e h = refl
-last_none f d (x ∷ xs) n e h = absurd (let there = slice_get-get_or (x ∷ xs) n x (omega (arith, e)) in cc)
 
 last_all : {A : Type 0} (P : A → Type 0) (d : A) (xs : List A) → P d → AllByRecursion P xs → P (last_or d xs)
 last_all P d [] h all = h

@@ -1,5 +1,5 @@
 -- What a run can begin with, and what settings a run has that does.
-use Rattle.std.proofs.Common.{ℕ, ◌+◌, ◌≡◌, ◌≢◌, ◌≤◌, ◌<◌, ◌==◌, ◌&&◌, ◌||◌, ◌∙◌, refl, sym, subst, arith, Bool, true, false, not, nat_lt, List, [], ◌∷◌, ◌++◌, length}
+use Rattle.std.proofs.Common.{ℕ, ◌≡◌, ◌≢◌, ◌≤◌, ◌<◌, ◌==◌, ◌&&◌, ◌||◌, ◌∙◌, refl, sym, subst, arith, Bool, true, false, not, nat_lt, List, [], ◌∷◌, ◌++◌, length}
 use Rattle.std.specs.List.{AllByRecursion}
 use Rattle.std.specs.Cmp.Lexicographic.{nat_list_eq_equiv}
 use Rattle.std.proofs.SliceLists.{all_by_recursion_push}
@@ -8,10 +8,9 @@ use Rattle.pfair_entry.specs.Same.{name_eq}
 use Rattle.pfair_weight.proofs.NamesApart.{apart_nil, apart_push}
 use Rattle.pfair_admission.specs.Admission.{Machine}
 use Rattle.pfair_admission.specs.Member.{Member}
-use Rattle.pfair_admission.specs.declared.members.TheConstants.Members.{LAST_SLOT}
 use Rattle.pfair_table.specs.declared.pick.Pick.{Pick}
 use Rattle.pfair_table.specs.declared.settings.TheConstants.Settings.{MAX_PROCESSORS, MAX_FRAME}
-use Rattle.pfair_table.specs.Limits.{AreLeftAt, IsCarried, IsSettings, IsState, can_add_row, settings_from, with_row}
+use Rattle.pfair_table.specs.Limits.{AreLeftAt, IsCarried, IsSettings, IsState, can_add_row, with_row}
 use Rattle.pfair_table.specs.Places.{AllDiffer, ArePlacesOf, IsFit, is_used}
 use Rattle.pfair_table.specs.Table.{Carried, Settings, Table, names_task}
 
@@ -88,12 +87,3 @@ state_of s slots c limits taken =
       rows = subst (λ (m : Machine). IsFit m.processors c.table) is taken.rows;
       places = subst (λ (m : Machine). ArePlacesOf m.processors c.table c.places) is taken.places;
     }
-
-pub taken_over : (c : Carried) (slots : ℕ) → IsState c → c.slot + slots ≤ LAST_SLOT → IsCarried (settings_from c slots) c
-taken_over c slots state within = record {
-  machine_is = refl;
-  members = state.members;
-  in_time = within;
-  rows = state.rows;
-  places = state.places;
-}

@@ -33,9 +33,6 @@ rows_are : {o : Origin} {s : Settings} {x : Replica} {n : ℕ} {before : Roster}
     → (let w = boundary before.machine at before.members (announcements (said x n)) in rows ≡ map (pick w) (first_by_rank processors (eligible at w))) → rows ≡ table o s (said x) n
 rows_are step at_is many is = grind (arith, world_is, map)
 
-slot_next : (o : Origin) (n : ℕ) → slot_of o n + 1 ≡ slot_of o (n + 1)
-slot_next o n = grind arith
-
 -- so what a slot's plan leaves is in step
 pub step_after : {o : Origin} {s : Settings} {x : Replica} {n : ℕ} {before : Roster} {now : ℕ} {waiting : Queue} {announced : List Said} {processors : ℕ} (after : Roster) (now2 : ℕ) (waiting2 : Queue) (r : Result SlotPlan AllocError)
     → IsInStep o s x n before now waiting → {at : ℕ} → at ≡ slot_of o n → announced ≡ said x n → processors ≡ s.processors

@@ -1,5 +1,5 @@
 -- What a line that is read brings.
-use Rattle.std.proofs.Common.{arith, ℕ, ◌≡◌, ◌≢◌, refl, sym, ap, subst, ◌∙◌, List, Option, Ok, Err, true, false, inl, inr, ◌≤◌, Bool, length, min, None, Some}
+use Rattle.std.proofs.Common.{arith, ℕ, ◌≡◌, ◌≢◌, refl, sym, ap, subst, ◌∙◌, List, Option, Ok, true, false, inl, inr, ◌≤◌, Bool, length, min, None, Some}
 use Rattle.std.specs.Prelude.{◌⊎◌, ◌&&◌, ◌==◌, not, nat_lt, if◌then◌else◌}
 use Rattle.std.specs.Io.KnownBytes.{Keeps}
 use Rattle.pfair_text.specs.Output.{TakesPrefix}
@@ -24,11 +24,6 @@ use Rattle.pfair_replica.specs.HeldAfter.{join_none}
 use Rattle.pfair_table.specs.Table.{Settings}
 use Rattle.pfair_feed.proofs.Plans.{longer}
 use Rattle.pfair_feed.proofs.Planned.{planned}
-
--- the contents after a reading
-abbrev after_reading : Replica → Reading → Replica
-after_reading x (Ok t) = taken x t.0 t.1 t.2
-after_reading x (Err fault) = x
 
 -- the line is an entry's row
 pub taken_from_row : (line : List ℕ) (x y : Replica) (p n : ℕ) (e : Logged) (r : Reading) → r ≡ Ok (p, n, e)

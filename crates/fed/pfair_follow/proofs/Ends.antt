@@ -1,8 +1,8 @@
 -- What a follower that was new comes to, by what it holds.
-use Rattle.std.proofs.Common.{ℕ, zero, suc, Bool, false, ◌≡◌, ◌≤◌, ◌<◌, refl, sym, ap, subst, ◌∙◌, arith, inl, inr, List, [], ◌∷◌, ◌++◌, length, append_assoc, append-nil, Option, None, Some, Result, Ok, Err}
+use Rattle.std.proofs.Common.{ℕ, zero, suc, Bool, false, ◌≡◌, ◌≤◌, ◌<◌, refl, sym, ap, subst, ◌∙◌, arith, inl, inr, List, [], ◌∷◌, ◌++◌, length, append_assoc, Option, None, Some, Result, Ok, Err}
 use Rattle.std.specs.List.{list_any}
 use Rattle.std.specs.Prelude.{IfErr, IsErrOf, OnOk}
-use Rattle.std.specs.Io.KnownBytes.{Appends, Consumes}
+use Rattle.std.specs.Io.KnownBytes.{Appends}
 use Rattle.pfair_text.specs.Rows.{line, lines_text}
 use Rattle.pfair_replica.specs.ReplicaRows.{replica_of}
 use Rattle.pfair_replica.specs.Replica.{Replica, empty_replica, frontier, has_torn, numbers_below}
@@ -155,24 +155,6 @@ module _ (f : Follow) (fresh : IsFresh f) where
           written = written fed.bytes fed.rest to_last.begun to_last.head fed.fed;
           holds = p;
         }
-
--- a run that was not planned to its last slot was fed to the reader's end
-pub fed_short : (is_strict : Bool) (f g : Follow) (given left before after : Option (List ℕ)) → IsFedToLast is_strict f g given left before after
-    → length g.dispatch.tables < g.dispatch.settings.slots → IsFed f g given left before after
-fed_short is_strict f g given left before after to_last few =
-    let fed = to_last.fed in
-    elim fed.end [
-      | inl end ↦ record {
-        bytes = fed.bytes;
-        rest = fed.rest;
-        begun = to_last.begun;
-        head = to_last.head;
-        consumed = subst (λ (all : List ℕ). Consumes given left all) (ap (λ (m : List ℕ). fed.bytes ++ m) end.1 ∙ append-nil fed.bytes) fed.read;
-        at_end = end.0;
-        fed = fed.fed;
-      }
-      | inr out ↦ absurd (omega (arith, few, out.1))
-    ]
 
 -- ---- answers
 

@@ -11,9 +11,9 @@ use Rattle.std.proofs.lemmas.Map.Keys.{sorted_tail, IsDistinct-from_sorted}
 use Rattle.std.proofs.lemmas.Map.Entries.{none_past_head}
 use Rattle.std.proofs.lemmas.Map.Lookups.{CmpEqualImpliesEq}
 use Rattle.pfair_lattice.specs.Order.{IsOrder, IsJoin}
-use Rattle.pfair_lattice.specs.Option.{OptionBelow, OptionJoins, OptionPartly, OptionOutgrows}
+use Rattle.pfair_lattice.specs.Option.{OptionBelow, OptionJoins, OptionOutgrows}
 use Rattle.pfair_lattice.specs.Entries.{IsOrdered, get, MapBelow, MapJoins, MapOutgrows, covers, entries_from_get}
-use Rattle.pfair_lattice.proofs.AtKey.{by_key, head_at, tail_at, keeps}
+use Rattle.pfair_lattice.proofs.AtKey.{by_key, head_at, tail_at}
 
 -- at a key: joined, or still to come, and then as it was
 abbrev pub JoinedSoFar : {X : Type 0} → (X → X → X → Type 0) → Option X → Option X → Option X → Option X → Type 0
@@ -24,12 +24,6 @@ JoinedSoFar joins a b (Some w) c = (b ≡ Some w) × (c ≡ a)
 abbrev pub BelowSoFar : {X : Type 0} → (X → X → Type 0) → Option X → Option X → Option X → Type 0
 BelowSoFar below a None b = OptionBelow below a b
 BelowSoFar below a (Some w) b = a ≡ Some w
-
-joined_start : {X : Type 0} (joins : X → X → X → Type 0) (a b : Option X) → JoinedSoFar joins a b b a
-joined_start joins a b = grind (arith, keeps)
-
-so_far_partly : {X : Type 0} (joins partly : X → X → X → Type 0) (a b r c : Option X) → JoinedSoFar joins a b r c → OptionPartly joins partly a b c
-so_far_partly joins partly a b r c h = grind arith
 
 module _ {K X : Type 0} (cmp : K → K → Ordering) where
   -- `now` is `old` with the entries of `other` before `rest` joined in

@@ -26,9 +26,6 @@ key_later by k = record k { d = k.d + by; group = group_later by k.group }
 same_cmp : (x y u v : ℕ) → (x < y → u < v) → (x ≡ y → u ≡ v) → (y < x → v < u) → nat_cmp u v ≡ nat_cmp x y
 same_cmp x y u v less same more = grind (arith, cases_order, nat_cmp_is)
 
-group_rises : (by x y : ℕ) → x < y → group_later by x < group_later by y
-group_rises by x y less = grind arith
-
 tie_later : (by : ℕ) (k : Key) → tie_group_of (key_later by k) ≡ group_later by (tie_group_of k)
 tie_later by k = grind arith
 
