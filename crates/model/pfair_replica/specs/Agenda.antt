@@ -6,7 +6,7 @@ use Rattle.pfair_replica.specs.declared.agenda.Agenda.{Agenda}
 
 -- the announcements at slot t
 abbrev pub said_at : Agenda → ℕ → List Said
-said_at agenda t = listed_at agenda.by_slot.lists t
+said_at agenda t = listed_at agenda.lists t
 
 -- behind what was listed before stands a beginning of what comes
 abbrev pub IsPartOf : (before now coming : List Said) → Type 0

@@ -1,11 +1,10 @@
 //! What is said, kept by slot.
 ghost use Rattle.std.specs.Prelude.{◌≡◌, ◌≢◌, ◌<◌, ◌++◌, ℕ, [], OnOk, OnErr};
-ghost use Rattle.pfair_replica.specs.Agenda.{said_at};
-ghost use Rattle.pfair_replica.specs.BySlot.{one_at};
+ghost use Rattle.pfair_replica.specs.BySlot.{listed_at, one_at};
 
-use crate::by_slot::BySlot;
 use pfair_entry::Said;
 use std::alloc::{AllocError, Global};
+use std::collections::BTreeMap;
 
 /// The announcements of each slot, as [`crate::Replica::note_said`] adds them.
 ///
@@ -13,17 +12,22 @@ use std::alloc::{AllocError, Global};
 /// later slot has any. The agenda does not change when the replica takes in more.
 #[derive(Drop)]
 pub struct Agenda {
-    by_slot: BySlot,
+    pub(crate) lists: BTreeMap<u64, Vec<Said>>,
+    // the last slot that has announcements, or 0
+    pub(crate) last: u64,
     alloc: Global,
+    ghost silent: { (t : ℕ) → last < t → listed_at lists t ≡ [] },
+    ghost reached: { 0 < last → listed_at lists last ≢ [] },
 }
 
 impl Agenda {
     /// Creates an agenda without announcements. Allocates nothing.
     pub fn new(alloc: Global) -> Agenda
-        ensures { (t : ℕ) → said_at result t ≡ [] }
+        ensures { (t : ℕ) → listed_at result.lists t ≡ [] }
     {
         Agenda {
-            by_slot: BySlot::new(alloc),
+            lists: BTreeMap::new(alloc),
+            last: 0,
             alloc,
         }
     }
@@ -31,17 +35,23 @@ impl Agenda {
     /// Returns the announcements of a slot, in the order in which they were added. One look-up of the
     /// slot, and O(1) if no later slot has announcements.
     pub fn at(&self, slot: u64) -> &[Said]
-        ensures { result.now ≡ said_at self.now slot }
+        ensures { result.now ≡ listed_at self.now.lists slot }
     {
-        self.by_slot.at(slot)
+        if slot > self.last {
+            return &[];
+        }
+        match self.lists.get(&slot) {
+            Some(list) => list,
+            None => &[],
+        }
     }
 
     /// Returns the last slot that has announcements, or 0 if there is none. O(1).
     pub fn last(&self) -> u64
-        ensures silent { (t : ℕ) → result < t → said_at self.now t ≡ [] }
-        ensures reached { 0 < result → said_at self.now result ≢ [] }
+        ensures silent { (t : ℕ) → result < t → listed_at self.now.lists t ≡ [] }
+        ensures reached { 0 < result → listed_at self.now.lists result ≢ [] }
     {
-        self.by_slot.last
+        self.last
     }
 
     /// Adds an announcement behind those of a slot. One or two look-ups of the slot, and O(1)
@@ -50,9 +60,33 @@ impl Agenda {
     /// # Errors
     /// Returns [`AllocError`] if an allocation fails; nothing has then changed.
     pub fn push(&mut self, slot: u64, said: Said) -> Result<(), AllocError>
-        ensures ok { OnOk result ((t : ℕ) → said_at self.new t ≡ said_at self.old t ++ one_at slot said t) }
-        ensures err { OnErr result ((t : ℕ) → said_at self.new t ≡ said_at self.old t) }
+        ensures ok { OnOk result ((t : ℕ) → listed_at self.new.lists t ≡ listed_at self.old.lists t ++ one_at slot said t) }
+        ensures err { OnErr result ((t : ℕ) → listed_at self.new.lists t ≡ listed_at self.old.lists t) }
     {
-        self.by_slot.push(self.alloc, slot, said)
+        // a value made here: rattle's borrow checker doesn't build a proof that passes the given one on
+        push_at(self.alloc, &mut self.lists, slot, Said { ..said })?;
+        self.last = self.last.max(slot);
+        Ok(())
     }
+}
+
+// Adds a value behind those that are listed under a key.
+fn push_at<T: Drop>(
+    alloc: Global,
+    lists: &mut BTreeMap<u64, Vec<T>>,
+    key: u64,
+    value: T,
+) -> Result<(), AllocError>
+    ensures ok { OnOk result ((t : ℕ) → listed_at lists.new t ≡ listed_at lists.old t ++ one_at key value t) }
+    ensures err { OnErr result ((t : ℕ) → listed_at lists.new t ≡ listed_at lists.old t) }
+{
+    match lists.get_mut(&key) {
+        Some(list) => list.push(value)?,
+        None => {
+            let mut list = Vec::with_capacity(alloc, 1)?;
+            list.push(value)?;
+            lists.insert(key, list)?;
+        }
+    }
+    Ok(())
 }
