@@ -2,7 +2,7 @@
 use Rattle.std.proofs.Common.{◌≡◌, ◌+◌, ℕ, ◌<◌, length, arith, ◌∙◌, suc, ◌≤◌, max, ap}
 use Rattle.std.proofs.lemmas.List.{length-append}
 use Rattle.std.proofs.Math.Nat.{le-max_right}
-use Rattle.pfair_table.specs.declared.event.Event.TheVariants.{Plan}
+use Rattle.pfair_table.specs.declared.run.Event.TheVariants.{Plan}
 use Rattle.pfair_table.specs.declared.answer.Step.TheVariants.{Planned}
 use Rattle.pfair_table.specs.Events.{happens, Course}
 use Rattle.pfair_table.specs.Refinement.{Dispatch, course_of, IsStepOf}

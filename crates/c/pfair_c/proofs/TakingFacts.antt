@@ -1,6 +1,6 @@
 -- One entry more of a log is taken.
 use Rattle.std.proofs.Common.{Result, Ok, Err, IfErr, IsErrAnd, ◌≡◌, ◌∙◌, ◌+◌, ℕ, zero, suc, ◌<◌, ◌∷◌, [], List, Bool, true, false, length, take, get_or, ap, sym, refl, subst, true≢false, arith, if◌then◌else◌, slice_get}
-use Rattle.pfair_lattice.specs.declared.flat.Flat.TheVariants.{One, Torn as TornContent}
+use Rattle.pfair_lattice.specs.declared.join_map.Flat.TheVariants.{One, Torn as TornContent}
 use Rattle.std.specs.declared.option.Option.TheVariants.{None, Some}
 use Rattle.pfair_lattice.specs.Held.{Held}
 use Rattle.std.proofs.lemmas.Option.{none-some, get_or_from_slice_get}

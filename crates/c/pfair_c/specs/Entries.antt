@@ -6,7 +6,7 @@ use Rattle.pfair_entry.specs.Entry.{Logged}
 use Rattle.pfair_entry.specs.Notice.{announced, checked, notice_fault_number, IsLoggable}
 use Rattle.pfair_entry.specs.declared.notice.Change.{Change}
 use Rattle.pfair_entry.specs.declared.notice.Change.TheVariants.{Arrive, Depart, Late}
-use Rattle.pfair_c.specs.declared.name.PfairName.{PfairName}
+use Rattle.pfair_c.specs.declared.entry.PfairName.{PfairName}
 use Rattle.pfair_c.specs.declared.entry.PfairEntry.{PfairEntry}
 
 -- the bytes of a name

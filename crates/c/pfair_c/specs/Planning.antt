@@ -2,7 +2,7 @@
 use Rattle.std.specs.Prelude.{ℕ, zero, suc, ◌≡◌, ◌≤◌, ◌<◌, false, length, max}
 use Rattle.pfair_replica.specs.ReplicaRows.{replica_of}
 use Rattle.pfair_replica.specs.Replica.{has_torn}
-use Rattle.pfair_table.specs.declared.event.Event.TheVariants.{Plan}
+use Rattle.pfair_table.specs.declared.run.Event.TheVariants.{Plan}
 use Rattle.pfair_table.specs.declared.answer.Step.{Step}
 use Rattle.pfair_table.specs.declared.answer.Step.TheVariants.{Planned, Waiting, Done}
 use Rattle.pfair_table.specs.declared.answer.PlanFault.{PlanFault}

@@ -7,11 +7,11 @@ use Rattle.pfair_replica.specs.Key.{EntryKey}
 use Rattle.pfair_admission.specs.Refusal.{refusal_number}
 use Rattle.pfair_admission.specs.declared.decision.Decision.{Decision}
 use Rattle.pfair_admission.specs.declared.decision.Decision.TheVariants.{Admitted, Departing, Delayed, Refused}
-use Rattle.pfair_table.specs.declared.pick.Pick.{Pick}
-use Rattle.pfair_table.specs.declared.pick.Decided.{Decided}
+use Rattle.pfair_table.specs.declared.slot.Pick.{Pick}
+use Rattle.pfair_table.specs.declared.slot.Decided.{Decided}
 use Rattle.pfair_table.specs.Table.{Origin, Table}
 use Rattle.pfair_table.specs.Places.{places_in}
-use Rattle.pfair_c.specs.declared.name.PfairName.{PfairName}
+use Rattle.pfair_c.specs.declared.entry.PfairName.{PfairName}
 use Rattle.pfair_c.specs.declared.table.PfairPick.{PfairPick}
 use Rattle.pfair_c.specs.declared.held.PfairKey.{PfairKey}
 use Rattle.pfair_c.specs.declared.quanta.PfairQuantum.{PfairQuantum}

@@ -1,7 +1,7 @@
 -- Entries of one log, taken one after another.
 use Rattle.std.specs.Prelude.{ℕ, suc, ⊤, ◌≡◌, ◌+◌, ◌≤◌, ◌<◌, ◌⊎◌, true, if◌then◌else◌, List, [], ◌∷◌, length, take, slice_get}
 use Rattle.std.specs.declared.option.Option.TheVariants.{None, Some}
-use Rattle.pfair_lattice.specs.declared.flat.Flat.TheVariants.{One, Torn as TornContent}
+use Rattle.pfair_lattice.specs.declared.join_map.Flat.TheVariants.{One, Torn as TornContent}
 use Rattle.pfair_lattice.specs.Held.{Held}
 use Rattle.pfair_entry.specs.Entry.{Logged}
 use Rattle.pfair_entry.specs.Same.{entry_eq}

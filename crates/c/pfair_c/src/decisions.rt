@@ -5,9 +5,8 @@ ghost use Rattle.pfair_c.specs.Rows.{slot_of, decision_row, decisions_at, decisi
 ghost use Rattle.pfair_c.specs.RowsGiven.{AreGiven, rows_counted, decisions_between};
 
 use crate::answer::{DONE, NOT_PLANNED};
-use crate::name::{PfairName, name_row};
-use crate::open::give_rows;
-use crate::rows::{are_readable, fits, lay_rows};
+use crate::entry::{PfairName, name_row};
+use crate::open::{are_readable, fits, give_rows, lay_rows};
 use pfair_admission::Decision;
 use pfair_handle::Handle;
 use pfair_ready::Ready;

@@ -1,12 +1,13 @@
-//! Entries, as C has them.
+//! Entries and names, as C has them.
 ghost use Rattle.std.specs.Prelude.{◌≡◌, ◌≤◌, ◌<◌, IfOk, IfErr, OnOk};
 ghost use Rattle.pfair_entry.specs.Notice.{unchecked};
 ghost use Rattle.pfair_c.specs.EntryRows.{entry_row, silent_row, announced_row};
 ghost use Rattle.pfair_c.specs.Entries.{spelled, change_of, logged_of, IsInRange, IsWhole, IsMeant, IsUnreadable, IsEntryFault};
+ghost use Rattle.pfair_c.specs.Rows.{name_row};
 
 use crate::answer::OUT_OF_RANGE;
-use crate::name::{PfairName, name_row};
 use pfair_entry::{Announcement, Change, Entry, Notice, checked_entry};
+use pfair_weight::TaskName;
 
 /// An entry of a log.
 #[repr(C)]
@@ -163,5 +164,28 @@ fn announced_row(floor: u64, at: u64, announcement: Announcement) -> PfairEntry
             by,
             ..silent
         },
+    }
+}
+
+/// A name: its first `length` bytes.
+#[repr(C)]
+#[derive(Clone, Copy)]
+pub struct PfairName {
+    /// The bytes; in a name that is given out, zeros behind the name's own.
+    pub bytes: [u8; 16],
+    /// How many bytes the name has.
+    pub length: u64,
+}
+
+/// Returns a name as C has it.
+pub(crate) fn name_row(name: &TaskName) -> PfairName
+    ensures { result ≡ name_row name.now }
+{
+    let mut bytes = [0; 16];
+    let own = name.as_bytes();
+    bytes[..own.len()].copy_from_slice(own);
+    PfairName {
+        bytes,
+        length: own.len() as u64,
     }
 }

@@ -7,9 +7,8 @@ ghost use Rattle.pfair_c.specs.Lags.{lag_row, book_rows, book_after, lags_of};
 ghost use Rattle.pfair_c.specs.RowsGiven.{AreLagsGiven};
 
 use crate::answer::{DONE, MEMORY, NO_ROOM, NOT_PLANNED};
-use crate::name::{PfairName, name_row};
-use crate::open::give_rows;
-use crate::rows::fits;
+use crate::entry::{PfairName, name_row};
+use crate::open::{fits, give_rows};
 use pfair_handle::Handle;
 use pfair_lag::LagBook;
 use pfair_output::{book_slots, first_book};

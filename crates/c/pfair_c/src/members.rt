@@ -7,9 +7,8 @@ ghost use Rattle.pfair_c.specs.Rows.{written_over};
 ghost use Rattle.pfair_c.specs.RowsGiven.{AreMembersGiven};
 
 use crate::answer::SPENT;
-use crate::name::{PfairName, name_row};
-use crate::open::give_rows;
-use crate::rows::lay_rows;
+use crate::entry::{PfairName, name_row};
+use crate::open::{give_rows, lay_rows};
 use pfair_admission::Members;
 use pfair_handle::Handle;
 use pfair_ready::HeapReady;

@@ -6,9 +6,8 @@ ghost use Rattle.pfair_c.specs.Rows.{slot_of, quantum_row, quanta_in, quanta_at,
 ghost use Rattle.pfair_c.specs.RowsGiven.{AreGiven, rows_count, quanta_between};
 
 use crate::answer::{DONE, NOT_PLANNED};
-use crate::name::{PfairName, name_row};
-use crate::open::give_rows;
-use crate::rows::{are_readable, fits, lay_rows};
+use crate::entry::{PfairName, name_row};
+use crate::open::{are_readable, fits, give_rows, lay_rows};
 use pfair_handle::Handle;
 use pfair_ready::Ready;
 use pfair_table::{Dispatcher, Pick, Settings};

@@ -1,15 +1,20 @@
-//! A run that begins with the text of a state.
-ghost use Rattle.std.specs.Prelude.{◌≡◌, IfOk};
-ghost use Rattle.pfair_c.specs.State.{IsResumeAnswer, cause_of, state_fault_row};
+//! The state with which a run begins, as text: read, and given back.
+ghost use Rattle.std.specs.Prelude.{◌≡◌, IfOk, OnOk};
+ghost use Rattle.pfair_c.specs.State.{IsResumeAnswer, cause_of, state_fault_row, began, AreBytesGiven};
+ghost use Rattle.pfair_state.specs.Reading.{IsWritable};
+ghost use Rattle.pfair_state.specs.Rows.{state_text};
+ghost use Rattle.pfair_c.specs.Answered.{Reads};
 
-use crate::answer::{DONE, FILE_TOO_LONG, MEMORY, OPEN_ALREADY, OUT_OF_RANGE};
-use crate::open::put_new;
+use crate::answer::{DONE, FILE_TOO_LONG, MEMORY, NO_ROOM, OPEN_ALREADY, OUT_OF_RANGE};
+use crate::open::{give_rows, put_new};
 use pfair_admission::RestoreFault;
 use pfair_file::LONGEST_FILE;
 use pfair_handle::Handle;
-use pfair_state::{ReadFault, Why, read_state};
-use pfair_table::{Dispatcher, Script, Settings};
-use std::alloc::Global;
+use pfair_ready::HeapReady;
+use pfair_state::{ReadFault, Why, add_state, read_state};
+use pfair_table::{Dispatcher, Script, Settings, State};
+use pfair_text::{finish, new_text};
+use std::alloc::{AllocError, Global};
 
 /// The place of a fault in a state's text.
 #[repr(C)]
@@ -92,4 +97,56 @@ fn cause_of(why: Why) -> u64
         Why::Quantum => 4,
         Why::Incomplete => 5,
     }
+}
+
+/// Writes the state in which the dispatcher's run began, as text: what a run begins with, in rows of
+/// less than 256 bytes. Equal states have equal bytes.
+///
+/// Answers 0 with the number of bytes and the bytes; 102 if the handle has no dispatcher; 90 if an
+/// allocation fails; 103 with the number of bytes wanted, if there are fewer. Nothing else is written.
+/// O(bytes).
+#[unsafe(no_mangle)]
+pub extern "C" fn pfair_state(
+    alloc: Global,
+    handle: &mut Handle,
+    length: &mut u64,
+    bytes: &mut [u8],
+) -> u32
+    ensures { Reads handle.old.owner.kept handle.new.owner.kept result (length.old, bytes.old) (length.new, bytes.new) AreBytesGiven }
+{
+    give_rows(alloc, handle, length, bytes, |dispatcher, length, bytes| {
+        copy_state(alloc, dispatcher, length, bytes)
+    })
+}
+
+fn copy_state(
+    alloc: Global,
+    dispatcher: &Dispatcher<HeapReady>,
+    length: &mut u64,
+    bytes: &mut [u8],
+) -> u32
+    ensures { AreBytesGiven dispatcher.now result (length.old, bytes.old) (length.new, bytes.new) }
+{
+    let Ok(text) = began_text(alloc, dispatcher) else {
+        return MEMORY;
+    };
+    *length = text.len() as u64;
+    if text.len() > bytes.len() {
+        return NO_ROOM;
+    }
+    bytes[..text.len()].copy_from_slice(&text);
+    DONE
+}
+
+// The text of the state in which the run began.
+fn began_text(alloc: Global, dispatcher: &Dispatcher<HeapReady>) -> Result<Vec<u8>, AllocError>
+    ensures text { IfOk result (λ text. text.items ≡ state_text (began dispatcher.now)) }
+    ensures readable { OnOk result (IsWritable (began dispatcher.now)) }
+{
+    let mut writer = new_text(alloc);
+    match dispatcher.state() {
+        Some(state) => add_state(&mut writer, state)?,
+        None => add_state(&mut writer, &State::first(alloc, dispatcher.settings()))?,
+    }
+    finish(writer)
 }

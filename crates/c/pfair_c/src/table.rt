@@ -5,9 +5,8 @@ ghost use Rattle.pfair_c.specs.Rows.{pick_row, written_over};
 ghost use Rattle.pfair_c.specs.RowsGiven.{AreGiven, rows_count, table_of, places_at};
 
 use crate::answer::NOT_PLANNED;
-use crate::name::{PfairName, name_row};
-use crate::open::give_rows;
-use crate::rows::lay_rows;
+use crate::entry::{PfairName, name_row};
+use crate::open::{give_rows, lay_rows};
 use pfair_handle::Handle;
 use pfair_table::Pick;
 use std::alloc::Global;

@@ -10,14 +10,11 @@ ghost use Rattle.pfair_replica.specs.Faults.{IsMergeFaultOf};
 ghost use Rattle.pfair_handle.specs.Kept.{is_kept};
 ghost use Rattle.pfair_handle.specs.Behind.{Of, Between, IsAbsorbedTo, IsPartlyAbsorbedTo};
 
-mod loose;
 mod owner;
-mod served;
 
-use loose::Loose;
-pub use owner::Owner;
+use owner::Loose;
+pub use owner::{Owner, Served};
 use pfair_replica::MergeFault;
-pub use served::Served;
 use std::alloc::Global;
 use std::mem::replace;
 

@@ -21,13 +21,13 @@ use Rattle.pfair_order.specs.declared.Key.{Key}
 use Rattle.pfair_order.proofs.Later.{filter_mapped}
 use Rattle.pfair_entry.specs.Exact.{name_exact}
 use Rattle.pfair_entry.specs.Same.{name_eq}
-use Rattle.pfair_entry.specs.declared.said.Said.{Said}
-use Rattle.pfair_entry.specs.declared.announcement.Announcement.{Announcement}
-use Rattle.pfair_entry.specs.declared.announcement.Announcement.TheVariants.{Arrive, Depart, Late}
+use Rattle.pfair_entry.specs.declared.entry.Said.{Said}
+use Rattle.pfair_entry.specs.declared.entry.Announcement.{Announcement}
+use Rattle.pfair_entry.specs.declared.entry.Announcement.TheVariants.{Arrive, Depart, Late}
 use Rattle.pfair_entry.specs.Entry.{IsWeighed}
 use Rattle.pfair_admission.specs.declared.decision.Decision.{Decision}
 use Rattle.pfair_admission.specs.declared.decision.Decision.TheVariants.{Admitted, Departing, Delayed, Refused}
-use Rattle.pfair_admission.specs.declared.refusal.Refusal.TheVariants.{AlreadyDeparting, AlreadyReleased}
+use Rattle.pfair_admission.specs.declared.decision.Refusal.TheVariants.{AlreadyDeparting, AlreadyReleased}
 use Rattle.pfair_admission.specs.declared.delay.Delay.{Delay}
 use Rattle.pfair_admission.specs.Member.{Member, theta, is_departing, eligible_from, next_key, lag_at}
 use Rattle.pfair_admission.specs.Admission.{Machine, is_named, member_named, claimed, arrival, departure, late_release, decision, newcomer, with_freeing, with_delay, with_quantum, change, effect, is_freed, present, decided, all_decided, all_decisions, announcements}

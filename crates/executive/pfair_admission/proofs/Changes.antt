@@ -4,10 +4,10 @@ use Rattle.std.specs.Prelude.{filter, if◌then◌else◌}
 use Rattle.std.specs.Map.{values_of}
 use Rattle.indexmap.specs.IndexMap.{set_value_at}
 use Rattle.std.specs.Option.{option_map, is_some}
-use Rattle.pfair_entry.specs.declared.announcement.Announcement.TheVariants.{Depart, Late}
+use Rattle.pfair_entry.specs.declared.entry.Announcement.TheVariants.{Depart, Late}
 use Rattle.pfair_admission.specs.declared.decision.Decision.{Decision}
 use Rattle.pfair_admission.specs.declared.decision.Decision.TheVariants.{Departing}
-use Rattle.pfair_admission.specs.declared.quantum.Quantum.{Quantum}
+use Rattle.pfair_admission.specs.declared.members.Quantum.{Quantum}
 use Rattle.pfair_admission.specs.Member.{Member}
 use Rattle.pfair_admission.specs.Admission.{change, effect, present, running, ran, quantum_of, seatless}
 use Rattle.pfair_admission.specs.Change.{after_departure, after_late_release, after_quantum}

@@ -12,11 +12,11 @@ use Rattle.std.proofs.lemmas.List.Quantifiers.{all_pairs_push}
 use Rattle.std.proofs.Math.Bool.{or-true}
 use Rattle.pfair_weight.specs.Share.{Share, units_of}
 use Rattle.pfair_weight.specs.Window.{release_of, starts_job_of}
-use Rattle.pfair_entry.specs.declared.announcement.Announcement.{Announcement}
+use Rattle.pfair_entry.specs.declared.entry.Announcement.{Announcement}
 use Rattle.pfair_admission.specs.declared.decision.Decision.{Decision}
 use Rattle.pfair_admission.specs.declared.decision.Decision.TheVariants.{Admitted, Refused}
 use Rattle.pfair_admission.specs.declared.delay.Delay.{Delay}
-use Rattle.pfair_admission.specs.declared.refusal.Refusal.{Refusal}
+use Rattle.pfair_admission.specs.declared.decision.Refusal.{Refusal}
 use Rattle.pfair_admission.specs.Member.{Member, theta, busy_until, freeing_slot, is_delayed_at, eligible_from}
 use Rattle.pfair_admission.specs.Admission.{Machine, all_decided, arrival, change, claimed, newcomer, with_delay, with_freeing, with_quantum, effect, is_freed, present, decision, decided, all_decisions, boundary, boundary_decisions, ran}
 use Rattle.pfair_admission.specs.Carried.{carried}

@@ -6,7 +6,7 @@ use Rattle.std.specs.Cmp.Lexicographic.{nat_list_eq_equiv}
 use Rattle.pfair_weight.specs.Name.{NamesApart}
 use Rattle.pfair_weight.proofs.NamesApart.{apart_filter, apart_map, apart_push}
 use Rattle.pfair_entry.specs.Same.{name_eq}
-use Rattle.pfair_entry.specs.declared.announcement.Announcement.{Announcement}
+use Rattle.pfair_entry.specs.declared.entry.Announcement.{Announcement}
 use Rattle.pfair_admission.specs.Member.{Member}
 use Rattle.pfair_admission.specs.Admission.{Machine, is_named, member_named, newcomer, change, with_freeing, with_delay, with_quantum, effect, is_freed, present, decision, boundary, ran}
 use Rattle.pfair_admission.proofs.Deciding.{admitted_new}

@@ -15,8 +15,8 @@ use Rattle.pfair_admission.specs.Member.{Member, last_offset}
 use Rattle.pfair_weight.specs.Share.{IsWeight, Share}
 use Rattle.pfair_admission.specs.declared.decision.Decision.{Decision}
 use Rattle.pfair_admission.specs.declared.decision.Decision.TheVariants.{Admitted, Refused}
-use Rattle.pfair_admission.specs.declared.refusal.Refusal.{Refusal}
-use Rattle.pfair_admission.specs.declared.refusal.Refusal.TheVariants.{NameTaken}
+use Rattle.pfair_admission.specs.declared.decision.Refusal.{Refusal}
+use Rattle.pfair_admission.specs.declared.decision.Refusal.TheVariants.{NameTaken}
 use Rattle.pfair_entry.specs.declared.entry.TheConstants.Entry.{LONGEST_DELAY}
 use Rattle.pfair_admission.specs.Ledger.{IsFound, Numbered}
 use Rattle.pfair_admission.specs.Roster.{EachBounded}

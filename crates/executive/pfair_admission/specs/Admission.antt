@@ -3,13 +3,13 @@ use Rattle.std.specs.Prelude.{ℕ, ◌||◌, ◌+◌, ◌*◌, ◌%◌, Bool, fa
 use Rattle.pfair_weight.specs.Share.{Share, units_of}
 use Rattle.pfair_weight.specs.Window.{release_of}
 use Rattle.pfair_entry.specs.Same.{name_eq}
-use Rattle.pfair_entry.specs.declared.announcement.Announcement.{Announcement}
-use Rattle.pfair_entry.specs.declared.announcement.Announcement.TheVariants.{Arrive, Depart, Late}
-use Rattle.pfair_entry.specs.declared.said.Said.{Said}
+use Rattle.pfair_entry.specs.declared.entry.Announcement.{Announcement}
+use Rattle.pfair_entry.specs.declared.entry.Announcement.TheVariants.{Arrive, Depart, Late}
+use Rattle.pfair_entry.specs.declared.entry.Said.{Said}
 use Rattle.pfair_admission.specs.declared.decision.Decision.{Decision}
 use Rattle.pfair_admission.specs.declared.decision.Decision.TheVariants.{Admitted, Departing, Delayed, Refused}
-use Rattle.pfair_admission.specs.declared.quantum.Quantum.{Quantum}
-use Rattle.pfair_admission.specs.declared.refusal.Refusal.TheVariants.{NameTaken, PeriodOutsideFrame, NoRoom, NoSuchTask, AlreadyDeparting, AlreadyReleased}
+use Rattle.pfair_admission.specs.declared.members.Quantum.{Quantum}
+use Rattle.pfair_admission.specs.declared.decision.Refusal.TheVariants.{NameTaken, PeriodOutsideFrame, NoRoom, NoSuchTask, AlreadyDeparting, AlreadyReleased}
 use Rattle.pfair_admission.specs.Member.{Member, theta, is_departing, freeing_slot, eligible_from, next_key}
 
 -- the processors, and the slots of a frame, that weights are shares of

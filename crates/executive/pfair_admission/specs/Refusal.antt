@@ -1,7 +1,7 @@
 -- Under which number each refusal is reported.
 use Rattle.std.specs.Prelude.{ℕ}
-use Rattle.pfair_admission.specs.declared.refusal.Refusal.{Refusal}
-use Rattle.pfair_admission.specs.declared.refusal.Refusal.TheVariants.{NameTaken, PeriodOutsideFrame, NoRoom, NoSuchTask, AlreadyDeparting, AlreadyReleased}
+use Rattle.pfair_admission.specs.declared.decision.Refusal.{Refusal}
+use Rattle.pfair_admission.specs.declared.decision.Refusal.TheVariants.{NameTaken, PeriodOutsideFrame, NoRoom, NoSuchTask, AlreadyDeparting, AlreadyReleased}
 
 abbrev pub refusal_number : Refusal → ℕ
 refusal_number NameTaken = 20

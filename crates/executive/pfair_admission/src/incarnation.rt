@@ -8,14 +8,12 @@ ghost use Rattle.pfair_admission.specs.Change.{after_departure, after_late_relea
 ghost use Rattle.pfair_admission.specs.Restored.{member_in};
 ghost use Rattle.std.specs.Option.{option_map};
 
-use crate::decision::Decision;
+use crate::decision::{Decision, Refusal};
 use crate::delay::{
     Delay, add_at, carried_delays, coming_after, delay_up_to, is_delayed_at, total_delay,
 };
 use crate::member_state::MemberState;
-use crate::members::Members;
-use crate::quantum::Quantum;
-use crate::refusal::Refusal;
+use crate::members::{Members, Quantum};
 use pfair_entry::Entry;
 use pfair_order::Key;
 use pfair_weight::{

@@ -16,13 +16,9 @@ pub mod laws;
 pub(crate) mod ledger;
 mod member_state;
 mod members;
-mod quantum;
-mod refusal;
 
-pub use decision::Decision;
+pub use decision::{Decision, Refusal};
 pub use delay::Delay;
 pub use incarnation::Incarnation;
 pub use member_state::{MemberState, RestoreFault};
-pub use members::Members;
-pub use quantum::Quantum;
-pub use refusal::Refusal;
+pub use members::{Members, Quantum};

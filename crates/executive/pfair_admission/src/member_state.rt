@@ -4,10 +4,10 @@ ghost use Rattle.std.specs.List.{list_all};
 ghost use Rattle.pfair_weight.specs.Share.{IsWeight};
 ghost use Rattle.pfair_admission.specs.Restored.{is_left_at, is_summed_up, member_in};
 
+use crate::decision::Refusal;
 use crate::delay::Delay;
 use crate::incarnation::has_come;
 use crate::members::Members;
-use crate::refusal::Refusal;
 use pfair_entry::Entry;
 use pfair_weight::{TaskName, Weight};
 use std::alloc::AllocError;

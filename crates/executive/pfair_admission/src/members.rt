@@ -12,12 +12,25 @@ use crate::decision::Decision;
 use crate::incarnation::Incarnation;
 use crate::ledger::Ledger;
 use crate::member_state::{MemberState, RestoreFault};
-use crate::quantum::Quantum;
 use indexmap::IndexMap;
 use pfair_entry::{Announcement, Said};
+use pfair_order::Key;
 use pfair_weight::{MAX_INDEX, TaskName, Weight};
 use std::alloc::{AllocError, Global};
 use std::marker::Model;
+
+/// A quantum that a member has, and the subtask that comes after it.
+#[derive(Clone, Copy, Debug, PartialEq, Eq)]
+pub struct Quantum {
+    /// The index of the subtask that has it, from 1.
+    pub index: u64,
+    /// Where the member stands now: the hint for its next quantum.
+    pub seat: usize,
+    /// The slot from which the next subtask may run.
+    pub next_from: u64,
+    /// The key of the next subtask.
+    pub next_key: Key,
+}
 
 /// The members of a machine, in the order of their admission: the tasks that were admitted and not
 /// freed yet.

@@ -7,7 +7,7 @@ use Rattle.std.proofs.lemmas.Bool.{cases_order, leb-true, leb-false}
 use Rattle.std.proofs.lemmas.Option.{same_Some, slice_get_past, slice_get-get_or}
 use Rattle.pfair_order.specs.declared.Key.{Key}
 use Rattle.pfair_ready.specs.declared.calendar.Calendar.{Calendar}
-use Rattle.pfair_ready.specs.declared.far_dates.Date.{Date}
+use Rattle.pfair_ready.specs.declared.calendar.Date.{Date}
 use Rattle.pfair_ready.specs.Calendar.{in_bucket, under, HasTurn, IsAmong, IsNear, IsNoted, Moves}
 
 abbrev pub Buckets : Type 0

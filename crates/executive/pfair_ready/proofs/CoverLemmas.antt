@@ -8,7 +8,7 @@ use Rattle.std.specs.FinMap.{get-empty, get-insert, get-remove, same_map}
 use Rattle.std.proofs.lemmas.Option.{none-some, same_Some}
 use Rattle.pfair_order.specs.declared.Key.{Key}
 use Rattle.pfair_ready.specs.declared.calendar.Calendar.{Calendar}
-use Rattle.pfair_ready.specs.declared.far_dates.Date.{Date}
+use Rattle.pfair_ready.specs.declared.calendar.Date.{Date}
 use Rattle.pfair_ready.specs.Names.{NameValue, name_cmp}
 use Rattle.pfair_ready.specs.Queue.{Queue}
 use Rattle.pfair_ready.specs.Calendar.{HasTurn, IsCovered, IsNoted, Moves}

@@ -4,7 +4,7 @@ use Rattle.std.specs.Prelude.{Contains, IfNone, IfSome}
 use Rattle.std.specs.BinaryHeap.{IsHeap, PopsGreatest}
 use Rattle.std.specs.declared.cmp.Reverse.{Reverse}
 use Rattle.pfair_order.specs.declared.Key.{Key}
-use Rattle.pfair_ready.specs.declared.far_dates.Date.{Date}
+use Rattle.pfair_ready.specs.declared.calendar.Date.{Date}
 use Rattle.pfair_ready.specs.Calendar.{later_cmp, HasTurn, Moves}
 
 pub popped_order : (o : Option (Reverse Date)) (xs ys : List (Reverse Date)) (n : ℕ) → n ≡ length xs → 0 < length xs → IfNone o (n ≡ 0) → IfSome o (λ x. PopsGreatest later_cmp xs x ys) → IsHeap later_cmp xs → IsHeap later_cmp ys

@@ -20,7 +20,7 @@ use Rattle.pfair_order.proofs.RankLemmas.{IsSplit, less_of, split_more}
 use Rattle.pfair_order.proofs.ByRank.{by_rank_of_split}
 use Rattle.pfair_order.proofs.InOrder.{each_trivial}
 use Rattle.pfair_ready.specs.declared.calendar.Calendar.{Calendar}
-use Rattle.pfair_ready.specs.declared.far_dates.Date.{Date}
+use Rattle.pfair_ready.specs.declared.calendar.Date.{Date}
 use Rattle.pfair_ready.specs.Names.{NameValue}
 use Rattle.pfair_ready.specs.Queue.{Queue, released, without}
 use Rattle.pfair_ready.specs.Calendar.{HasTurn, IsCovered, IsNoted}

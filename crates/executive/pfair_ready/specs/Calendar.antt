@@ -7,7 +7,7 @@ use Rattle.std.specs.FinMap as finmap
 use Rattle.std.specs.Ordering.{nat_cmp, ordering_then}
 use Rattle.pfair_order.specs.declared.Key.{Key}
 use Rattle.pfair_ready.specs.declared.calendar.Calendar.{Calendar}
-use Rattle.pfair_ready.specs.declared.far_dates.Date.{Date}
+use Rattle.pfair_ready.specs.declared.calendar.Date.{Date}
 use Rattle.pfair_order.specs.Order.{pd2_cmp}
 use Rattle.pfair_ready.specs.Names.{NameValue}
 use Rattle.pfair_ready.specs.Queue.{Queue}

@@ -13,10 +13,8 @@ ghost use Rattle.pfair_order.specs.Rank.{first_by_rank, EachOnce};
 ghost use Rattle.pfair_ready.specs.Queue.{Queue, released, without};
 
 mod calendar;
-mod far_dates;
 mod heap;
 mod plain;
-mod turns;
 mod waiting;
 
 pub use heap::HeapReady;

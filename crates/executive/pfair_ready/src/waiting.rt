@@ -5,7 +5,7 @@ ghost use Rattle.indexmap.specs.IndexMap.{get as at_name, IsUnique, Updates};
 ghost use Rattle.pfair_ready.specs.Names.{NameValue, name_eq};
 ghost use Rattle.pfair_ready.specs.Waiting.{is_due, key_under, queue_in, IsEntryOf};
 
-use crate::turns::Turn;
+use crate::heap::Turn;
 use crate::{Seated, Seats};
 use indexmap::IndexMap;
 use pfair_order::Key;

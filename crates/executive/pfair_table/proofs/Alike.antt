@@ -1,14 +1,14 @@
 -- Two dispatchers whose replicas agree have planned alike.
 use Rattle.std.proofs.Common.{ℕ, ◌<◌, ◌≡◌, sym, ap, ◌∙◌, subst, arith, inl, inr, Bool, List, length, Some}
 use Rattle.std.specs.Prelude.{slice_get}
-use Rattle.pfair_lattice.specs.declared.flat.Flat.TheVariants.{Torn}
+use Rattle.pfair_lattice.specs.declared.join_map.Flat.TheVariants.{Torn}
 use Rattle.pfair_lattice.specs.HeldLaws.{join_second}
 use Rattle.pfair_entry.specs.Same.{entry_eq}
 use Rattle.pfair_entry.specs.Exact.{entry_exact}
 use Rattle.pfair_replica.specs.Replica.{Replica, IsReplica, Untorn, Agree, said}
 use Rattle.pfair_ready.specs.Queue.{Queue}
 use Rattle.pfair_admission.specs.Roster.{Roster}
-use Rattle.pfair_table.specs.declared.pick.Decided.{Decided}
+use Rattle.pfair_table.specs.declared.slot.Decided.{Decided}
 use Rattle.pfair_table.specs.Table.{Settings, Origin, Table, table, decisions}
 use Rattle.pfair_table.specs.Refinement.{IsPlanOf, IsKept}
 use Rattle.pfair_table.proofs.TableLaws.{one_table}

@@ -8,7 +8,7 @@ use Rattle.std.proofs.lemmas.List.{length-set, length-replicate, get_or-set_same
 use Rattle.pfair_ready.specs.Names.{NameValue as Name}
 use Rattle.pfair_entry.specs.Same.{name_eq}
 use Rattle.pfair_entry.specs.Exact.{name_exact, name_itself}
-use Rattle.pfair_table.specs.declared.pick.Pick.{Pick}
+use Rattle.pfair_table.specs.declared.slot.Pick.{Pick}
 use Rattle.pfair_table.specs.Table.{Table}
 use Rattle.std.specs.Cmp.Lexicographic.{nat_list_eq_equiv}
 use Rattle.pfair_weight.specs.Name.{NamesApart}

@@ -21,9 +21,9 @@ use Rattle.pfair_ready.specs.declared.Seated.{Seated}
 use Rattle.pfair_ready.specs.Queue.{Queue}
 use Rattle.pfair_admission.specs.Member.{Member}
 use Rattle.pfair_admission.specs.Admission.{member_named, ran, with_quantum, quantum_of, running, seatless}
-use Rattle.pfair_admission.specs.declared.quantum.Quantum.{Quantum}
+use Rattle.pfair_admission.specs.declared.members.Quantum.{Quantum}
 use Rattle.pfair_admission.specs.Roster.{Roster}
-use Rattle.pfair_table.specs.declared.pick.Pick.{Pick}
+use Rattle.pfair_table.specs.declared.slot.Pick.{Pick}
 use Rattle.pfair_table.specs.Table.{Table, names_task, pick, index_of, all_ran}
 use Rattle.pfair_table.specs.Queue.{queued, IsQueueWithout, IsNotifiedOf, MayRun, has_key_of, keys_of}
 use Rattle.pfair_table.proofs.QueueKept.{found_other, found_changed, absent_removed, notified_next, drop_item}

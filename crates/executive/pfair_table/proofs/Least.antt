@@ -3,7 +3,7 @@ use Rattle.std.proofs.Common.{ℕ, ◌≡◌, refl, sym, ◌∙◌, subst, arith
 use Rattle.std.specs.Prelude.{◌&&◌, ◌==◌, nat_lt, nat_le}
 use Rattle.std.specs.List.{AllByRecursion}
 use Rattle.std.proofs.lemmas.Bool.{eqb-true, eq-eqb, ltb-true, leb-true, lt-ltb, le-leb, and_from, and_parts}
-use Rattle.pfair_lattice.specs.declared.flat.Flat.TheVariants.{One}
+use Rattle.pfair_lattice.specs.declared.join_map.Flat.TheVariants.{One}
 use Rattle.pfair_lattice.specs.Held.{HeldBelow}
 use Rattle.pfair_lattice.specs.HeldLaws.{join_least, join_second, below_itself, below_trans, none_below}
 use Rattle.pfair_entry.specs.Entry.{Logged}
@@ -14,8 +14,8 @@ use Rattle.pfair_replica.specs.Offered.{has_key, has_shape, taken, absorbed}
 use Rattle.pfair_replica.specs.HeldAfter.{only_here}
 use Rattle.pfair_replica.specs.Replica.{Replica, Below, join, only, with_entry}
 use Rattle.pfair_replica.proofs.OfferedTo.{offered_stays}
-use Rattle.pfair_table.specs.declared.event.Event.{Event}
-use Rattle.pfair_table.specs.declared.event.Event.TheVariants.{Take, Absorb, Plan}
+use Rattle.pfair_table.specs.declared.run.Event.{Event}
+use Rattle.pfair_table.specs.declared.run.Event.TheVariants.{Take, Absorb, Plan}
 use Rattle.pfair_table.specs.EventLaws.{IsBroughtBelow, EventsLeaveTheLeast}
 use Rattle.pfair_table.specs.Events.{Course, begin_at, happens, run}
 use Rattle.pfair_table.specs.Table.{Settings}

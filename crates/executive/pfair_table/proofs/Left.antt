@@ -2,7 +2,7 @@
 use Rattle.std.proofs.Common.{ℕ, zero, suc, ◌+◌, ◌≡◌, refl, sym, ap, subst, arith, false, List, [], ◌∷◌, Option, Some, None, map}
 use Rattle.std.specs.List.{AllByRecursion}
 use Rattle.std.proofs.lemmas.Bool.Decides.{nat_tests}
-use Rattle.pfair_entry.specs.declared.announcement.Announcement.{Announcement}
+use Rattle.pfair_entry.specs.declared.entry.Announcement.{Announcement}
 use Rattle.pfair_weight.proofs.NamesApart.{apart_map, apart_nil}
 use Rattle.pfair_admission.specs.Admission.{Machine, announcements, boundary, is_freed, ran, with_quantum}
 use Rattle.pfair_admission.specs.Carried.{carried, CanBeCarried}

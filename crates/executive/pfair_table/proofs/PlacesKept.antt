@@ -8,7 +8,7 @@ use Rattle.pfair_ready.specs.Names.{NameValue as Name}
 use Rattle.pfair_entry.specs.Same.{name_eq}
 use Rattle.pfair_entry.specs.Exact.{name_exact, name_itself}
 use Rattle.pfair_table.specs.Table.{Settings, Origin, Table, names_task}
-use Rattle.pfair_table.specs.declared.pick.Pick.{Pick}
+use Rattle.pfair_table.specs.declared.slot.Pick.{Pick}
 use Rattle.pfair_weight.specs.Name.{NamesApart}
 use Rattle.pfair_weight.proofs.NamesApart.{apart_head, apart_tail}
 use Rattle.pfair_table.specs.Places.{place_of, kept_places, all_kept, free_place, filled, places_after, places_before, places_from, table_before, IsFit, AllDiffer, ArePlacesOf}

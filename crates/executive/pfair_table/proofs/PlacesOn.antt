@@ -4,8 +4,8 @@ use Rattle.std.specs.Prelude.{slice_get}
 use Rattle.std.specs.List.{AllByRecursion}
 use Rattle.pfair_replica.specs.Replica.{Replica, said, numbers_below}
 use Rattle.pfair_weight.proofs.NamesApart.{apart_nil}
-use Rattle.pfair_table.specs.declared.pick.Decided.{Decided}
-use Rattle.pfair_table.specs.declared.pick.Pick.{Pick}
+use Rattle.pfair_table.specs.declared.slot.Decided.{Decided}
+use Rattle.pfair_table.specs.declared.slot.Pick.{Pick}
 use Rattle.pfair_table.specs.Table.{Settings, Origin, Table, table}
 use Rattle.pfair_table.specs.Places.{places_after, places_from, places_in, table_before, places_before, IsFit, ArePlacesOf}
 use Rattle.pfair_table.specs.Planned.{last_or}

@@ -16,8 +16,8 @@ use Rattle.pfair_ready.specs.Names.{NameValue as Name, name_cmp}
 use Rattle.pfair_order.specs.declared.Key.{Key}
 use Rattle.pfair_entry.specs.Same.{name_eq}
 use Rattle.pfair_entry.specs.Names.{name_of}
-use Rattle.pfair_entry.specs.declared.said.Said.{Said}
-use Rattle.pfair_entry.specs.declared.announcement.Announcement.{Announcement}
+use Rattle.pfair_entry.specs.declared.entry.Said.{Said}
+use Rattle.pfair_entry.specs.declared.entry.Announcement.{Announcement}
 use Rattle.pfair_entry.specs.Exact.{name_exact, name_itself}
 use Rattle.std.proofs.lemmas.Option.{none-some, same_Some, slice_get_within, get_or_from_slice_get}
 use Rattle.pfair_ready.specs.Queue.{Queue}

@@ -7,12 +7,12 @@ use Rattle.std.proofs.lemmas.Grind.{flat_map-append, get_or-set_at}
 use Rattle.std.proofs.lemmas.List.Sums.{sum_by_push}
 use Rattle.std.proofs.lemmas.Option.{get_or_from_slice_get, slice_get-get_or, slice_get_within}
 use Rattle.std.proofs.Math.Seq.{take-length, take-suc}
-use Rattle.pfair_lattice.specs.declared.flat.Flat.TheVariants.{One, Torn}
+use Rattle.pfair_lattice.specs.declared.join_map.Flat.TheVariants.{One, Torn}
 use Rattle.pfair_entry.specs.Entry.{Logged}
 use Rattle.pfair_replica.specs.Agenda.{said_at}
 use Rattle.pfair_replica.specs.Replica.{Replica, IsReplica, Below, Untorn, numbers_below, sound_beginning, sound_total, said_in, said_behind, said}
 use Rattle.pfair_replica.proofs.SoundEntries.{some_at, held_within, beginnings_grow}
-use Rattle.pfair_table.specs.declared.readings.Reading.{Reading}
+use Rattle.pfair_table.specs.declared.planner.Reading.{Reading}
 use Rattle.pfair_table.specs.Readings.{IsReadingOf, AreReadingsOf, AreWhole, entries_read, said_by_all}
 
 -- what some entries say and then the others

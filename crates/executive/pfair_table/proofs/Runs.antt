@@ -7,7 +7,7 @@ use Rattle.std.specs.List.{AllByRecursion}
 use Rattle.std.proofs.lemmas.List.{length-map, map-append, length-append}
 use Rattle.std.proofs.lemmas.Bool.{ltb-true, and_parts, not-true, cases_lt}
 use Rattle.std.proofs.lemmas.Option.{none-some, same_Some}
-use Rattle.pfair_lattice.specs.declared.flat.Flat.TheVariants.{Torn}
+use Rattle.pfair_lattice.specs.declared.join_map.Flat.TheVariants.{Torn}
 use Rattle.pfair_lattice.specs.HeldLaws.{join_least, join_first, join_second, below_itself, below_trans}
 use Rattle.pfair_entry.specs.Entry.{Logged, IsEntry}
 use Rattle.pfair_entry.specs.Same.{entry_eq}
@@ -17,10 +17,10 @@ use Rattle.pfair_replica.proofs.Marks.{below_agree, frontier_le}
 use Rattle.pfair_replica.proofs.OfferedTo.{offered_stays}
 use Rattle.pfair_replica.proofs.TornKeys.{untorn_by_test}
 use Rattle.pfair_table.specs.Table.{Settings, Origin, Table, table, decisions, plan}
-use Rattle.pfair_table.specs.declared.pick.Decided.{Decided}
+use Rattle.pfair_table.specs.declared.slot.Decided.{Decided}
 use Rattle.pfair_replica.specs.Offered.{taken, absorbed}
-use Rattle.pfair_table.specs.declared.event.Event.{Event}
-use Rattle.pfair_table.specs.declared.event.Event.TheVariants.{Take, Absorb, Plan}
+use Rattle.pfair_table.specs.declared.run.Event.{Event}
+use Rattle.pfair_table.specs.declared.run.Event.TheVariants.{Take, Absorb, Plan}
 use Rattle.pfair_table.specs.Events.{IsEvent, Course, begin_at, is_plannable, with_next_slot, happens, run}
 use Rattle.pfair_table.specs.Laws.{IsOf, IsPrefixOf, OneSchedule, PlanSoFar}
 use Rattle.pfair_table.proofs.TableLaws.{one_table, prefix_map}

@@ -18,8 +18,8 @@ use Rattle.pfair_order.specs.declared.Key.{Key}
 use Rattle.pfair_ready.specs.Names.{NameValue as Name}
 use Rattle.pfair_entry.specs.Exact.{name_exact}
 use Rattle.pfair_entry.specs.Same.{name_eq}
-use Rattle.pfair_entry.specs.declared.said.Said.{Said}
-use Rattle.pfair_entry.specs.declared.announcement.Announcement.{Announcement}
+use Rattle.pfair_entry.specs.declared.entry.Said.{Said}
+use Rattle.pfair_entry.specs.declared.entry.Announcement.{Announcement}
 use Rattle.pfair_entry.specs.Entry.{IsWeighed}
 use Rattle.pfair_replica.specs.Among.{Among, all_among, among_all, among_map, among_filter, map_same}
 use Rattle.pfair_admission.specs.Member.{Member, theta, is_departing, eligible_from, next_key}
@@ -33,7 +33,7 @@ use Rattle.pfair_admission.proofs.Effects.{by_effect, each_change}
 use Rattle.pfair_admission.proofs.Keeping.{eligible_at_job, one_each}
 use Rattle.pfair_admission.proofs.Lowered.{carried_lowered}
 use Rattle.pfair_admission.proofs.NamesKept.{apart_present}
-use Rattle.pfair_table.specs.declared.pick.Pick.{Pick}
+use Rattle.pfair_table.specs.declared.slot.Pick.{Pick}
 use Rattle.pfair_table.specs.Places.{all_kept, filled, place_of, places_after, places_before, places_in, table_before}
 use Rattle.pfair_table.specs.Planned.{last_or}
 use Rattle.pfair_table.specs.Ranks.{first_by_rank}

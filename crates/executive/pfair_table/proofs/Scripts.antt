@@ -4,7 +4,7 @@ use Rattle.std.proofs.Common.{ℕ, zero, suc, ◌+◌, ◌<◌, ◌≤◌, ◌�
 use Rattle.std.specs.Prelude.{◌≢◌, ◌==◌, if◌then◌else◌, Result, IsErrAnd, IfErr}
 use Rattle.std.proofs.lemmas.Option.{none-some, same_Some, slice_get_within, get_or_from_slice_get}
 use Rattle.std.proofs.lemmas.Bool.{leb-true, lt-ltb, le-leb, ne_eqb, and_from, and_parts}
-use Rattle.pfair_lattice.specs.declared.flat.Flat.TheVariants.{One, Torn}
+use Rattle.pfair_lattice.specs.declared.join_map.Flat.TheVariants.{One, Torn}
 use Rattle.pfair_lattice.specs.Held.{held_join}
 use Rattle.pfair_entry.specs.Same.{entry_eq}
 use Rattle.pfair_replica.specs.HeldAfter.{join_none}
@@ -17,8 +17,8 @@ use Rattle.std.proofs.Math.Dec.{eqb-suc-zero, eqb-zero-suc, eqb-suc-suc}
 use Rattle.std.proofs.lemmas.List.Folds.{list_all-map}
 use Rattle.pfair_entry.specs.Entry.{Logged}
 use Rattle.pfair_table.specs.Table.{Settings}
-use Rattle.pfair_table.specs.declared.run_fault.RunFault.{RunFault}
-use Rattle.pfair_table.specs.declared.run_fault.RunFault.TheVariants.{Stalled}
+use Rattle.pfair_table.specs.declared.answer.RunFault.{RunFault}
+use Rattle.pfair_table.specs.declared.answer.RunFault.TheVariants.{Stalled}
 use Rattle.pfair_table.specs.ScriptRun.{IsScriptFaultOf}
 use Rattle.pfair_table.specs.Script.{LoggedRun, IsLoggedRun, is_short, lists_of, entry_of, row_of, contents_of, held_of, replica_of_logs, capacity_of}
 

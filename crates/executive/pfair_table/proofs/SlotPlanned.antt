@@ -8,7 +8,7 @@ use Rattle.pfair_replica.specs.ReplicaRows.{ReplicaRows, replica_of}
 use Rattle.pfair_replica.specs.Replica.{Replica, IsReplica, has_torn, frontier, numbers_below, said}
 use Rattle.pfair_ready.specs.Queue.{Queue}
 use Rattle.pfair_admission.specs.Roster.{Roster}
-use Rattle.pfair_table.specs.declared.pick.Decided.{Decided}
+use Rattle.pfair_table.specs.declared.slot.Decided.{Decided}
 use Rattle.pfair_table.specs.Events.{is_plannable}
 use Rattle.pfair_table.specs.Table.{Settings, Table, table, decisions}
 use Rattle.pfair_table.specs.declared.answer.PlanFault.{PlanFault}

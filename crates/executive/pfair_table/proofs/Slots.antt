@@ -2,14 +2,14 @@
 use Rattle.std.proofs.Common.{ℕ, zero, suc, ◌+◌, ◌≤◌, ◌<◌, ◌≡◌, sym, subst, arith, Bool, true, false, List, Some, None}
 use Rattle.std.specs.Prelude.{if◌then◌else◌}
 use Rattle.std.specs.List.{AllByRecursion}
-use Rattle.pfair_entry.specs.declared.announcement.Announcement.{Announcement}
-use Rattle.pfair_entry.specs.declared.said.Said.{Said}
+use Rattle.pfair_entry.specs.declared.entry.Announcement.{Announcement}
+use Rattle.pfair_entry.specs.declared.entry.Said.{Said}
 use Rattle.pfair_ready.specs.Queue.{Queue}
 use Rattle.pfair_weight.specs.Name.{NamesApart}
 use Rattle.pfair_admission.specs.Admission.{Machine, boundary, announcements, with_quantum}
 use Rattle.pfair_admission.specs.Member.{Member}
 use Rattle.pfair_admission.specs.Roster.{Roster}
-use Rattle.pfair_table.specs.declared.pick.Pick.{Pick}
+use Rattle.pfair_table.specs.declared.slot.Pick.{Pick}
 use Rattle.pfair_table.specs.Table.{Settings, Origin, Table, machine, members_before, slot_of, history, world, table, all_ran, names_task}
 use Rattle.pfair_table.specs.Queue.{IsQueue, IsSteady}
 use Rattle.pfair_table.specs.Limits.{IsOrigin}

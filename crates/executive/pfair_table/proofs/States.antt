@@ -8,7 +8,7 @@ use Rattle.pfair_entry.specs.Same.{name_eq}
 use Rattle.pfair_weight.proofs.NamesApart.{apart_nil, apart_push}
 use Rattle.pfair_admission.specs.Admission.{Machine}
 use Rattle.pfair_admission.specs.Member.{Member}
-use Rattle.pfair_table.specs.declared.pick.Pick.{Pick}
+use Rattle.pfair_table.specs.declared.slot.Pick.{Pick}
 use Rattle.pfair_table.specs.declared.settings.TheConstants.Settings.{MAX_PROCESSORS, MAX_FRAME}
 use Rattle.pfair_table.specs.Limits.{AreLeftAt, IsCarried, IsSettings, IsState, can_add_row, with_row}
 use Rattle.pfair_table.specs.Places.{AllDiffer, ArePlacesOf, IsFit, is_used}

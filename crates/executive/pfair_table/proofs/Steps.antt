@@ -5,8 +5,8 @@ use Rattle.std.specs.declared.alloc.AllocError.{AllocError}
 use Rattle.pfair_table.specs.declared.slot.SlotPlan.{SlotPlan}
 use Rattle.std.proofs.lemmas.List.{length-append, map-append}
 use Rattle.pfair_entry.specs.Entry.{Logged}
-use Rattle.pfair_entry.specs.declared.said.Said.{Said}
-use Rattle.pfair_entry.specs.declared.announcement.Announcement.{Announcement}
+use Rattle.pfair_entry.specs.declared.entry.Said.{Said}
+use Rattle.pfair_entry.specs.declared.entry.Announcement.{Announcement}
 use Rattle.pfair_replica.specs.Replica.{said_by, said_in, sound_beginning, Replica, Below, Untorn, said, frontier, numbers_below}
 use Rattle.pfair_replica.proofs.Marks.{same_said, below_agree, frontier_le}
 use Rattle.pfair_replica.proofs.SoundEntries.{read_by_number}
@@ -14,7 +14,7 @@ use Rattle.pfair_table.specs.Ranks.{first_by_rank}
 use Rattle.pfair_ready.specs.Queue.{Queue}
 use Rattle.pfair_admission.specs.Admission.{boundary, announcements}
 use Rattle.pfair_admission.specs.Roster.{Roster}
-use Rattle.pfair_table.specs.declared.pick.Decided.{Decided}
+use Rattle.pfair_table.specs.declared.slot.Decided.{Decided}
 use Rattle.pfair_table.specs.Table.{Settings, Origin, Table, eligible, pick, slot_of, all_ran, history, world, table, decisions}
 use Rattle.pfair_table.specs.Laws.{IsOf}
 use Rattle.pfair_table.specs.Queue.{IsSteady}

@@ -15,7 +15,7 @@ use Rattle.pfair_replica.proofs.Marks.{same_said, mark_le, frontier_le, below_ag
 use Rattle.pfair_admission.specs.Member.{Member, next_key}
 use Rattle.pfair_table.specs.Ranks.{first_by_rank}
 use Rattle.pfair_table.specs.Table.{Settings, Origin, eligible, is_eligible, chosen, pick, members_before, slot_of, table, Story, history, world}
-use Rattle.pfair_table.specs.declared.pick.Pick.{Pick}
+use Rattle.pfair_table.specs.declared.slot.Pick.{Pick}
 use Rattle.pfair_table.specs.Places.{IsFit}
 use Rattle.pfair_table.specs.Laws.{IsPrefixOf, OneTable, PlansGoOn, OnePlan, TablesAreOrdered}
 use Rattle.pfair_table.proofs.Members.{label, named_from}

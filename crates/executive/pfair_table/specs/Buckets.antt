@@ -1,6 +1,6 @@
 -- Rows of a table, found by what their names come to.
 use Rattle.std.specs.Prelude.{ℕ, ◌+◌, ◌*◌, ◌%◌, ◌≡◌, ◌≢◌, ◌≤◌, List, fold, length, slice_get, slice_index, Some}
-use Rattle.pfair_table.specs.declared.pick.Pick.{Pick}
+use Rattle.pfair_table.specs.declared.slot.Pick.{Pick}
 use Rattle.pfair_table.specs.Table.{Table}
 
 -- the bucket that a name falls into: a number below 256 that differs for most names

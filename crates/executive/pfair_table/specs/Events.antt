@@ -1,13 +1,13 @@
 -- What a list of events leaves.
 use Rattle.pfair_replica.specs.ReplicaRows.{replica_of}
-use Rattle.pfair_table.specs.declared.event.Event.{Event}
-use Rattle.pfair_table.specs.declared.event.Event.TheVariants.{Take, Absorb, Plan}
+use Rattle.pfair_table.specs.declared.run.Event.{Event}
+use Rattle.pfair_table.specs.declared.run.Event.TheVariants.{Take, Absorb, Plan}
 use Rattle.std.specs.Prelude.{ℕ, Bool, not, ◌&&◌, nat_lt, List, [], ◌∷◌, None, ◌++◌, length, ⊤, if◌then◌else◌}
 use Rattle.pfair_entry.specs.Entry.{IsEntry}
 use Rattle.pfair_replica.specs.Replica.{Replica, IsReplica, empty_replica, has_torn, frontier, said}
 use Rattle.pfair_replica.specs.Offered.{taken, absorbed}
 use Rattle.pfair_table.specs.Table.{Settings, Origin, Table, table, decisions}
-use Rattle.pfair_table.specs.declared.pick.Decided.{Decided}
+use Rattle.pfair_table.specs.declared.slot.Decided.{Decided}
 
 -- what can come: an entry within its limits, or a replica
 abbrev pub IsEvent : Event → Type 0

@@ -4,8 +4,8 @@ use Rattle.pfair_table.specs.declared.answer.PlanFault.{PlanFault}
 use Rattle.pfair_table.specs.declared.answer.PlanFault.TheVariants.{Torn, Spent, Memory}
 use Rattle.pfair_table.specs.declared.answer.NextRunFault.{NextRunFault}
 use Rattle.pfair_table.specs.declared.answer.NextRunFault.TheVariants as next
-use Rattle.pfair_table.specs.declared.run_fault.RunFault.{RunFault}
-use Rattle.pfair_table.specs.declared.run_fault.RunFault.TheVariants as run
+use Rattle.pfair_table.specs.declared.answer.RunFault.{RunFault}
+use Rattle.pfair_table.specs.declared.answer.RunFault.TheVariants as run
 
 abbrev pub plan_fault_number : PlanFault → ℕ
 plan_fault_number (Torn proc number) = 30

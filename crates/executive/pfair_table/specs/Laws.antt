@@ -4,7 +4,7 @@ use Rattle.std.specs.List.{AllByRecursion}
 use Rattle.pfair_weight.specs.Name.{NamesApart}
 use Rattle.pfair_order.specs.Order.{GoesBefore}
 use Rattle.pfair_replica.specs.Replica.{Replica, IsReplica, Below, Untorn, Agree, mark, frontier, said}
-use Rattle.pfair_table.specs.declared.event.Event.{Event}
+use Rattle.pfair_table.specs.declared.run.Event.{Event}
 use Rattle.pfair_table.specs.Events.{IsEvent, begin_at, run}
 use Rattle.pfair_table.specs.Places.{IsFit}
 use Rattle.pfair_table.specs.Table.{Settings, Origin, members_before, slot_of, world, chosen, table, decisions, plan, history, counted, all_ran}

@@ -7,7 +7,7 @@ use Rattle.pfair_admission.specs.Admission.{Machine}
 use Rattle.pfair_admission.specs.Laws.{AreInFrame, HaveRoom}
 use Rattle.pfair_admission.specs.Member.{Member}
 use Rattle.pfair_admission.specs.Restored.{IsLeftAt}
-use Rattle.pfair_table.specs.declared.pick.Pick.{Pick}
+use Rattle.pfair_table.specs.declared.slot.Pick.{Pick}
 use Rattle.pfair_table.specs.Places.{IsFit, ArePlacesOf, is_used}
 use Rattle.pfair_table.specs.Table.{Settings, Carried, Origin, machine, names_task}
 use Rattle.pfair_table.specs.declared.settings.TheConstants.Settings.{MAX_PROCESSORS, MAX_FRAME, MAX_SLOTS}

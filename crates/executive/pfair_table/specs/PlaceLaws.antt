@@ -4,7 +4,7 @@ use Rattle.std.specs.List.{AllByRecursion}
 use Rattle.pfair_ready.specs.Names.{NameValue as Name}
 use Rattle.pfair_replica.specs.Replica.{Agree}
 use Rattle.pfair_replica.specs.ReplicaRows.{replica_of}
-use Rattle.pfair_table.specs.declared.event.Event.{Event}
+use Rattle.pfair_table.specs.declared.run.Event.{Event}
 use Rattle.pfair_table.specs.Events.{IsEvent, begin_at, run}
 use Rattle.pfair_table.specs.Limits.{IsOrigin}
 use Rattle.pfair_table.specs.Table.{Settings, Origin, Table, names_task}

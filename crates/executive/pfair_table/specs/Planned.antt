@@ -3,8 +3,8 @@ use Rattle.std.specs.Prelude.{ℕ, ◌≡◌, ◌+◌, ◌<◌, ◌≤◌, Vec, 
 use Rattle.std.specs.declared.alloc.Global.{Global}
 use Rattle.pfair_replica.specs.ReplicaRows.{ReplicaRows, replica_of}
 use Rattle.pfair_replica.specs.Replica.{numbers_below, said}
-use Rattle.pfair_table.specs.declared.pick.Pick.{Pick}
-use Rattle.pfair_table.specs.declared.pick.Decided.{Decided}
+use Rattle.pfair_table.specs.declared.slot.Pick.{Pick}
+use Rattle.pfair_table.specs.declared.slot.Decided.{Decided}
 use Rattle.pfair_table.specs.declared.planned.PlannedSlot.{PlannedSlot}
 use Rattle.pfair_table.specs.declared.settings.TheConstants.Settings.{MAX_SLOTS}
 use Rattle.pfair_table.specs.Places.{places_in}

@@ -1,13 +1,13 @@
 -- The plan of one slot, and what it takes for granted.
 use Rattle.std.specs.Prelude.{ℕ, ◌≡◌, ◌≤◌, ◌<◌, List, map, length}
-use Rattle.pfair_entry.specs.declared.said.Said.{Said}
+use Rattle.pfair_entry.specs.declared.entry.Said.{Said}
 use Rattle.pfair_replica.specs.ReplicaRows.{ReplicaRows, replica_of}
 use Rattle.pfair_replica.specs.Replica.{Untorn, said}
 use Rattle.pfair_admission.specs.Admission.{boundary, boundary_decisions, announcements}
 use Rattle.pfair_admission.specs.Member.{Member}
 use Rattle.pfair_admission.specs.Roster.{Roster}
 use Rattle.pfair_admission.specs.declared.decision.Decision.{Decision}
-use Rattle.pfair_table.specs.declared.readings.Reading.{Reading}
+use Rattle.pfair_table.specs.declared.planner.Reading.{Reading}
 use Rattle.pfair_table.specs.declared.script.TheConstants.Script.{LONGEST_LOG}
 use Rattle.pfair_table.specs.declared.slot.SlotPlan.{SlotPlan}
 use Rattle.pfair_table.specs.Laws.{IsOf}

@@ -4,7 +4,7 @@ use Rattle.std.specs.Option.{ForSome}
 use Rattle.std.specs.List.{list_any}
 use Rattle.pfair_entry.specs.Same.{name_eq}
 use Rattle.pfair_entry.specs.Names.{name_of}
-use Rattle.pfair_entry.specs.declared.said.Said.{Said}
+use Rattle.pfair_entry.specs.declared.entry.Said.{Said}
 use Rattle.std.specs.FinMap as finmap
 use Rattle.pfair_weight.specs.Name.{NamesApart}
 use Rattle.pfair_weight.specs.declared.window.TheConstants.{MAX_INDEX}

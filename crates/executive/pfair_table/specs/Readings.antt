@@ -1,10 +1,10 @@
 -- What the sound beginnings say, as far as they were read.
 use Rattle.std.specs.Prelude.{ℕ, ◌≡◌, ◌≤◌, ◌<◌, List, [], sum_by, length, take, flat_map, Some, slice_get}
 use Rattle.pfair_entry.specs.Entry.{Logged}
-use Rattle.pfair_entry.specs.declared.said.Said.{Said}
+use Rattle.pfair_entry.specs.declared.entry.Said.{Said}
 use Rattle.pfair_replica.specs.Agenda.{said_at}
 use Rattle.pfair_replica.specs.Replica.{Replica, IsReplica, Untorn, sound_beginning, said_in}
-use Rattle.pfair_table.specs.declared.readings.Reading.{Reading}
+use Rattle.pfair_table.specs.declared.planner.Reading.{Reading}
 
 -- so many entries of the sound beginning of processor k were read, and this is what they say
 pub record IsReadingOf (k : ℕ) (beginning : List Logged) (reading : Reading) : Type 0 where

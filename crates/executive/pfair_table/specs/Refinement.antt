@@ -8,15 +8,15 @@ use Rattle.pfair_replica.specs.declared.answer.MergeFault.TheVariants as merge
 use Rattle.pfair_ready.specs.Queue.{Queue}
 use Rattle.pfair_admission.specs.Member.{Member}
 use Rattle.pfair_admission.specs.Roster.{Roster}
-use Rattle.pfair_table.specs.declared.pick.Decided.{Decided}
+use Rattle.pfair_table.specs.declared.slot.Decided.{Decided}
 use Rattle.pfair_table.specs.declared.answer.Step.{Step}
 use Rattle.pfair_table.specs.declared.answer.Step.TheVariants.{Planned, Waiting, Done}
 use Rattle.pfair_table.specs.declared.answer.PlanFault.{PlanFault}
 use Rattle.pfair_table.specs.declared.answer.PlanFault.TheVariants.{Torn, Spent, Memory}
 use Rattle.pfair_table.specs.declared.script.TheConstants.Script.{LONGEST_LOG}
 use Rattle.pfair_table.specs.Table.{Settings, Origin, Table, machine, slot_of, history, table, decisions, plan, plan_decisions}
-use Rattle.pfair_table.specs.declared.event.Event.{Event}
-use Rattle.pfair_table.specs.declared.event.Event.TheVariants.{Take, Absorb, Plan}
+use Rattle.pfair_table.specs.declared.run.Event.{Event}
+use Rattle.pfair_table.specs.declared.run.Event.TheVariants.{Take, Absorb, Plan}
 use Rattle.pfair_table.specs.Events.{Course, is_plannable}
 use Rattle.pfair_table.specs.Limits.{IsOrigin}
 use Rattle.pfair_table.specs.Laws.{IsOf}

@@ -8,7 +8,7 @@ use Rattle.pfair_entry.specs.Entry.{IsWeighed}
 use Rattle.pfair_admission.specs.Member.{Member, lag_at, next_key}
 use Rattle.pfair_admission.specs.Admission.{announcements, member_named, present}
 use Rattle.pfair_admission.specs.Carried.{jobs_done, carried, taken_off, all_raised}
-use Rattle.pfair_table.specs.declared.pick.Pick.{Pick}
+use Rattle.pfair_table.specs.declared.slot.Pick.{Pick}
 use Rattle.pfair_table.specs.Table.{Settings, Carried, Origin, Story, Table, History, machine, slot_of, members_before, history, world, table, decisions}
 use Rattle.pfair_table.specs.Places.{table_before, places_before, places_in}
 use Rattle.pfair_table.specs.Planned.{last_or}

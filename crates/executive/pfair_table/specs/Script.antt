@@ -3,7 +3,7 @@ use Rattle.std.specs.Prelude.{ℕ, zero, suc, ◌≡◌, Bool, IsTrue, nat_le, m
 use Rattle.std.specs.List.{list_all}
 use Rattle.std.specs.declared.alloc.Global.{Global}
 use Rattle.pfair_lattice.specs.Held.{Held}
-use Rattle.pfair_lattice.specs.declared.flat.Flat.TheVariants.{One}
+use Rattle.pfair_lattice.specs.declared.join_map.Flat.TheVariants.{One}
 use Rattle.pfair_entry.specs.Entry.{Logged}
 use Rattle.pfair_replica.specs.Replica.{Replica, Contents}
 use Rattle.pfair_table.specs.Table.{Settings}

@@ -1,6 +1,6 @@
 -- Which subtasks run in each slot, as far as a replica settles it.
-use Rattle.pfair_table.specs.declared.pick.Pick.{Pick}
-use Rattle.pfair_table.specs.declared.pick.Decided.{Decided}
+use Rattle.pfair_table.specs.declared.slot.Pick.{Pick}
+use Rattle.pfair_table.specs.declared.slot.Decided.{Decided}
 use Rattle.std.specs.Prelude.{ℕ, zero, suc, ◌+◌, min, Bool, not, ◌&&◌, nat_le, List, [], ◌∷◌, ◌++◌, map, filter, count_by, drop, Option, Some, None}
 use Rattle.std.specs.List.{list_any, zip}
 use Rattle.pfair_ready.specs.Names.{NameValue as Name}
@@ -8,7 +8,7 @@ use Rattle.pfair_order.specs.declared.Key.{Key}
 use Rattle.pfair_table.specs.Ranks.{first_by_rank}
 use Rattle.pfair_entry.specs.Same.{name_eq}
 use Rattle.pfair_replica.specs.Replica.{Replica, said, frontier, numbers_below}
-use Rattle.pfair_entry.specs.declared.said.Said.{Said}
+use Rattle.pfair_entry.specs.declared.entry.Said.{Said}
 use Rattle.pfair_admission.specs.Admission.{Machine, member_named, announcements, boundary, boundary_decisions, ran}
 use Rattle.pfair_admission.specs.Member.{Member, is_departing, eligible_from, next_key}
 use Rattle.pfair_admission.specs.declared.decision.Decision.{Decision}

@@ -7,20 +7,13 @@
 #![tactic(auto)]
 
 mod answer;
-mod buckets;
 mod dispatcher;
-mod event;
 pub mod laws;
 mod next_run;
-mod origin;
-mod pick;
 mod places;
 mod planned;
 mod planner;
-mod readings;
-mod room;
 mod run;
-mod run_fault;
 mod script;
 mod settings;
 mod single;
@@ -28,16 +21,13 @@ mod slot;
 mod slot_planner;
 mod state;
 
-pub use answer::{NextRunFault, PlanFault, Step};
+pub use answer::{NextRunFault, PlanFault, RunFault, Step};
 pub use dispatcher::Dispatcher;
-pub use event::Event;
-pub use pick::{Decided, Pick};
 pub use planned::Run;
-pub use run::run_events;
-pub use run_fault::RunFault;
+pub use run::{Event, run_events};
 pub use script::Script;
 pub use settings::Settings;
 pub use single::take_script;
-pub use slot::SlotPlan;
+pub use slot::{Decided, Pick, SlotPlan};
 pub use slot_planner::SlotPlanner;
 pub use state::State;

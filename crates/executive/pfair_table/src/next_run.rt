@@ -12,11 +12,10 @@ ghost use Rattle.pfair_table.specs.Refinement.{course_of};
 
 use crate::answer::{NextRunFault, Step};
 use crate::dispatcher::Dispatcher;
-use crate::origin::{Origin, slot_of};
 use crate::planned::Planned;
 use crate::planner::Planner;
 use crate::settings::Settings;
-use crate::state::State;
+use crate::state::{Origin, State, slot_of};
 use pfair_admission::Members;
 use pfair_ready::Ready;
 use pfair_replica::Replica;

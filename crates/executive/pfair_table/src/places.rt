@@ -1,14 +1,15 @@
 //! Places: which processor runs each row of a table, where a task that goes on running stays where
 //! it is.
-ghost use Rattle.std.specs.Prelude.{ℕ, ◌≡◌, ◌≤◌, ◌<◌, ◌+◌, ◌^◌, ◌∷◌, [], List, IfOk, OnOk, length};
+ghost use Rattle.std.specs.Prelude.{ℕ, ◌≡◌, ◌≤◌, ◌<◌, ◌+◌, ◌^◌, ◌∷◌, [], List, IfOk, OnOk, length, slice_get};
 ghost use Rattle.std.specs.List.{AllByRecursion};
-ghost use Rattle.pfair_table.specs.Places.{kept_places, all_kept, free_place, filled, places_after, IsFit};
+ghost use Rattle.pfair_table.specs.Places.{kept_places, all_kept, free_place, filled, places_after, IsFit, place_of};
 ghost use Rattle.pfair_table.specs.PlacesInUse.{AreInUse};
+ghost use Rattle.pfair_weight.specs.Name.{NamesApart};
+ghost use Rattle.pfair_table.specs.Buckets.{bucket, AreBucketsOf};
 
-use crate::buckets::{Buckets, find_place};
-use crate::pick::Pick;
-use crate::room::emptied;
 use crate::settings::Settings;
+use crate::slot::{Pick, emptied};
+use pfair_weight::TaskName;
 use std::alloc::AllocError;
 
 // The most rows of a table that are gone through for each task: with more, buckets cost less.
@@ -127,4 +128,71 @@ fn use_least(in_use: &mut u64) -> u8
     let place = in_use.trailing_ones() as u8;
     *in_use |= 1 << place;
     place
+}
+
+/// The rows of a table by buckets: for each of 256 buckets, into which names fall, one more than
+/// the last of its rows, or 0.
+#[derive(Drop)]
+pub(crate) struct Buckets {
+    pub ends: [u8; 256],
+}
+
+impl Buckets {
+    /// Those of a table of at most 64 rows.
+    pub(crate) fn of(table: &[Pick]) -> Buckets
+        requires { length table.now ≤ Settings.MAX_PROCESSORS }
+        ensures { AreBucketsOf table.now result.ends }
+    {
+        let mut ends = [0; 256];
+        for (row, pick) in table.iter().enumerate() {
+            ends[bucket_of(&pick.name) as usize] = row as u8 + 1;
+        }
+        Buckets { ends }
+    }
+
+    /// The place of a task in the table, whose rows have these places. O(1), and O(rows) if two
+    /// tasks of the table are in its bucket.
+    pub(crate) fn place(&self, table: &[Pick], places: &[u8], name: &TaskName) -> Option<u8>
+        requires of { AreBucketsOf table.now self.now.ends }
+        requires once { NamesApart (λ p. p.name) table.now }
+        ensures { result ≡ place_of table.now places.now name.now }
+    {
+        let end = self.ends[bucket_of(name) as usize];
+        if end == 0 {
+            return None;
+        }
+        let row = end as usize - 1;
+        if table[row].name == *name {
+            return place_of_row(places, row);
+        }
+        find_place(table, places, name)
+    }
+}
+
+fn bucket_of(name: &TaskName) -> u8
+    ensures value { result ≡ bucket name.now }
+    ensures within { result < 256 }
+{
+    name.as_bytes().iter().fold(0, |so_far: u8, byte| {
+        so_far.wrapping_mul(31).wrapping_add(*byte)
+    })
+}
+
+// The place of a row.
+fn place_of_row(places: &[u8], row: usize) -> Option<u8>
+    ensures { result ≡ slice_get places.now row }
+{
+    places.get(row).copied()
+}
+
+// The place of a task in a table with those places. O(rows of the table).
+fn find_place(table: &[Pick], places: &[u8], name: &TaskName) -> Option<u8>
+    ensures { result ≡ place_of table.now places.now name.now }
+{
+    for (pick, place) in table.iter().zip(places.iter()) {
+        if *name == pick.name {
+            return Some(*place);
+        }
+    }
+    None
 }

@@ -5,11 +5,10 @@ ghost use Rattle.std.specs.List.{AllByRecursion};
 ghost use Rattle.pfair_table.specs.Places.{places_in, table_before, places_before, IsFit};
 ghost use Rattle.pfair_table.specs.Planned.{last_or, as_tables, as_places, with_next, IsNext};
 
-use crate::origin::{Origin, slot_before};
-use crate::pick::{Decided, Pick};
 use crate::places::places_beside;
 use crate::settings::Settings;
-use crate::slot::SlotPlan;
+use crate::slot::{Decided, Pick, SlotPlan};
+use crate::state::{Origin, slot_before};
 use pfair_replica::Replica;
 use std::alloc::{AllocError, Global};
 use std::collections::VecDeque;

@@ -1,4 +1,4 @@
-//! What a list of events leaves.
+//! What can happen to a dispatcher, and what a list of such events leaves.
 ghost use Rattle.std.specs.Prelude.{◌≡◌, false, IfOk, OnErr, OnOk};
 ghost use Rattle.pfair_replica.specs.ReplicaRows.{IsShape, replica_of};
 ghost use Rattle.pfair_replica.specs.Faults.{IsTakeFaultOf};
@@ -10,12 +10,29 @@ ghost use Rattle.pfair_table.specs.Refinement.{CanFail, course_of};
 
 use crate::answer::PlanFault;
 use crate::dispatcher::Dispatcher;
-use crate::event::Event;
 use crate::settings::Settings;
 use pfair_entry::Entry;
 use pfair_ready::Ready;
-use pfair_replica::{MergeFault, TakeFault};
+use pfair_replica::{MergeFault, Replica, TakeFault};
 use std::alloc::{AllocError, Global};
+
+/// What can happen to a dispatcher.
+#[derive(Drop)]
+pub enum Event {
+    /// An entry comes: that of this processor (from 0) with this number (from 1).
+    Take {
+        /// The processor in whose log it stands.
+        proc: u8,
+        /// Its number in that log.
+        number: u32,
+        /// The entry.
+        entry: Entry,
+    },
+    /// All entries of another replica come.
+    Absorb(Replica),
+    /// The next slot is to be planned.
+    Plan,
+}
 
 /// Returns the dispatcher that a list of events leaves, from one that holds nothing. An event that is
 /// refused changes nothing, and the run goes on. The cost is that of the events.

@@ -2,12 +2,12 @@
 ghost use Rattle.std.specs.Prelude.{◌≡◌, ◌+◌, ◌<◌, ◌≤◌, List, [], IfOk, IfErr, OnOk, Some, None, false, slice_get, length, take};
 ghost use Rattle.pfair_replica.specs.ReplicaRows.{replica_of};
 ghost use Rattle.pfair_table.specs.Script.{held_of, replica_of_logs};
-ghost use Rattle.pfair_table.specs.declared.run_fault.RunFault.TheVariants.{Stalled};
+ghost use Rattle.pfair_table.specs.declared.answer.RunFault.TheVariants.{Stalled};
 ghost use Rattle.pfair_entry.specs.Entry.{Logged};
 
+use crate::answer::RunFault;
 use crate::dispatcher::Dispatcher;
 use crate::run::offer;
-use crate::run_fault::RunFault;
 use crate::script::Script;
 use pfair_entry::Entry;
 use pfair_ready::Ready;

@@ -1,5 +1,5 @@
-//! The steps of a slot: the boundary, the ready structure, and the quanta.
-ghost use Rattle.std.specs.Prelude.{◌≡◌, ◌≤◌, ◌<◌, ◌+◌, Some, IfOk, OnOk, map, length};
+//! What is planned of a slot, and its steps: the boundary, the ready structure, and the quanta.
+ghost use Rattle.std.specs.Prelude.{◌≡◌, ◌≤◌, ◌<◌, ◌+◌, Some, IfOk, OnOk, map, length, [], vec_capacity};
 ghost use Rattle.std.specs.Option.{ForSome};
 ghost use Rattle.std.specs.List.{AllByRecursion};
 ghost use Rattle.pfair_weight.specs.Name.{NamesApart};
@@ -11,14 +11,34 @@ ghost use Rattle.pfair_table.specs.Table.{with_decisions, pick, all_ran};
 ghost use Rattle.pfair_weight.specs.declared.window.TheConstants.{MAX_INDEX};
 ghost use Rattle.pfair_table.specs.Queue.{IsQueue, IsQueueBut, IsQueueWithout, IsNotifiedOf, MayRun, keys_of};
 
-use crate::pick::{Decided, Pick};
-use crate::room::emptied;
-use pfair_admission::Members;
-use pfair_entry::Said;
+use pfair_admission::{Decision, Members};
+use pfair_entry::{Announcement, Said};
 use pfair_ready::{Ready, Seated};
 use pfair_weight::TaskName;
 use std::alloc::{AllocError, Global};
 use std::mem;
+
+/// A quantum of a slot: which task has it, and for which of its subtasks.
+#[derive(Clone, Copy, Debug, PartialEq, Eq)]
+pub struct Pick {
+    /// The task.
+    pub name: TaskName,
+    /// The index of its subtask, counted from 1.
+    pub index: u64,
+}
+
+/// An announcement, the entry that makes it, and what was decided on it.
+#[derive(Clone, Copy, Debug, PartialEq, Eq)]
+pub struct Decided {
+    /// The processor in whose log the entry stands, counted from 0.
+    pub proc: u8,
+    /// The entry's number in that log, counted from 1.
+    pub number: u32,
+    /// What is announced.
+    pub announcement: Announcement,
+    /// What was decided on it.
+    pub decision: Decision,
+}
 
 /// The plan of a slot.
 #[derive(Debug, Drop)]
@@ -64,12 +84,8 @@ pub(crate) fn decide_all(
         .collect(alloc)
 }
 
-/// Notifies the ready structure of one task.
-pub(crate) fn notify_of<R: Ready>(
-    ready: &mut R,
-    members: &Members,
-    name: &TaskName,
-) -> Result<(), AllocError>
+// Notifies the ready structure of one task.
+fn notify_of<R: Ready>(ready: &mut R, members: &Members, name: &TaskName) -> Result<(), AllocError>
     ensures notified { OnOk result (IsNotifiedOf name.now members.now.members (R.held ready.old) (R.held ready.new)) }
     ensures time { R.now ready.new ≡ R.now ready.old }
 {
@@ -115,9 +131,9 @@ pub(crate) fn ready_of<R: Ready>(alloc: Global, members: &Members) -> Result<R, 
     Ok(ready)
 }
 
-/// Gives each of these keys a quantum, and inserts the next subtask of its task. The table reuses
-/// the memory of `room`.
-pub(crate) fn run_each<R: Ready>(
+// Gives each of these keys a quantum, and inserts the next subtask of its task. The table reuses
+// the memory of `room`.
+fn run_each<R: Ready>(
     ready: &mut R,
     members: &mut Members,
     first: &[Seated],
@@ -175,4 +191,14 @@ pub(crate) fn give_quanta<R: Ready>(
     let table = run_each(ready, members, &first, room);
     *keys = first;
     table
+}
+
+/// A list without what it has, with room for so many elements. It allocates if it has less.
+pub(crate) fn emptied<T: Drop>(mut list: Vec<T>, count: usize) -> Result<Vec<T>, AllocError>
+    ensures items { IfOk result (λ first. first.items ≡ []) }
+    ensures capacity { IfOk result (λ first. count ≤ vec_capacity first) }
+{
+    list.clear();
+    list.reserve(count)?;
+    Ok(list)
 }

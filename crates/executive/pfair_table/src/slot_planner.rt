@@ -8,14 +8,12 @@ ghost use Rattle.pfair_table.specs.ScriptRun.{IsBySlot, IsScriptFaultOf};
 ghost use Rattle.pfair_table.specs.Refinement.{after_fault, IsPlanFault, IsWholePlan};
 ghost use Rattle.pfair_table.specs.SlotPlans.{IsNextPlan, after_plan, seeing};
 
-use crate::answer::{PlanFault, Step};
-use crate::pick::Pick;
+use crate::answer::{PlanFault, RunFault, Step};
 use crate::planner::Planner;
-use crate::run_fault::RunFault;
 use crate::script::Script;
 use crate::settings::Settings;
 use crate::single::{check_settled, take_script};
-use crate::slot::SlotPlan;
+use crate::slot::{Pick, SlotPlan};
 use pfair_ready::Ready;
 use pfair_replica::Replica;
 use std::alloc::{AllocError, Global};

@@ -1,13 +1,13 @@
-//! What a run begins with.
-ghost use Rattle.std.specs.Prelude.{◌≡◌, ◌≤◌, ◌==◌, [], IfOk, OnErr, if◌then◌else◌};
+//! What a run begins with: at slot 0 without members, or with what the run before has left.
+ghost use Rattle.std.specs.Prelude.{◌≡◌, ◌≤◌, ◌==◌, [], IfOk, OnErr, if◌then◌else◌, ◌<◌, ◌^◌, None};
 ghost use Rattle.pfair_admission.specs.declared.members.TheConstants.Members.{LAST_SLOT};
 ghost use Rattle.pfair_entry.specs.Same.{name_eq};
-ghost use Rattle.pfair_table.specs.Limits.{AreLeftAt, IsState, can_add_row, first_state, with_row};
-ghost use Rattle.pfair_table.specs.Places.{is_used};
-ghost use Rattle.pfair_table.specs.Table.{names_task};
+ghost use Rattle.pfair_table.specs.Limits.{AreLeftAt, IsState, can_add_row, first_state, with_row, IsOrigin};
+ghost use Rattle.pfair_table.specs.Places.{is_used, table_before, places_before};
+ghost use Rattle.pfair_table.specs.Table.{names_task, machine, slot_of, members_before};
 
-use crate::pick::Pick;
 use crate::settings::Settings;
+use crate::slot::Pick;
 use pfair_admission::Members;
 use pfair_weight::TaskName;
 use std::alloc::{AllocError, Global};
@@ -166,4 +166,45 @@ fn is_used(places: &[u8], place: u8) -> bool
             ensures { result ≡ (used.now == place) }
         { *used == place },
     )
+}
+
+/// What a run takes over, if it isn't the first.
+pub(crate) type Origin = Option<State>;
+
+/// Returns the members before the run's first slot.
+pub(crate) fn first_members(
+    alloc: Global,
+    origin: &Origin,
+    settings: Settings,
+) -> Result<Members, AllocError>
+    requires { IsOrigin origin.now settings }
+    ensures { IfOk result (λ members. members ≡ record { machine = machine settings; members = members_before origin.now; heard = 0; last_slot = None }) }
+{
+    let Some(state) = origin else {
+        return Ok(Members::new(alloc, settings.processors(), settings.frame()));
+    };
+    // members that a run left can be carried, and stay as they are
+    state.members.carried()
+}
+
+/// Returns slot `slot` of the run, counted from the first run's first slot.
+pub(crate) fn slot_of(origin: &Origin, slot: u64) -> u64
+    requires { slot_of origin.now slot < 2 ^ 64 }
+    ensures { result ≡ slot_of origin.now slot }
+{
+    match origin {
+        Some(state) => state.slot + slot,
+        None => slot,
+    }
+}
+
+/// Returns the table of the slot before the run and its places, or no rows in a first run.
+pub(crate) fn slot_before(origin: &Origin) -> (&[Pick], &[u8])
+    ensures table { result.0.now ≡ table_before origin.now }
+    ensures places { result.1.now ≡ places_before origin.now }
+{
+    match origin {
+        Some(state) => (&state.table, &state.places),
+        None => (&[], &[]),
+    }
 }

@@ -16,7 +16,7 @@ use Rattle.pfair_file.specs.ProgramFaults.{is_refusal}
 use Rattle.pfair_feed.specs.Feeding.{HasFailed, HasStood, IsCaughtUp, IsFedLine, IsTakenFrom}
 use Rattle.pfair_feed.proofs.Going.{stays}
 use Rattle.std.proofs.lemmas.Bool.{and_parts, eqb-true, ltb-true}
-use Rattle.pfair_lattice.specs.declared.flat.Flat.TheVariants.{One, Torn}
+use Rattle.pfair_lattice.specs.declared.join_map.Flat.TheVariants.{One, Torn}
 use Rattle.pfair_lattice.specs.Held.{Held, held_join}
 use Rattle.pfair_entry.specs.Exact.{entry_exact}
 use Rattle.pfair_entry.specs.Same.{entry_eq}

@@ -3,7 +3,7 @@ use Rattle.std.proofs.Common.{ℕ, ◌+◌, ◌<◌, ◌≤◌, ◌≡◌, inl, 
 use Rattle.std.specs.Prelude.{◌⊎◌}
 use Rattle.std.specs.List.{AllByRecursion}
 use Rattle.std.proofs.lemmas.Bool.{and_parts, leb-true, ltb-true}
-use Rattle.pfair_lattice.specs.declared.flat.Flat.TheVariants.{One}
+use Rattle.pfair_lattice.specs.declared.join_map.Flat.TheVariants.{One}
 use Rattle.pfair_lattice.specs.Held.{HeldBelow}
 use Rattle.pfair_entry.specs.Entry.{Logged}
 use Rattle.pfair_entry_row.specs.Laws.{EachEntryHasItsRow, RowsAreLines}
@@ -22,8 +22,8 @@ use Rattle.pfair_lattice.specs.HeldLaws.{below_antisym}
 use Rattle.pfair_entry.specs.Same.{entry_eq}
 use Rattle.pfair_entry.specs.Exact.{entry_exact}
 use Rattle.pfair_text.specs.Rows.{line}
-use Rattle.pfair_table.specs.declared.event.Event.{Event}
-use Rattle.pfair_table.specs.declared.event.Event.TheVariants.{Take}
+use Rattle.pfair_table.specs.declared.run.Event.{Event}
+use Rattle.pfair_table.specs.declared.run.Event.TheVariants.{Take}
 use Rattle.pfair_feed.specs.declared.output.Output.{Output}
 use Rattle.pfair_feed.specs.RowLaws.{WholeRows, text_of}
 use Rattle.pfair_feed.specs.Rows.{header_of}

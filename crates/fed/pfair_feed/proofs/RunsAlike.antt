@@ -8,7 +8,7 @@ use Rattle.pfair_text.proofs.RowFacts.{lines_text-append}
 use Rattle.pfair_replica.specs.ReplicaRows.{replica_of}
 use Rattle.pfair_replica.specs.Offered.{taken}
 use Rattle.pfair_replica.specs.Replica.{Replica, empty_replica, frontier, numbers_below, said}
-use Rattle.pfair_table.specs.declared.pick.Decided.{Decided}
+use Rattle.pfair_table.specs.declared.slot.Decided.{Decided}
 use Rattle.pfair_table.specs.Events.{Course}
 use Rattle.pfair_table.specs.Laws.{IsOf, IsPrefixOf, OneTable}
 use Rattle.pfair_table.specs.Refinement.{Dispatch, HavePlannedAlike, IsWholePlan}

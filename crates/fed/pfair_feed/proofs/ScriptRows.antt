@@ -7,7 +7,7 @@ use Rattle.std.proofs.lemmas.Grind.{flat_map-append}
 use Rattle.std.proofs.lemmas.List.{append-nil, map-append}
 use Rattle.pfair_text.specs.Rows.{lines_text, line}
 use Rattle.pfair_text.proofs.RowFacts.{first_left, lines_text-append}
-use Rattle.pfair_lattice.specs.declared.flat.Flat.TheVariants.{One}
+use Rattle.pfair_lattice.specs.declared.join_map.Flat.TheVariants.{One}
 use Rattle.pfair_entry.specs.Entry.{Logged}
 use Rattle.pfair_entry_row.specs.Laws.{RowsAreLines}
 use Rattle.pfair_entry.specs.Notice.{IsLoggable}

@@ -11,21 +11,22 @@ ghost use Rattle.pfair_table.specs.Limits.{settings_from};
 ghost use Rattle.pfair_table.specs.NextRun.{IsResumeFault};
 ghost use Rattle.pfair_table.specs.Refinement.{IsWholePlan, course_of};
 ghost use Rattle.pfair_feed.specs.Missing.{is_past};
-ghost use Rattle.pfair_feed.specs.Rows.{header_of};
+ghost use Rattle.pfair_feed.specs.Rows.{header_of, IsBookIfAny, IsBookOf};
 ghost use Rattle.pfair_feed.specs.RoundTrip.{IsBegun};
-ghost use Rattle.pfair_feed.specs.Follow.{HasFollowed, HaveWrittenAlike, IsPlannedOut, IsSameRun, IsStopOf, missing_of, news};
+ghost use Rattle.pfair_feed.specs.Follow.{HasFollowed, HaveWrittenAlike, IsPlannedOut, IsSameRun, IsStopOf, missing_of, news, IsGrown, IsEndOfPlans};
 ghost use Rattle.pfair_file.specs.declared.program_fault.ProgramFault.TheVariants.{Memory, WriteFailed};
 ghost use Rattle.pfair_feed.specs.declared.output.Output.TheVariants.{Lags};
+ghost use Rattle.pfair_replica.specs.Replica.{has_torn};
 
 use crate::output::{Output, write_header, write_rows};
-use crate::planning::plan_all;
 use pfair_entry::Entry;
 use pfair_file::ProgramFault;
 use pfair_lag::LagBook;
 use pfair_lattice::Flat;
+use pfair_output::first_book;
 use pfair_ready::Ready;
 use pfair_replica::Taken;
-use pfair_table::{Dispatcher, NextRunFault, Settings, State};
+use pfair_table::{Dispatcher, NextRunFault, PlanFault, Settings, State, Step};
 use std::alloc::{AllocError, Global};
 use std::io::Write;
 use std::marker::Model;
@@ -293,5 +294,37 @@ impl<R: Ready> Follower<R> {
         prove!(self.dispatcher.next_slot() <= Settings::MAX_SLOTS);
         prove!(other.dispatcher.next_slot() <= Settings::MAX_SLOTS);
         self.dispatcher.plans_alike(&other.dispatcher);
+    }
+}
+
+// Plans as many slots as the contents settle.
+//
+// # Errors
+// Those of [`Dispatcher::plan_next`]; the slots that were planned before stand.
+fn plan_all<R: Ready>(dispatcher: &mut Dispatcher<R>) -> Result<(), PlanFault>
+    ensures grown { IsGrown dispatcher.old dispatcher.new }
+    ensures forgotten { dispatcher.new.forgotten ≡ dispatcher.old.forgotten }
+    ensures whole { OnOk result (IsWholePlan dispatcher.new) }
+    ensures sound { OnOk result ((has_torn (replica_of dispatcher.old.replica) ≡ false) × (dispatcher.old.spent ≡ false) × (dispatcher.new.spent ≡ false)) }
+    ensures fault { IfErr result (IsEndOfPlans dispatcher.old dispatcher.new) }
+{
+    'slots: while let Step::Planned(_) = dispatcher.plan_next()? {}
+    Ok(())
+}
+
+/// Returns the book, or the one before the run's first slot if there is none: it has the lags of the
+/// members that were carried into the run. O(n) for n members.
+pub(crate) fn known_book<R: Ready>(
+    alloc: Global,
+    dispatcher: &Dispatcher<R>,
+    from: u64,
+    book: Option<LagBook>,
+) -> Result<LagBook, AllocError>
+    requires { IsBookIfAny dispatcher.now.origin from dispatcher.now.tables dispatcher.now.decided book }
+    ensures { IfOk result (IsBookOf dispatcher.now.origin from dispatcher.now.tables dispatcher.now.decided) }
+{
+    match book {
+        Some(book) => Ok(book),
+        None => first_book(alloc, dispatcher),
     }
 }

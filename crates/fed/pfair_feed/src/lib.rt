@@ -3,19 +3,15 @@
 //! the rows of entries that a reader gives.
 #![tactic(auto)]
 
-mod book;
 mod complaint;
 mod entries;
 mod follower;
 mod input;
 pub mod laws;
-mod line;
 mod output;
-mod planning;
 
 pub use complaint::{report_dropped, report_missing, report_refused};
 pub use entries::entries_of;
 pub use follower::Follower;
-pub use input::{follow, follow_to_last_slot};
-pub use line::feed;
+pub use input::{feed, follow, follow_to_last_slot};
 pub use output::Output;

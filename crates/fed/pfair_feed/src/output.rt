@@ -6,7 +6,7 @@ ghost use Rattle.pfair_text.specs.Rows.{IsOpen, line, text_so_far};
 ghost use Rattle.pfair_feed.specs.Rows.{IsBookIfAny, IsWholeBook, KeepsUnwritten, header_of, rows_text};
 ghost use Rattle.pfair_file.specs.declared.program_fault.ProgramFault.TheVariants.{Memory, WriteFailed};
 
-use crate::book::known_book;
+use crate::follower::known_book;
 use csv::Writer;
 use pfair_file::ProgramFault;
 use pfair_lag::LagBook;

@@ -4,12 +4,10 @@
 ghost use Rattle.std.specs.Prelude.{IfOk};
 ghost use Rattle.pfair_follow.specs.Runs.{IsFresh};
 
-mod entries;
 mod fault;
 mod rows;
 mod state;
 
-use entries::entries;
 use fault::{FollowFault, write_fault};
 use pfair_feed::{Follower, Output};
 use pfair_file::{ProgramFault, given_words, opened};
@@ -17,7 +15,7 @@ use pfair_ready::HeapReady;
 use pfair_table::Script;
 use pfair_text::send;
 use pfair_words::follow::{Asked, Feed, Start, read_words};
-use rows::{follow_and_leave, follow_rows};
+use rows::{entries, follow_and_leave, follow_rows};
 use state::{later, load, save};
 use std::process::ExitCode;
 

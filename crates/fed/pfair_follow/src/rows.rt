@@ -1,4 +1,4 @@
-//! The commands `replay`, `decisions` and `lags`: rows of a run that is fed by a reader.
+//! What the commands write: the entries of a task file, and rows of a run that is fed by a reader.
 ghost use Rattle.std.specs.Prelude.{ℕ, true, false, ◌≡◌, ◌≢◌, ◌⊎◌, ◌<◌, ◌≤◌, IfErr, IfOk, IsErrOf, OnOk, length};
 ghost use Rattle.std.specs.Io.KnownBytes.{Appends, Keeps};
 ghost use Rattle.pfair_text.specs.Output.{TakesPrefix};
@@ -6,17 +6,22 @@ ghost use Rattle.pfair_feed.specs.Feeding.{IsCaughtUp};
 ghost use Rattle.pfair_file.specs.ProgramFaults.{is_refusal};
 ghost use Rattle.pfair_file.specs.declared.program_fault.ProgramFault.TheVariants.{Memory, Stalled, WriteFailed};
 ghost use Rattle.pfair_follow.specs.Faults.{is_refused};
-ghost use Rattle.pfair_follow.specs.Runs.{AreTakenAll, IsEndOf, IsFollowed, IsFresh, IsSettled, head_from};
-ghost use Rattle.pfair_follow.specs.Runs.{IsFed, IsFedEndOf, IsFedToLast, IsWelcomeAll};
+ghost use Rattle.pfair_follow.specs.Runs.{AreTakenAll, IsEndOf, IsFollowed, IsFresh, IsSettled, head_from, IsFed, IsFedEndOf, IsFedToLast, IsWelcomeAll};
 ghost use Rattle.pfair_follow.specs.Scripts.{IsScriptStalled, IsScriptWritten, OfItsScript};
 ghost use Rattle.pfair_follow.specs.States.{HasLeft, IsEndOfLeaving};
+ghost use Rattle.pfair_file.specs.Commands.{IsCommandOf};
+ghost use Rattle.pfair_file.specs.Schedules.{IsRefusalOf};
+ghost use Rattle.pfair_follow.specs.Entries.{IsOutputOf};
 
 use crate::fault::FollowFault;
 use crate::state::left_text;
 use pfair_feed::laws::{entries_give_their_schedule, lines_are_one, text_is_whole};
-use pfair_feed::{Follower, follow, follow_to_last_slot, report_dropped, report_missing};
-use pfair_file::ProgramFault;
+use pfair_feed::{
+    Follower, entries_of, follow, follow_to_last_slot, report_dropped, report_missing,
+};
+use pfair_file::{ProgramFault, read_script};
 use pfair_ready::Ready;
+use pfair_text::send;
 use std::alloc::Global;
 use std::io::{Read, Write};
 
@@ -166,4 +171,29 @@ fn end<R: Ready, E: Write>(follower: &Follower<R>, complaints: &mut E) -> Result
     }
     let _ = report_dropped(follower, complaints);
     Ok(())
+}
+
+/// Writes the entries of the script that a reader's bytes hold, each as a row: the logs in order of
+/// processors, and in each its entries from number 1 on, with the one that closes it. There is no
+/// header.
+///
+/// The whole text is made before the first byte goes out. No more than 67,108,864 bytes are taken
+/// from the reader, or one more if the file is too long or an allocation fails. The cost is that of
+/// [`read_script`], and O(rows).
+///
+/// # Errors
+/// Those of [`read_script`], and [`ProgramFault::Memory`] if an allocation fails: nothing has then
+/// been written. [`ProgramFault::WriteFailed`] if the writer
+/// answered an error, or took nothing; a prefix of the text has then gone out.
+pub fn entries<R: Read, W: Write>(
+    alloc: Global,
+    reader: &mut R,
+    writer: &mut W,
+) -> Result<(), ProgramFault>
+    ensures { IsCommandOf IsOutputOf IsRefusalOf result
+        (R.remaining reader.old) (R.remaining reader.new) (W.contents writer.old) (W.contents writer.new) }
+{
+    let script = read_script(alloc, reader)?;
+    let text = entries_of(alloc, &script)?;
+    Ok(send(writer, text.as_slice())?)
 }

@@ -11,7 +11,7 @@ use Rattle.pfair_weight.specs.declared.weight.WeightFault.{WeightFault}
 use Rattle.pfair_entry.specs.Entry.{Logged, IsEntry, IsWeighed}
 use Rattle.pfair_entry.specs.EntryFault.{entry_fault}
 use Rattle.pfair_entry.specs.Notice.{announced_fault, first_failing, name_fault, refusal, weight_fault, IsLoggable, IsNamed, IsWellSaid}
-use Rattle.pfair_entry.specs.declared.announcement.Announcement.{Announcement}
+use Rattle.pfair_entry.specs.declared.entry.Announcement.{Announcement}
 use Rattle.pfair_entry.specs.declared.entry.EntryFault.{EntryFault}
 use Rattle.pfair_entry.specs.declared.notice.NoticeFault.TheVariants.{Entry}
 

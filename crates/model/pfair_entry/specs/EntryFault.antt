@@ -1,7 +1,7 @@
 -- What is wrong with a floor and an announcement that make no entry: the first that applies.
 use Rattle.std.specs.Prelude.{ℕ, ◌==◌, nat_lt, ◌||◌, if◌then◌else◌, Option, None, Some, option_and_then}
-use Rattle.pfair_entry.specs.declared.announcement.Announcement.{Announcement}
-use Rattle.pfair_entry.specs.declared.announcement.Announcement.TheVariants.{Arrive, Depart, Late}
+use Rattle.pfair_entry.specs.declared.entry.Announcement.{Announcement}
+use Rattle.pfair_entry.specs.declared.entry.Announcement.TheVariants.{Arrive, Depart, Late}
 use Rattle.pfair_entry.specs.declared.entry.TheConstants.Entry.{LAST_SLOT, LAST_INDEX, LONGEST_DELAY}
 use Rattle.pfair_entry.specs.declared.entry.EntryFault.{EntryFault}
 use Rattle.pfair_entry.specs.declared.entry.EntryFault.TheVariants.{StampTooFar, StampBeforeFloor, BadIndex, BadDelay}

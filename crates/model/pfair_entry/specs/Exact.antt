@@ -3,8 +3,8 @@ use Rattle.std.proofs.Common.{Bool, false, ℕ, ◌≡◌, refl, sym, ap, true, 
 use Rattle.std.specs.Cmp.Lexicographic.{bytes_decides}
 use Rattle.std.proofs.lemmas.Bool.{true≢false, eqb-true, eq-eqb, and_parts, and_from}
 use Rattle.pfair_lattice.specs.Held.{IsExact}
-use Rattle.pfair_entry.specs.declared.announcement.Announcement.{Announcement}
-use Rattle.pfair_entry.specs.declared.announcement.Announcement.TheVariants.{Arrive, Depart, Late}
+use Rattle.pfair_entry.specs.declared.entry.Announcement.{Announcement}
+use Rattle.pfair_entry.specs.declared.entry.Announcement.TheVariants.{Arrive, Depart, Late}
 use Rattle.pfair_entry.specs.Same.{name_eq, same_bool, announcement_eq, said_eq, entry_eq}
 
 pub name_exact : (a b : List ℕ) → name_eq a b ≡ true → a ≡ b

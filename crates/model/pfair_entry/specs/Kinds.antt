@@ -1,9 +1,9 @@
 -- The kinds of announcements: their names, and the fields of each.
 use Rattle.std.specs.Prelude.{ℕ, List, Option, None, Some, bytes_eq, codes, if◌then◌else◌, Result, Ok}
 use Rattle.pfair_entry.specs.Results.{and_then}
-use Rattle.pfair_entry.specs.declared.kind.ChangeFields.{ChangeFields}
-use Rattle.pfair_entry.specs.declared.kind.Kind.{Kind}
-use Rattle.pfair_entry.specs.declared.kind.Kind.TheVariants.{Arrive, Depart, Late}
+use Rattle.pfair_entry.specs.declared.notice.ChangeFields.{ChangeFields}
+use Rattle.pfair_entry.specs.declared.notice.Kind.{Kind}
+use Rattle.pfair_entry.specs.declared.notice.Kind.TheVariants.{Arrive, Depart, Late}
 use Rattle.pfair_entry.specs.declared.notice.Change.{Change}
 use Rattle.pfair_entry.specs.declared.notice.Change.TheVariants as change
 

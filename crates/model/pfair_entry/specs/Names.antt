@@ -1,7 +1,7 @@
 -- The task that an announcement is about.
 use Rattle.std.specs.Prelude.{ℕ, List}
-use Rattle.pfair_entry.specs.declared.announcement.Announcement.{Announcement}
-use Rattle.pfair_entry.specs.declared.announcement.Announcement.TheVariants.{Arrive, Depart, Late}
+use Rattle.pfair_entry.specs.declared.entry.Announcement.{Announcement}
+use Rattle.pfair_entry.specs.declared.entry.Announcement.TheVariants.{Arrive, Depart, Late}
 
 -- the name of the task
 abbrev pub name_of : Announcement → List ℕ

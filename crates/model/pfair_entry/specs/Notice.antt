@@ -12,8 +12,8 @@ use Rattle.pfair_weight.specs.declared.weight.WeightFault.TheVariants as weight
 use Rattle.pfair_entry.specs.Entry.{Logged, IsEntry, IsWeighed}
 use Rattle.pfair_entry.specs.EntryFault.{entry_fault, entry_fault_number}
 use Rattle.pfair_entry.specs.Names.{name_of}
-use Rattle.pfair_entry.specs.declared.announcement.Announcement.{Announcement}
-use Rattle.pfair_entry.specs.declared.announcement.Announcement.TheVariants as said
+use Rattle.pfair_entry.specs.declared.entry.Announcement.{Announcement}
+use Rattle.pfair_entry.specs.declared.entry.Announcement.TheVariants as said
 use Rattle.pfair_entry.specs.declared.notice.Change.{Change}
 use Rattle.pfair_entry.specs.declared.notice.Change.TheVariants.{Arrive, Depart, Late}
 use Rattle.pfair_entry.specs.declared.notice.Notice.{Notice}

@@ -1,8 +1,8 @@
 -- When two entries say the same.
 use Rattle.std.specs.Prelude.{ℕ, Bool, true, false, ◌==◌, ◌&&◌, Option, Some, None}
 pub use Rattle.pfair_weight.specs.Name.{name_eq}
-use Rattle.pfair_entry.specs.declared.announcement.Announcement.{Announcement}
-use Rattle.pfair_entry.specs.declared.announcement.Announcement.TheVariants.{Arrive, Depart, Late}
+use Rattle.pfair_entry.specs.declared.entry.Announcement.{Announcement}
+use Rattle.pfair_entry.specs.declared.entry.Announcement.TheVariants.{Arrive, Depart, Late}
 use Rattle.pfair_entry.specs.Entry.{Logged}
 
 abbrev pub same_bool : Bool → Bool → Bool

@@ -6,17 +6,11 @@
 //! which it takes effect: a task arrives or departs, or its subtasks are released late.
 #![tactic(auto)]
 
-mod announcement;
 mod entry;
-mod kind;
 pub mod laws;
 mod notice;
-mod said;
 mod writer;
 
-pub use announcement::Announcement;
-pub use entry::{Entry, EntryFault};
-pub use kind::{ChangeFields, Kind};
-pub use notice::{Change, Notice, NoticeFault, checked_entry};
-pub use said::{MAX_PROCESSORS, Said};
+pub use entry::{Announcement, Entry, EntryFault, MAX_PROCESSORS, Said};
+pub use notice::{Change, ChangeFields, Kind, Notice, NoticeFault, checked_entry};
 pub use writer::{NoteFault, Writer};

@@ -3,8 +3,7 @@ ghost use Rattle.std.specs.Prelude.{◌≡◌, ◌+◌, ◌<◌, ◌≤◌, IfOk
 ghost use Rattle.pfair_entry.specs.Entry.{IsEntry};
 ghost use Rattle.pfair_entry.specs.Writer.{IsNote, IsNoteFaultOf, note_fault_number};
 
-use crate::announcement::Announcement;
-use crate::entry::{Entry, EntryFault};
+use crate::entry::{Announcement, Entry, EntryFault};
 use std::marker::Model;
 use thiserror::Error;
 

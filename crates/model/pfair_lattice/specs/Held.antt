@@ -1,7 +1,7 @@
 -- What a key holds, by functions: the join and the order at one key.
 use Rattle.std.specs.Prelude.{◌≡◌, ◌↔◌, Bool, true, Option, Some, None, ◌⊎◌, if◌then◌else◌}
-use Rattle.pfair_lattice.specs.declared.flat.Flat.{Flat}
-use Rattle.pfair_lattice.specs.declared.flat.Flat.TheVariants.{One, Torn}
+use Rattle.pfair_lattice.specs.declared.join_map.Flat.{Flat}
+use Rattle.pfair_lattice.specs.declared.join_map.Flat.TheVariants.{One, Torn}
 use Rattle.pfair_lattice.specs.Order.{IsOrder, IsLeastUpperBound}
 use Rattle.pfair_lattice.specs.Flat.{FlatBelow, FlatJoins}
 use Rattle.pfair_lattice.specs.Option.{OptionBelow, OptionJoins}

@@ -3,7 +3,7 @@
 //! A type that joins is a join semilattice, as the states of replicated data types are that merge
 //! by joins (Shapiro, Preguiça, Baquero and Zawirski 2011). So values can be merged in any order,
 //! in any grouping and as often as one likes, with the same outcome.
-ghost use Rattle.std.specs.Prelude.{◌≡◌, ◌↔◌, IsTrue, IfOk, OnOk, OnErr};
+ghost use Rattle.std.specs.Prelude.{◌≡◌, ◌↔◌, IsTrue, IfOk, OnOk, OnErr, true};
 ghost use Rattle.pfair_lattice.specs.Order.{IsOrder, IsLeastUpperBound, IsPartlyJoined, IsJoin, IsCommutative, IsAssociative, IsIdempotent, commutes, associates, idempotent};
 
 use std::alloc::AllocError;
@@ -73,4 +73,32 @@ pub trait Join: Drop {
 
     /// A value joined with itself is itself.
     ghost idempotent_join: { IsIdempotent joins } = { idempotent (record { order = order; least = least }) };
+}
+
+/// A type whose `==` holds of identical values alone, so that what compares equal can stand for one
+/// another.
+///
+/// Keys of a [`JoinMap`](crate::join_map::JoinMap) and contents of a [`Flat`](crate::join_map::Flat)
+/// have to be of such a type.
+pub trait Exact: Copy + Eq {
+    /// Values that are equal are the same.
+    ghost exact: { (x y : Self) → Self.eq x y ≡ true → x ≡ y };
+}
+
+impl Exact for u8 {
+    ghost use Rattle.std.proofs.Common.{rules};
+
+    ghost exact = { λ x y. Prim.search rules };
+}
+
+impl Exact for u32 {
+    ghost use Rattle.std.proofs.Common.{rules};
+
+    ghost exact = { λ x y. Prim.search rules };
+}
+
+impl Exact for u64 {
+    ghost use Rattle.std.proofs.Common.{rules};
+
+    ghost exact = { λ x y. Prim.search rules };
 }

@@ -1,5 +1,6 @@
-//! Maps whose values can be joined, which are joined key by key.
-ghost use Rattle.std.specs.Prelude.{◌≡◌, ◌↔◌, ◌∷◌, [], length, IsTrue, ⊤, Some, IsSome, IfSome, OnSome, IsOk, IfOk, OnOk, OnErr, false};
+//! Maps whose values are joined key by key, and the contents of a key: one value, or the mark that two
+//! different ones met.
+ghost use Rattle.std.specs.Prelude.{◌≡◌, ◌↔◌, IsTrue, IsOk, IfOk, OnOk, ◌∷◌, [], length, ⊤, Some, IsSome, IfSome, OnSome, OnErr, false};
 ghost use Rattle.std.specs.Option.{option_copied, option_copied_mut};
 ghost use Rattle.std.specs.Borrow.{sem};
 ghost use Rattle.pfair_lattice.specs.Lent.{LendsValue};
@@ -8,11 +9,65 @@ ghost use Rattle.pfair_lattice.specs.Entries.{IsOrdered, get, MapBelow, MapJoins
 ghost use Rattle.pfair_lattice.specs.Option.{OptionBelow, OptionOutgrows};
 ghost use Rattle.pfair_lattice.specs.Laws.{map_order, map_least, map_resumes, exact_cmp};
 
-use crate::exact::Exact;
-use crate::join::Join;
+use crate::join::{Exact, Join};
 use std::alloc::{AllocError, Global};
 use std::collections::BTreeMap;
 use std::marker::Model;
+
+/// A content, or `Torn` if two different contents met.
+///
+/// Contents that are equal join to themselves, contents that differ to `Torn`, and whatever joins
+/// with `Torn` is `Torn`. Neither a join nor a copy allocates.
+#[derive(Clone, Copy, Debug, PartialEq, Eq)]
+pub enum Flat<T: Exact> {
+    /// One content.
+    One(T),
+    /// Two contents that differ.
+    Torn,
+}
+
+impl<T: Exact> Join for Flat<T> {
+    ghost use Rattle.pfair_lattice.specs.Flat.{FlatBelow, FlatJoins, flat_order, flat_least};
+
+    ghost below = { FlatBelow };
+
+    ghost joins = { FlatJoins };
+
+    ghost partly = { λ _ _ _. ⊥ };
+
+    ghost takes_memory = { ⊥ };
+
+    ghost outgrows = { λ _ _. ⊥ };
+
+    ghost order = { flat_order };
+
+    ghost least = { flat_least };
+
+    ghost resumes = { λ _ _ _ h. absurd h };
+
+    fn join(&mut self, other: &Flat<T>) -> Result<(), AllocError>
+        ensures never { IsOk result }
+        ensures joined { FlatJoins self.old other.now self.new }
+    {
+        if *self != *other {
+            *self = Flat::Torn;
+        }
+        Ok(())
+    }
+
+    fn le(&self, other: &Flat<T>) -> bool {
+        match other {
+            Flat::Torn => true,
+            Flat::One(_) => *self == *other,
+        }
+    }
+
+    fn copy(&self) -> Result<Flat<T>, AllocError>
+        ensures { result ≡ Ok self.now }
+    {
+        Ok(*self)
+    }
+}
 
 /// A map from keys to values that can be joined, and so a value that can be joined: it nests to any
 /// depth.

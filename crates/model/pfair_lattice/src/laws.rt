@@ -5,8 +5,7 @@ ghost use Rattle.pfair_lattice.specs.Order.{IsOrder, IsLeastUpperBound, IsPartly
 ghost use Rattle.pfair_lattice.specs.Entries.{IsOrdered, get, IsKnownByKeys, IsComparedByKeys};
 ghost use Rattle.pfair_lattice.specs.Held.{IsHeldJoin};
 
-use crate::exact::Exact;
-use crate::join::Join;
+use crate::join::{Exact, Join};
 
 /// `le` is an order: reflexive, transitive and antisymmetric.
 pub fn le_is_an_order<J: Join>()

@@ -27,13 +27,9 @@
 //! contents.
 #![tactic(auto)]
 
-mod exact;
-mod flat;
 mod join;
 mod join_map;
 pub mod laws;
 
-pub use exact::Exact;
-pub use flat::Flat;
-pub use join::Join;
-pub use join_map::JoinMap;
+pub use join::{Exact, Join};
+pub use join_map::{Flat, JoinMap};

@@ -5,7 +5,7 @@ use Rattle.std.proofs.lemmas.List.{map-append}
 use Rattle.std.proofs.lemmas.List.Folds.{fold-map, sum_by-replicate}
 use Rattle.std.proofs.lemmas.Option.{get_or_from_slice_get}
 use Rattle.std.proofs.Math.Seq.{take-length, take-suc}
-use Rattle.pfair_replica.specs.declared.counters.Beginning.{Beginning}
+use Rattle.pfair_replica.specs.declared.rows.Beginning.{Beginning}
 use Rattle.pfair_replica.specs.Counters.{beginning_in, first_mark, least_mark, total_count}
 use Rattle.pfair_replica.specs.Replica.{Replica, numbers_below, mark, frontier, sound_total}
 use Rattle.pfair_replica.proofs.SoundEntries.{some_at}

@@ -4,11 +4,11 @@ use Rattle.std.proofs.Common.{ℕ, zero, suc, ◌+◌, ◌-◌, ◌<◌, ◌≤�
 use Rattle.std.specs.Prelude.{◌⊎◌, ◌≢◌}
 use Rattle.std.proofs.lemmas.Bool.{cases_eq}
 use Rattle.std.proofs.lemmas.List.{append-nil, length_push}
-use Rattle.pfair_lattice.specs.declared.flat.Flat.{Flat}
-use Rattle.pfair_lattice.specs.declared.flat.Flat.TheVariants.{One, Torn}
+use Rattle.pfair_lattice.specs.declared.join_map.Flat.{Flat}
+use Rattle.pfair_lattice.specs.declared.join_map.Flat.TheVariants.{One, Torn}
 use Rattle.pfair_lattice.specs.Held.{Held, HeldBelow}
 use Rattle.pfair_entry.specs.Entry.{Logged}
-use Rattle.pfair_replica.specs.declared.counters.Beginning.{Beginning}
+use Rattle.pfair_replica.specs.declared.rows.Beginning.{Beginning}
 use Rattle.pfair_replica.specs.Replica.{goes_on, run_from, last_floor}
 use Rattle.pfair_replica.specs.Laws.{IsRun}
 use Rattle.pfair_replica.specs.Counters.{beginning_in, IsPart, IsRunBefore, IsLeftAt}

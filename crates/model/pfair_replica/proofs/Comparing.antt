@@ -13,7 +13,7 @@ use Rattle.pfair_lattice.specs.Flat.{FlatBelow}
 use Rattle.pfair_lattice.specs.Option.{OptionOutgrows}
 use Rattle.pfair_replica.specs.ReplicaRows.{IsFull, Row, held_in}
 use Rattle.pfair_lattice.specs.Held.{Held, HeldBelow}
-use Rattle.pfair_lattice.specs.declared.flat.Flat.{Flat}
+use Rattle.pfair_lattice.specs.declared.join_map.Flat.{Flat}
 use Rattle.pfair_lattice.specs.HeldLaws.{below_itself, none_below, below_held, held_below}
 use Rattle.pfair_entry.specs.Entry.{Logged}
 

@@ -2,7 +2,7 @@
 use Rattle.std.proofs.Common.{ℕ, zero, suc, ◌+◌, ◌-◌, ◌≤◌, ◌≡◌, refl, sym, ap, ◌∙◌, subst, arith, inl, inr, ⊎_elim, true, [], Option, Some, None}
 use Rattle.std.specs.Prelude.{◌⊎◌, find, flat_map, slice_get, IsSomeAnd}
 use Rattle.std.specs.Option.{option_map}
-use Rattle.pfair_lattice.specs.declared.flat.Flat.TheVariants.{Torn}
+use Rattle.pfair_lattice.specs.declared.join_map.Flat.TheVariants.{Torn}
 use Rattle.pfair_replica.specs.Key.{EntryKey}
 use Rattle.pfair_replica.specs.Replica.{Contents, Replica, IsReplica, is_torn, entry_key, numbers_below, numbers_to, torn_in, torn_keys}
 use Rattle.pfair_replica.specs.Counters.{ComesFirst, IsFirst, IsTornAt, IsFirstTornIn, IsEarlier}

@@ -2,7 +2,7 @@
 use Rattle.std.proofs.Common.{ℕ, suc, ◌<◌, ◌≤◌, ◌≡◌, refl, sym, ap, ◌∙◌, subst, arith, List, [], ◌∷◌, Some, min}
 use Rattle.std.specs.Prelude.{map, flat_map, fold}
 use Rattle.std.proofs.lemmas.Bool.{ne_eqb}
-use Rattle.pfair_lattice.specs.declared.flat.Flat.TheVariants.{One}
+use Rattle.pfair_lattice.specs.declared.join_map.Flat.TheVariants.{One}
 use Rattle.pfair_lattice.specs.Held.{Held}
 use Rattle.pfair_entry.specs.Entry.{Logged, IsStamped}
 use Rattle.pfair_entry.specs.Exact.{entry_exact}

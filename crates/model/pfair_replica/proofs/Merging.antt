@@ -8,8 +8,8 @@ use Rattle.pfair_lattice.specs.Entries.{get, MapJoins, MapPartly}
 use Rattle.pfair_lattice.specs.Flat.{FlatJoins}
 use Rattle.pfair_lattice.specs.Option.{OptionJoins, OptionPartly}
 use Rattle.pfair_lattice.specs.Held.{Held, held_join, HeldBelow}
-use Rattle.pfair_lattice.specs.declared.flat.Flat.{Flat}
-use Rattle.pfair_lattice.specs.declared.flat.Flat.TheVariants.{One}
+use Rattle.pfair_lattice.specs.declared.join_map.Flat.{Flat}
+use Rattle.pfair_lattice.specs.declared.join_map.Flat.TheVariants.{One}
 use Rattle.pfair_lattice.specs.HeldLaws.{joins_held, below_itself, join_first, join_assoc, join_idem}
 use Rattle.pfair_entry.specs.Entry.{Logged, IsEntry}
 use Rattle.pfair_entry.specs.Same.{entry_eq}

@@ -14,7 +14,7 @@ use Rattle.std.proofs.lemmas.Option.{none-some}
 use Rattle.pfair_lattice.specs.Entries.{get, IsOrdered, MapJoins}
 use Rattle.pfair_lattice.specs.Flat.{FlatJoins}
 use Rattle.pfair_lattice.specs.Held.{held_join}
-use Rattle.pfair_lattice.specs.declared.flat.Flat.TheVariants.{One}
+use Rattle.pfair_lattice.specs.declared.join_map.Flat.TheVariants.{One}
 use Rattle.pfair_lattice.specs.HeldLaws.{joins_held}
 use Rattle.pfair_entry.specs.Entry.{Logged}
 use Rattle.pfair_entry.specs.Same.{entry_eq}

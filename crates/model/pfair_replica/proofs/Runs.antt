@@ -2,7 +2,7 @@
 use Rattle.std.proofs.Common.{ℕ, zero, suc, ◌+◌, ◌-◌, ◌≤◌, ◌≡◌, refl, ap, ◌∙◌, arith, List, [], ◌∷◌, ◌++◌, length, Some, None}
 use Rattle.std.proofs.lemmas.Bool.{leb-true, le-leb}
 use Rattle.std.proofs.lemmas.Option.{none-some, cond_some}
-use Rattle.pfair_lattice.specs.declared.flat.Flat.TheVariants.{One}
+use Rattle.pfair_lattice.specs.declared.join_map.Flat.TheVariants.{One}
 use Rattle.pfair_lattice.specs.Held.{Held}
 use Rattle.pfair_lattice.specs.HeldLaws.{below_itself, below_trans, below_antisym, join_first, join_second, join_least, join_comm, join_assoc, join_idem}
 use Rattle.pfair_entry.specs.Entry.{Logged}

@@ -3,8 +3,8 @@ use Rattle.std.proofs.Common.{ℕ, zero, suc, ◌+◌, ◌≤◌, ◌≡◌, ref
 use Rattle.std.specs.Prelude.{◌≢◌, slice_get, IsSome}
 use Rattle.std.proofs.lemmas.List.{append-nil, drop_all, drop_more}
 use Rattle.std.proofs.lemmas.Option.{slice_get_within, get_or_from_slice_get}
-use Rattle.pfair_entry.specs.declared.announcement.Announcement.{Announcement}
-use Rattle.pfair_entry.specs.declared.said.Said.{Said}
+use Rattle.pfair_entry.specs.declared.entry.Announcement.{Announcement}
+use Rattle.pfair_entry.specs.declared.entry.Said.{Said}
 use Rattle.pfair_entry.specs.Entry.{Logged}
 use Rattle.pfair_replica.specs.Among.{Among}
 use Rattle.pfair_replica.specs.Replica.{Replica, sound_beginning, said_by, said_in, said_behind}

@@ -1,8 +1,8 @@
 -- The entries of sound beginnings, read by their numbers, and kept by a replica that holds more.
 use Rattle.std.proofs.Common.{ℕ, zero, suc, ◌+◌, ◌<◌, ◌≡◌, refl, ap, ◌∙◌, arith, inl, inr, List, [], ◌∷◌, length, Some}
 use Rattle.std.specs.Prelude.{slice_get}
-use Rattle.pfair_lattice.specs.declared.flat.Flat.{Flat}
-use Rattle.pfair_lattice.specs.declared.flat.Flat.TheVariants.{One}
+use Rattle.pfair_lattice.specs.declared.join_map.Flat.{Flat}
+use Rattle.pfair_lattice.specs.declared.join_map.Flat.TheVariants.{One}
 use Rattle.pfair_lattice.specs.Held.{Held}
 use Rattle.pfair_entry.specs.Entry.{Logged}
 use Rattle.pfair_replica.specs.Replica.{Replica, Below, Untorn, sound_beginning}

@@ -7,7 +7,7 @@ use Rattle.std.proofs.lemmas.Bool.{true≢false, or_parts, cases_lt}
 use Rattle.std.proofs.lemmas.List.{append-nil}
 use Rattle.std.proofs.lemmas.Grind.{flat_map-append}
 use Rattle.pfair_lattice.specs.Held.{Held}
-use Rattle.pfair_lattice.specs.declared.flat.Flat.TheVariants.{Torn}
+use Rattle.pfair_lattice.specs.declared.join_map.Flat.TheVariants.{Torn}
 use Rattle.pfair_entry.specs.Entry.{Logged}
 use Rattle.pfair_replica.specs.Among.{Among, below_among}
 use Rattle.pfair_replica.specs.Replica.{Replica, IsReplica, Untorn, is_torn, has_torn, entry_key, numbers_below, numbers_to, torn_in, torn_keys}

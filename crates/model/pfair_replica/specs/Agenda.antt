@@ -1,6 +1,6 @@
 -- The announcements at each slot.
 use Rattle.std.specs.Prelude.{ℕ, ◌≡◌, List, ◌++◌}
-use Rattle.pfair_entry.specs.declared.said.Said.{Said}
+use Rattle.pfair_entry.specs.declared.entry.Said.{Said}
 use Rattle.pfair_replica.specs.BySlot.{listed_at}
 use Rattle.pfair_replica.specs.declared.agenda.Agenda.{Agenda}
 

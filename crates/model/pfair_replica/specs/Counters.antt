@@ -1,9 +1,9 @@
 -- What a replica keeps beside its rows: how far each sound beginning goes, and the first torn key.
 use Rattle.std.specs.Prelude.{ℕ, ◌≡◌, ◌≢◌, ◌<◌, ◌≤◌, ◌+◌, ◌⊎◌, min, List, [], ◌∷◌, fold, sum_by, length, slice_get, Option, Some, None, IsSomeAnd}
-use Rattle.pfair_lattice.specs.declared.flat.Flat.TheVariants.{Torn}
+use Rattle.pfair_lattice.specs.declared.join_map.Flat.TheVariants.{Torn}
 use Rattle.pfair_lattice.specs.Held.{Held, HeldBelow}
 use Rattle.pfair_entry.specs.Entry.{Logged}
-use Rattle.pfair_replica.specs.declared.counters.Beginning.{Beginning}
+use Rattle.pfair_replica.specs.declared.rows.Beginning.{Beginning}
 use Rattle.pfair_replica.specs.Key.{EntryKey}
 use Rattle.pfair_replica.specs.Laws.{IsRun}
 use Rattle.pfair_replica.specs.Replica.{Contents, run_from, last_floor}

@@ -2,7 +2,7 @@
 use Rattle.std.specs.Prelude.{◌≡◌, refl, ◌==◌, ℕ, Some, None}
 use Rattle.std.proofs.Common.{◌∙◌, ap, sym, subst, ⊎_elim, cond}
 use Rattle.std.proofs.lemmas.Bool.{eq-eqb, ne_eqb, cases_eq}
-use Rattle.pfair_lattice.specs.declared.flat.Flat.TheVariants.{One}
+use Rattle.pfair_lattice.specs.declared.join_map.Flat.TheVariants.{One}
 use Rattle.pfair_lattice.specs.Held.{Held, held_join}
 use Rattle.pfair_entry.specs.Entry.{Logged}
 use Rattle.pfair_lattice.specs.HeldLaws.{join_idem}

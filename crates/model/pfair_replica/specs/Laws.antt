@@ -1,7 +1,7 @@
 -- What holds of replicas, their join, and sound beginnings.
 use Rattle.std.specs.Prelude.{ℕ, suc, false, ◌≡◌, ◌<◌, ◌≤◌, List, [], ◌∷◌, ◌++◌, ◌+◌, length, slice_get, Some, ⊤, ◌↔◌}
 use Rattle.std.specs.List.{Contains}
-use Rattle.pfair_lattice.specs.declared.flat.Flat.TheVariants.{One, Torn}
+use Rattle.pfair_lattice.specs.declared.join_map.Flat.TheVariants.{One, Torn}
 use Rattle.pfair_lattice.specs.Held.{Held, held_join}
 use Rattle.pfair_entry.specs.Entry.{Logged, IsEntry}
 use Rattle.pfair_entry.specs.Same.{entry_eq}

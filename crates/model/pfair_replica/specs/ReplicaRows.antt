@@ -3,9 +3,9 @@ use Rattle.std.specs.Prelude.{◌≡◌, ◌≤◌, ◌<◌, ℕ, None, Some, Li
 use Rattle.std.specs.Ordering.{nat_cmp}
 use Rattle.std.specs.Option.{option_and_then}
 use Rattle.pfair_lattice.specs.Entries.{get, IsOrdered}
-use Rattle.pfair_lattice.specs.declared.flat.Flat.{Flat}
+use Rattle.pfair_lattice.specs.declared.join_map.Flat.{Flat}
 use Rattle.pfair_entry.specs.Entry.{Logged}
-use Rattle.pfair_entry.specs.declared.said.TheConstants.{MAX_PROCESSORS}
+use Rattle.pfair_entry.specs.declared.entry.TheConstants.{MAX_PROCESSORS}
 use Rattle.pfair_entry.specs.declared.writer.TheConstants.Writer.{LONGEST_LOG}
 use Rattle.pfair_replica.specs.Replica.{Contents, Replica, IsReplica}
 

@@ -1,7 +1,7 @@
 -- The announcements at a slot, and in which order the lists of a replica stand.
 use Rattle.std.specs.Prelude.{ℕ, ◌≡◌, ◌<◌, ◌+◌, ◌⊎◌, ◌↔◌, slice_get, Some, AllPairs}
 use Rattle.std.specs.List.{Contains}
-use Rattle.pfair_entry.specs.declared.said.Said.{Said}
+use Rattle.pfair_entry.specs.declared.entry.Said.{Said}
 use Rattle.pfair_entry.specs.Entry.{Logged}
 use Rattle.pfair_replica.specs.Key.{EntryKey}
 use Rattle.pfair_replica.specs.Replica.{Replica, sound_beginning, said, torn_keys, fallen_keys}

@@ -6,7 +6,7 @@
 //! itself is read off its sound beginning: the longest run of its entries 1, 2, 3 and so on, none of
 //! them torn, whose floors never fall.
 ghost use Rattle.std.specs.Prelude.{◌≡◌, ◌≢◌, ◌≤◌, ◌↔◌, ◌⊎◌, ◌++◌, ℕ, [], length, slice_get, is_some, IsSome, IsTrue, IfOk, IfErr, OnOk, OnErr, Ok, Err, Some};
-ghost use Rattle.pfair_lattice.specs.declared.flat.Flat.TheVariants.{One};
+ghost use Rattle.pfair_lattice.specs.declared.join_map.Flat.TheVariants.{One};
 ghost use Rattle.pfair_entry.specs.Entry.{Logged, IsEntry};
 ghost use Rattle.pfair_replica.specs.Replica.{IsReplica, join, with_entry, empty_replica, Below, sound_beginning, mark, frontier, sound_total, missing, IsLeastMissing, said_by, said_behind, said, is_torn, has_torn, torn_in, torn_keys, fallen_in, fallen_keys};
 ghost use Rattle.pfair_replica.specs.Agenda.{IsPartOf, said_at};
@@ -16,9 +16,7 @@ ghost use Rattle.pfair_replica.specs.Faults.{IsKeyOf, IsTakenAs, IsTakeFaultOf, 
 
 use crate::agenda::Agenda;
 use crate::answer::{MergeFault, TakeFault, Taken};
-use crate::counters::Counters;
-use crate::key::{EntryKey, Faults};
-use crate::rows::{Rows, empty_rows, held_at, put_entry, row_le};
+use crate::rows::{Counters, EntryKey, Faults, Rows, empty_rows, held_at, put_entry, row_le};
 use pfair_entry::{Entry, Said};
 use pfair_lattice::{Flat, Join};
 use std::alloc::{AllocError, Global};

@@ -4,7 +4,7 @@ use Rattle.std.specs.Int.{div_ceil}
 use Rattle.pfair_weight.specs.Share.{IsWeight}
 use Rattle.pfair_weight.specs.Close.{Close}
 use Rattle.pfair_weight.specs.declared.window.TheConstants.{MAX_CLOSE}
-use Rattle.pfair_weight.specs.declared.cascade.Cascade.TheInside.{Inside}
+use Rattle.pfair_weight.specs.declared.stepper.Cascade.TheInside.{Inside}
 
 abbrev pub close_of : Inside → Close
 close_of a = record { weight = a.weight; close = a.close }

@@ -8,11 +8,9 @@
 //! Srinivasan's papers on PD2 and on intra-sporadic tasks).
 #![tactic(auto)]
 
-pub(crate) mod cascade;
-pub(crate) mod fraction;
 pub mod laws;
 mod name;
-mod stepper;
+pub(crate) mod stepper;
 mod weight;
 mod window;
 

@@ -1,12 +1,12 @@
 //! The windows of a weight's subtasks one after the other, by sums in place of quotients.
-ghost use Rattle.std.specs.Prelude.{◌≡◌, ◌+◌, ◌≤◌, ◌<◌, ◌^◌};
+ghost use Rattle.std.specs.Prelude.{◌≡◌, ◌+◌, ◌≤◌, ◌<◌, ◌^◌, ◌*◌, ◌/◌, ◌%◌};
 ghost use Rattle.pfair_weight.specs.Position.{IsPosition};
-ghost use Rattle.pfair_weight.specs.Window.{release_of, deadline_of, b_bit_of, group_deadline_of};
+ghost use Rattle.pfair_weight.specs.Window.{release_of, deadline_of, b_bit_of, group_deadline_of, cascade_end};
+ghost use Rattle.std.specs.Int.{div_ceil};
+ghost use Rattle.pfair_weight.specs.Ratio.{Ratio, IsSmall};
 
-use crate::cascade::Cascade;
-use crate::fraction::Fraction;
 use crate::weight::Weight;
-use crate::window::{MAX_INDEX, MAX_OFFSET};
+use crate::window::{MAX_CLOSE, MAX_INDEX, MAX_OFFSET};
 use std::marker::Model;
 
 /// What a group deadline is made of.
@@ -164,5 +164,164 @@ impl Stepper {
             Group::Whole => self.deadline(),
             Group::Heavy(cascade) => cascade.end() + self.theta,
         }
+    }
+}
+
+/// A fraction, kept as its whole part and what is left over, so that a sum takes no division.
+#[derive(Debug, Drop)]
+pub(crate) struct Fraction {
+    whole: u64,
+    rest: u64,
+    denominator: u64,
+}
+
+impl Model for Fraction {
+    ghost use Rattle.std.specs.Prelude.{◌+◌, ◌*◌, ◌<◌};
+    ghost use Rattle.pfair_weight.specs.Ratio.{Ratio};
+
+    ghost Value = { Ratio };
+
+    ghost view = { λ f. record { numerator = f.whole * f.denominator + f.rest; denominator = f.denominator } };
+
+    ghost invariant = { λ f. f.rest < f.denominator };
+}
+
+impl Fraction {
+    /// Creates `numerator` over `denominator`.
+    pub fn new(numerator: u64, denominator: u64) -> Self
+        requires { 0 < denominator }
+        ensures { result ≡ record { numerator = numerator; denominator = denominator } }
+    {
+        Fraction {
+            whole: numerator / denominator,
+            rest: numerator % denominator,
+            denominator,
+        }
+    }
+
+    /// Creates `factor * numerator` over `denominator`. The product may need more than 64 bits.
+    pub fn of_product(factor: u64, numerator: u64, denominator: u64) -> Self
+        requires some_denominator { 0 < denominator }
+        requires small { IsSmall record { numerator = factor * numerator; denominator = denominator } }
+        ensures { result ≡ record { numerator = factor * numerator; denominator = denominator } }
+    {
+        let product = factor as u128 * numerator as u128;
+        Fraction {
+            whole: (product / denominator as u128) as u64,
+            rest: (product % denominator as u128) as u64,
+            denominator,
+        }
+    }
+
+    /// Returns the greatest whole number that is not above it.
+    pub fn floor(&self) -> u64
+        ensures { result ≡ self.now.numerator / self.now.denominator }
+    {
+        self.whole
+    }
+
+    /// Returns the least whole number that is not below it.
+    pub fn ceiling(&self) -> u64
+        requires { IsSmall self.now }
+        ensures { result ≡ div_ceil self.now.numerator self.now.denominator }
+    {
+        if self.rest == 0 {
+            self.whole
+        } else {
+            self.whole + 1
+        }
+    }
+
+    /// Adds a fraction of the same denominator.
+    pub fn add(&mut self, other: &Fraction)
+        requires same_denominator { self.old.denominator ≡ other.now.denominator }
+        requires small_denominator { self.old.denominator < 2 ^ 63 }
+        requires small { IsSmall record self.old { numerator = self.old.numerator + other.now.numerator } }
+        ensures { self.new ≡ record self.old { numerator = self.old.numerator + other.now.numerator } }
+    {
+        self.whole += other.whole;
+        self.rest += other.rest;
+        if self.rest >= self.denominator {
+            self.rest -= self.denominator;
+            self.whole += 1;
+        }
+    }
+
+    /// Adds a fraction of the same denominator so many times.
+    pub fn add_times(&mut self, other: &Fraction, times: u64)
+        requires same_denominator { self.old.denominator ≡ other.now.denominator }
+        requires small_denominator { self.old.denominator < 2 ^ 63 }
+        requires small { IsSmall record self.old { numerator = self.old.numerator + times * other.now.numerator } }
+        ensures { self.new ≡ record self.old { numerator = self.old.numerator + times * other.now.numerator } }
+    {
+        for _time in 0..times {
+            self.add(other);
+        }
+    }
+}
+
+/// Where the cascade of a heavy weight below 1 ends, for a window that closes later and later.
+#[derive(Debug, Drop)]
+pub(crate) struct Cascade {
+    weight: Weight,
+    close: u64,
+    idle: Fraction,
+    idle_step: Fraction,
+    end: Fraction,
+    end_step: Fraction,
+}
+
+impl Model for Cascade {
+    ghost use Rattle.pfair_weight.specs.Close.{Close};
+
+    ghost Value = { Close };
+
+    ghost use Rattle.pfair_weight.specs.Cascaded.{close_of, IsCascaded};
+
+    ghost view = { close_of };
+
+    ghost invariant = { IsCascaded };
+}
+
+impl Cascade {
+    /// Creates the cascade of a window that closes at `close`, in slots, at offset 0.
+    pub fn new(weight: Weight, close: u64) -> Self
+        requires below_one { weight.cost < weight.period }
+        requires range { close ≤ MAX_CLOSE }
+        ensures { result ≡ record { weight = weight; close = close } }
+    {
+        let period = weight.period();
+        let room = period - weight.cost();
+        let idle = Fraction::of_product(close, room, period);
+        let end = Fraction::of_product(idle.ceiling(), period, room);
+        Cascade {
+            weight,
+            close,
+            idle,
+            idle_step: Fraction::new(room, period),
+            end,
+            end_step: Fraction::new(period, room),
+        }
+    }
+
+    /// Goes on to the window that closes so many slots later.
+    pub fn advance(&mut self, slots: u64)
+        requires { self.old.close + slots ≤ MAX_CLOSE }
+        ensures { self.new ≡ record self.old { close = self.old.close + slots } }
+    {
+        let before = self.idle.ceiling();
+        self.idle.add_times(&self.idle_step, slots);
+        self.end
+            .add_times(&self.end_step, self.idle.ceiling() - before);
+        self.close += slots;
+    }
+
+    /// Returns the slot where the cascade ends, at offset 0.
+    pub fn end(&self) -> u64
+        ensures value { result ≡ cascade_end self.now.weight self.now.close }
+        ensures within { result ≤ self.now.close + self.now.weight.period }
+        ensures range { self.now.weight.period ≤ Weight.MAX_PERIOD }
+    {
+        self.end.ceiling()
     }
 }

@@ -8,10 +8,10 @@ use Rattle.pfair_file.specs.declared.program_fault.ProgramFault.{ProgramFault}
 use Rattle.pfair_file.specs.declared.program_fault.ProgramFault.TheVariants.{GateGaveUp, Astray}
 use Rattle.pfair_file.specs.ProgramFaults.{of_run}
 use Rattle.pfair_replica.specs.Replica.{frontier}
-use Rattle.pfair_table.specs.declared.pick.Pick.{Pick}
+use Rattle.pfair_table.specs.declared.slot.Pick.{Pick}
 use Rattle.pfair_table.specs.Script.{LoggedRun}
-use Rattle.pfair_table.specs.declared.run_fault.RunFault.{RunFault}
-use Rattle.pfair_table.specs.declared.run_fault.RunFault.TheVariants as run
+use Rattle.pfair_table.specs.declared.answer.RunFault.{RunFault}
+use Rattle.pfair_table.specs.declared.answer.RunFault.TheVariants as run
 use Rattle.pfair_board.specs.RunFaults.{IsRunFaultOf}
 use Rattle.pfair_table.specs.declared.planned.Run.{Run}
 use Rattle.pfair_table.specs.Table.{Table}

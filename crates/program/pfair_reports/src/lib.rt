@@ -2,9 +2,7 @@
 //! task files, and the windows of a weight.
 #![tactic(auto)]
 
-mod dispatchers;
 mod fault;
-mod rows;
 mod schedule_rows;
 mod tables;
 mod window_rows;

@@ -2,15 +2,22 @@
 //! in a thread of its own, and with `--affinity` the processor that runs each row.
 ghost use Rattle.pfair_file.specs.Commands.{IsCommandOf};
 ghost use Rattle.pfair_reports.specs.Runs.{IsFaultOfReplay, IsOutputOf, placed_replay_of_run, replay_of_run};
+ghost use Rattle.std.specs.Prelude.{◌≡◌, [], Ok, IfErr, IfOk, IfSome};
+ghost use Rattle.pfair_file.specs.Input.{TakesOneFile};
+ghost use Rattle.pfair_table.specs.Script.{LoggedRun};
+ghost use Rattle.pfair_board.specs.Finish.{HasPlan};
+ghost use Rattle.pfair_file.specs.Documents.{script_of_file};
+ghost use Rattle.pfair_text.specs.Rows.{IsOpen, text_so_far};
+ghost use Rattle.pfair_output.specs.Replay.{replay_text};
 
-use crate::dispatchers::first_run;
-use crate::rows::ReplayRows;
-use pfair_board::Gate;
-use pfair_file::ProgramFault;
-use pfair_output::placed_replay_of;
-use pfair_table::Run;
-use pfair_text::send;
-use std::alloc::Global;
+use csv::Writer;
+use pfair_board::{Gate, Sink, run_dispatchers_into};
+use pfair_file::{ProgramFault, read_script};
+use pfair_output::{add_replay_header, add_table_rows, placed_replay_of};
+use pfair_ready::HeapReady;
+use pfair_table::{Pick, Run};
+use pfair_text::{finish, new_text, send};
+use std::alloc::{AllocError, Global};
 use std::io::{Read, Write};
 use std::sync::Wait;
 use std::thread::Threads;
@@ -75,4 +82,60 @@ pub fn replay_placed<R: Read, W: Write, G: Gate + Sync>(
     let run = Run::of_tables(alloc, tables)?;
     let text = placed_replay_of(alloc, run.tables.as_slice(), run.places.as_slice())?;
     Ok(send(writer, text.as_slice())?)
+}
+
+// What a sink has after the tables of the first processor's dispatcher, of the script that a
+// reader's bytes hold.
+fn first_run<R: Read, G: Gate + Sync, K: Sink + Send>(
+    rt: &(impl Threads + Wait + Sync),
+    alloc: Global,
+    reader: &mut R,
+    gate: &G,
+    sink: K,
+) -> Result<K, ProgramFault>
+    requires { K.has sink 0 [] }
+    ensures plan { IfOk result (λ kept. (run : LoggedRun) × HasPlan K.has run kept) }
+    ensures ok { IfOk result (λ kept. IfSome (R.remaining reader.old) (λ bytes. (run : LoggedRun) × (script_of_file bytes ≡ Ok run) × HasPlan K.has run kept)) }
+    ensures refused { IfErr result (IsFaultOfReplay G.may_give_up (R.remaining reader.old)) }
+    ensures taken { TakesOneFile result (R.remaining reader.old) (R.remaining reader.new) }
+{
+    let script = read_script(alloc, reader)?;
+    Ok(run_dispatchers_into::<HeapReady, G, K>(rt, alloc, &script, gate, sink)?)
+}
+
+/// Makes the rows of each table, and keeps no table.
+#[derive(Drop)]
+pub(crate) struct ReplayRows {
+    writer: Writer<Vec<u8>>,
+}
+
+impl ReplayRows {
+    /// The header.
+    pub(crate) fn new(alloc: Global) -> Result<ReplayRows, AllocError>
+        ensures open { IfOk result (λ rows. IsOpen rows.writer) }
+        ensures text { IfOk result (λ rows. text_so_far rows.writer ≡ replay_text []) }
+    {
+        let mut writer = new_text(alloc);
+        add_replay_header(&mut writer)?;
+        Ok(ReplayRows { writer })
+    }
+
+    /// The text.
+    pub(crate) fn finish(self) -> Result<Vec<u8>, AllocError>
+        requires { IsOpen self.writer }
+        ensures { IfOk result (λ text. text.items ≡ text_so_far self.writer) }
+    {
+        finish(self.writer)
+    }
+}
+
+impl Sink for ReplayRows {
+    ghost use Rattle.pfair_reports.specs.Runs.{has_rows};
+
+    ghost has = { λ rows row tables. has_rows rows.writer row tables };
+
+    fn take(&mut self, slot: u64, table: Vec<Pick>) -> Result<Option<Vec<Pick>>, AllocError> {
+        add_table_rows(&mut self.writer, slot, &table)?;
+        Ok(Some(table))
+    }
 }

@@ -5,8 +5,8 @@ use Rattle.clap.specs.declared.error.kind.ErrorKind.{ErrorKind}
 use Rattle.clap.specs.declared.parser.matches.ArgMatches.{ArgMatches}
 use Rattle.pfair_words.specs.Answers.{ToAny, ToTaken, ToWords}
 use Rattle.pfair_words.specs.Parse.{IsParsed, Named}
-use Rattle.pfair_words.specs.declared.parse.Parsed.{Parsed}
-use Rattle.pfair_words.specs.declared.parse.Parsed.TheVariants.{Matches}
+use Rattle.pfair_words.specs.declared.command.Parsed.{Parsed}
+use Rattle.pfair_words.specs.declared.command.Parsed.TheVariants.{Matches}
 use Rattle.pfair_file.specs.declared.program_fault.ProgramFault.{ProgramFault}
 use Rattle.pfair_file.specs.declared.program_fault.ProgramFault.TheVariants.{Memory}
 

@@ -7,8 +7,8 @@ use Rattle.clap.specs.Words.{App, IsAmong, Row, Text, fault_of, first_of, subcom
 use Rattle.clap.specs.Walk.{one_of}
 use Rattle.clap.specs.declared.error.kind.ErrorKind.{ErrorKind}
 use Rattle.clap.specs.declared.error.kind.ErrorKind.TheVariants.{DisplayHelp, DisplayVersion, OutOfMemory}
-use Rattle.pfair_words.specs.declared.parse.Parsed.{Parsed}
-use Rattle.pfair_words.specs.declared.parse.Parsed.TheVariants.{Matches, Help, Refused}
+use Rattle.pfair_words.specs.declared.command.Parsed.{Parsed}
+use Rattle.pfair_words.specs.declared.command.Parsed.TheVariants.{Matches, Help, Refused}
 
 abbrev pub texts : List (String Global) → List Text
 texts words = map string_bytes words

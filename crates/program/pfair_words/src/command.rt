@@ -1,9 +1,14 @@
-//! What the command lines of both programs are made of.
-ghost use Rattle.std.specs.Prelude.{◌≡◌, IfOk, Ok, false};
-ghost use Rattle.clap.specs.Words.{AddsSubcommand, new_app, rule_of};
+//! What the command lines of both programs are made of, and how words are read by them.
+ghost use Rattle.std.specs.Prelude.{◌≡◌, IfOk, Ok, false, ◌⊎◌, ℕ, MatchResult, None, Some, codes, string_bytes, true};
+ghost use Rattle.clap.specs.Words.{AddsSubcommand, new_app, rule_of, app_of, first_of, found_of, is_simple_and_free, kind_of, rows_of};
 ghost use Rattle.pfair_words.specs.Line as line;
+ghost use Rattle.clap.specs.Walk.{one_of};
+ghost use Rattle.pfair_words.specs.Parse.{IsFlag, IsNumber, IsNumberIfAny, IsParsed, IsTextIfAny, IsUntakenAs, texts};
+ghost use Rattle.pfair_file.specs.declared.program_fault.ProgramFault.TheVariants.{CommandLine, Memory};
 
-use clap::{Arg, ArgAction, Command};
+use clap::error::ErrorKind;
+use clap::{Arg, ArgAction, ArgMatches, Command, Error};
+use pfair_file::ProgramFault;
 use std::alloc::{AllocError, Global};
 
 // The version of both programs, which `--version` prints after the name.
@@ -100,4 +105,105 @@ pub(crate) fn flag<'a>(alloc: Global, name: &'a str, help: &'a str) -> Arg<'a>
         .long(name)
         .help(help)
         .action(ArgAction::SetTrue)
+}
+
+/// What the parser makes of words.
+#[derive(Drop)]
+pub(crate) enum Parsed<'a> {
+    /// It takes them.
+    Matches(ArgMatches<'a>),
+    /// They ask for a text about the program: how it is used, or its name and version.
+    Help(String),
+    /// It refuses them.
+    Refused,
+}
+
+/// Reads the words after the program's name by its command line.
+///
+/// # Errors
+/// [`AllocError`] if an allocation fails.
+pub(crate) fn parse<'a>(
+    alloc: Global,
+    command: Command<'a>,
+    words: &'a [String],
+) -> Result<Parsed<'a>, AllocError>
+    requires { is_simple_and_free (app_of command) ≡ true }
+    ensures { IfOk result (IsParsed (app_of command.entry) (texts words.now)) }
+{
+    match command.try_get_matches_from(words) {
+        Ok(matches) => Ok(Parsed::Matches(matches)),
+        Err(error) => untaken(alloc, &error),
+    }
+}
+
+// Help, the version, or a refusal.
+fn untaken<'a>(alloc: Global, error: &Error) -> Result<Parsed<'a>, AllocError>
+    ensures { IfOk result (IsUntakenAs (kind_of error.now)) }
+{
+    match error.kind() {
+        ErrorKind::DisplayHelp | ErrorKind::DisplayVersion => {
+            Ok(Parsed::Help(error.to_string(alloc)?))
+        }
+        ErrorKind::OutOfMemory => Err(AllocError),
+        _ => Ok(Parsed::Refused),
+    }
+}
+
+/// The name of the task file.
+///
+/// # Errors
+/// [`ProgramFault::CommandLine`] if there is none, and [`ProgramFault::Memory`] if an allocation
+/// fails.
+pub(crate) fn file_name(alloc: Global, words: &ArgMatches<'_>) -> Result<String, ProgramFault>
+    ensures { MatchResult result
+        (λ name. first_of (codes "file") (rows_of (found_of words.now)) ≡ Some (string_bytes name))
+        (λ e. (e ≡ Memory) ⊎ ((e ≡ CommandLine) × (first_of (codes "file") (rows_of (found_of words.now)) ≡ None))) }
+{
+    match words.get_str("file") {
+        Some(file) => Ok(String::from_str(alloc, file)?),
+        None => Err(ProgramFault::CommandLine),
+    }
+}
+
+/// The word under a name, if there is one.
+///
+/// # Errors
+/// [`AllocError`] if an allocation fails.
+pub(crate) fn text_if_any(
+    alloc: Global,
+    words: &ArgMatches<'_>,
+    name: &str,
+) -> Result<Option<String>, AllocError>
+    ensures { IfOk result (IsTextIfAny (rows_of (found_of words.now)) name.now) }
+{
+    match words.get_str(name) {
+        Some(word) => Ok(Some(String::from_str(alloc, word)?)),
+        None => Ok(None),
+    }
+}
+
+/// The number under a name, if there is one.
+pub(crate) fn number_if_any(words: &ArgMatches<'_>, name: &str) -> Option<u64>
+    ensures { IsNumberIfAny (rows_of (found_of words.now)) name.now result }
+{
+    words.get_one::<u64>(name)
+}
+
+/// The number under a name.
+///
+/// # Errors
+/// [`ProgramFault::CommandLine`] if there is none.
+pub(crate) fn number(words: &ArgMatches<'_>, name: &str) -> Result<u64, ProgramFault>
+    ensures { MatchResult result
+        (IsNumber (rows_of (found_of words.now)) name.now)
+        (λ e. (e ≡ CommandLine) × ((n : ℕ) → ¬ IsNumber (rows_of (found_of words.now)) name.now n)) }
+{
+    number_if_any(words, name).ok_or(ProgramFault::CommandLine)
+}
+
+/// Whether a flag is set.
+pub(crate) fn is_set(words: &ArgMatches<'_>, name: &str) -> bool
+    ensures { IsFlag (one_of name.now (rows_of (found_of words.now))) result }
+{
+    words.get_flag(name)
 }

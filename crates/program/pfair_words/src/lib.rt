@@ -4,5 +4,4 @@
 mod command;
 pub mod follow;
 pub mod laws;
-mod parse;
 pub mod schedule;

@@ -1,20 +1,27 @@
-//! The words of `pfair`.
-ghost use Rattle.std.specs.Prelude.{◌≡◌, IfOk, codes};
-ghost use Rattle.clap.specs.Words.{found_of, rows_of, subcommand_rows_of};
+//! The words of `pfair`, and its command line, one level of commands.
+ghost use Rattle.std.specs.Prelude.{◌≡◌, IfOk, codes, false};
+ghost use Rattle.clap.specs.Words.{found_of, rows_of, subcommand_rows_of, rule_of};
 ghost use Rattle.pfair_words.specs.Parse.{texts};
 ghost use Rattle.pfair_words.specs.ScheduleAsked.{IsAnswer, IsAnswerTo, IsAnswerToAny};
 ghost use Rattle.pfair_words.specs.Plain.{HasCount, IsPlainAnswer};
+ghost use Rattle.pfair_words.specs.Line.{IsRead};
+ghost use Rattle.pfair_words.specs.ScheduleLine as line;
 
-mod command;
 mod help;
 
-use crate::parse::{Parsed, file_name, is_set, number, parse};
-use clap::ArgMatches;
-use command::command_line;
+use crate::command::{
+    Parsed, affinity, command, file, file_name, is_set, number, parse, program, with,
+};
+use clap::builder::ValueParser;
+use clap::{Arg, ArgMatches, Command};
+use help::{
+    ABOUT, AFTER, COST_HELP, COUNT_HELP, DECISIONS_TEXTS, LAGS_TEXTS, PERIOD_HELP, REPLAY_TEXTS,
+    WINDOWS_TEXTS,
+};
 use pfair_file::ProgramFault;
 use pfair_table::Settings;
 use pfair_weight::Weight;
-use std::alloc::Global;
+use std::alloc::{AllocError, Global};
 
 /// The most windows that a command line can ask for.
 pub const MAX_COUNT: u64 = Settings::MAX_SLOTS;
@@ -95,4 +102,61 @@ fn read_windows(words: &ArgMatches<'_>) -> Result<Asked, ProgramFault>
         Ok(weight) => Ok(Asked::Windows { weight, count }),
         Err(fault) => Err(ProgramFault::Weight(fault)),
     }
+}
+
+// The command line as `clap` is to read it.
+fn command_line<'a>(alloc: Global) -> Result<Command<'a>, AllocError>
+    ensures { IfOk result (IsRead line.line) }
+{
+    let pfair = with(program(alloc, "pfair", ABOUT, AFTER)?, windows(alloc))?;
+    let pfair = with(pfair, replay(alloc))?;
+    let pfair = with(pfair, decisions(alloc))?;
+    with(pfair, lags(alloc))
+}
+
+fn windows<'a>(alloc: Global) -> Result<Command<'a>, AllocError>
+    ensures { IfOk result (IsRead line.windows) }
+{
+    command(alloc, "windows", WINDOWS_TEXTS)
+        .arg(number_argument(alloc, "cost", "E", COST_HELP, u64::MAX))?
+        .arg(number_argument(alloc, "period", "P", PERIOD_HELP, u64::MAX))?
+        .arg(number_argument(alloc, "count", "COUNT", COUNT_HELP, MAX_COUNT))
+}
+
+fn replay<'a>(alloc: Global) -> Result<Command<'a>, AllocError>
+    ensures { IfOk result (IsRead line.replay) }
+{
+    command(alloc, "replay", REPLAY_TEXTS)
+        .arg(file(alloc))?
+        .arg(affinity(alloc))
+}
+
+fn decisions<'a>(alloc: Global) -> Result<Command<'a>, AllocError>
+    ensures { IfOk result (IsRead line.decisions) }
+{
+    command(alloc, "decisions", DECISIONS_TEXTS).arg(file(alloc))
+}
+
+fn lags<'a>(alloc: Global) -> Result<Command<'a>, AllocError>
+    ensures { IfOk result (IsRead line.lags) }
+{
+    command(alloc, "lags", LAGS_TEXTS).arg(file(alloc))
+}
+
+// A number from 0 to `most`, which has to be there.
+fn number_argument<'a>(
+    alloc: Global,
+    name: &'a str,
+    value_name: &'a str,
+    help: &'a str,
+    most: u64,
+) -> Arg<'a>
+    ensures rule { rule_of result ≡ line.number name.now most }
+    ensures here { result.global ≡ false }
+{
+    Arg::new(alloc, name)
+        .value_name(value_name)
+        .help(help)
+        .required(true)
+        .value_parser(ValueParser::Unsigned(0, most))
 }

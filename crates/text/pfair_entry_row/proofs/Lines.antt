@@ -5,8 +5,8 @@ use Rattle.std.specs.List.{All, AllByRecursion, join_with_byte, list_all, list_a
 use Rattle.std.proofs.lemmas.Bool.{and_from, and_parts, eqb-false, ne_eqb, not-true, or_parts}
 use Rattle.std.proofs.lemmas.List.Splits.{slice_split_at}
 use Rattle.pfair_entry.specs.Entry.{Logged}
-use Rattle.pfair_entry.specs.declared.announcement.Announcement.{Announcement}
-use Rattle.pfair_entry.specs.declared.announcement.Announcement.TheVariants.{Arrive, Depart, Late}
+use Rattle.pfair_entry.specs.declared.entry.Announcement.{Announcement}
+use Rattle.pfair_entry.specs.declared.entry.Announcement.TheVariants.{Arrive, Depart, Late}
 use Rattle.pfair_text.specs.Rows.{is_mark, is_plain}
 use Rattle.pfair_text.proofs.RowFacts.{is_plain-decimal}
 use Rattle.pfair_entry_row.specs.Laws.{RowsAreLines, TextsAreRows}

@@ -4,8 +4,8 @@ use Rattle.std.proofs.lemmas.Bool.Decides.{nat_tests}
 use Rattle.pfair_entry.specs.Entry.{Logged, IsEntry, IsWeighed}
 use Rattle.pfair_entry.specs.Notice.{IsNamed, IsWellSaid}
 use Rattle.pfair_entry.proofs.Refusals.{no_refusal}
-use Rattle.pfair_entry.specs.declared.announcement.Announcement.{Announcement}
-use Rattle.pfair_entry.specs.declared.announcement.Announcement.TheVariants.{Arrive, Depart, Late}
+use Rattle.pfair_entry.specs.declared.entry.Announcement.{Announcement}
+use Rattle.pfair_entry.specs.declared.entry.Announcement.TheVariants.{Arrive, Depart, Late}
 use Rattle.pfair_entry_row.specs.Faults.{keyed}
 use Rattle.pfair_entry_row.specs.Row.{IsEntryAt, IsSayable, IsSpelled, IsSpelledOut}
 use Rattle.pfair_entry_row.proofs.RowFields.{Same}

@@ -5,13 +5,13 @@ use Rattle.std.specs.Fmt.{decimal}
 use Rattle.std.proofs.lemmas.List.Splits.{join_with_byte-slice_split}
 use Rattle.std.proofs.lemmas.Fmt.{decimal_injective}
 use Rattle.pfair_entry.specs.Entry.{Logged}
-use Rattle.pfair_entry.specs.declared.announcement.Announcement.{Announcement}
-use Rattle.pfair_entry.specs.declared.announcement.Announcement.TheVariants.{Arrive, Depart, Late}
+use Rattle.pfair_entry.specs.declared.entry.Announcement.{Announcement}
+use Rattle.pfair_entry.specs.declared.entry.Announcement.TheVariants.{Arrive, Depart, Late}
 use Rattle.pfair_entry_row.specs.Fields.{parts, texts}
 use Rattle.pfair_entry_row.specs.Line.{said_texts, Notes}
 use Rattle.pfair_entry_row.specs.Faults.{SaysNothing}
 use Rattle.pfair_entry_row.specs.Row.{dash, truth, announced_fields, said_fields, entry_fields, entry_row, HasNoComma, IsSayable, IsSpelled, IsSpelledOut}
-use Rattle.pfair_entry_row.specs.declared.fields.Fields.{Fields}
+use Rattle.pfair_entry_row.specs.declared.line.Fields.{Fields}
 use Rattle.pfair_entry_row.proofs.Commas.{HaveNoCommas, parts-join}
 use Rattle.pfair_entry_row.proofs.Names.{no_comma-decimal, no_comma-plain}
 

@@ -1,7 +1,7 @@
 -- What stands between the separators of a text, and between the commas of a row.
 use Rattle.std.specs.Prelude.{ℕ, List, [], ◌∷◌, ◌==◌}
 use Rattle.std.specs.List.{slice_split}
-use Rattle.pfair_entry_row.specs.declared.fields.Fields.{Fields}
+use Rattle.pfair_entry_row.specs.declared.line.Fields.{Fields}
 
 abbrev pub parts_at : (separator : ℕ) → List ℕ → List (List ℕ)
 parts_at separator text = slice_split (λ b. b == separator) text

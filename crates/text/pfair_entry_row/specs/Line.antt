@@ -2,11 +2,11 @@
 use Rattle.std.specs.Prelude.{ℕ, ◌≡◌, ◌≢◌, List, [], ◌∷◌, Option}
 use Rattle.pfair_entry.specs.Entry.{Logged}
 use Rattle.pfair_entry.specs.Notice.{announced, unchecked}
-use Rattle.pfair_entry.specs.declared.announcement.Announcement.{Announcement}
-use Rattle.pfair_entry.specs.declared.kind.Kind.{Kind}
-use Rattle.pfair_entry.specs.declared.kind.Kind.TheVariants.{Arrive, Depart, Late}
+use Rattle.pfair_entry.specs.declared.entry.Announcement.{Announcement}
+use Rattle.pfair_entry.specs.declared.notice.Kind.{Kind}
+use Rattle.pfair_entry.specs.declared.notice.Kind.TheVariants.{Arrive, Depart, Late}
 use Rattle.pfair_entry.specs.declared.notice.Change.{Change}
-use Rattle.pfair_entry_row.specs.declared.fields.Fields.{Fields}
+use Rattle.pfair_entry_row.specs.declared.line.Fields.{Fields}
 use Rattle.pfair_entry_row.specs.declared.line.Line.{Line}
 use Rattle.pfair_entry_row.specs.Row.{dash, announced_fields, said_fields, IsSpelled, IsSpelledOut}
 

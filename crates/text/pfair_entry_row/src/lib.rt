@@ -2,15 +2,12 @@
 #![tactic(auto)]
 
 mod fault;
-mod fields;
 pub mod laws;
 mod line;
-mod number;
 mod read;
 mod write;
 
 pub use fault::RowFault;
-pub use fields::cut;
-pub use number::{is_dash, read_number, read_truth};
+pub use line::{cut, is_dash, read_number, read_truth};
 pub use read::{LONGEST_ROW, read_row};
 pub use write::{add_entry, truth_word};

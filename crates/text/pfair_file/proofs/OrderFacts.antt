@@ -9,7 +9,7 @@ use Rattle.pfair_file.specs.Documents.{empty_logs}
 use Rattle.pfair_file.specs.Entries.{Logs, logs_after, with_entries, with_entry, longer_log}
 use Rattle.pfair_file.specs.FileOrder.{LogsAreInFileOrder, entries_for, entry_for, entry_list}
 use Rattle.pfair_file.specs.Tables.{made_at}
-use Rattle.pfair_file.specs.declared.made.Made.{Made}
+use Rattle.pfair_file.specs.declared.tables.Made.{Made}
 use Rattle.pfair_file.specs.declared.fault.FileFault.{FileFault}
 
 -- a longer log has the entry at its end

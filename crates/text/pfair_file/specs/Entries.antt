@@ -9,8 +9,8 @@ use Rattle.pfair_file.specs.Tables.{made_at}
 use Rattle.pfair_file.specs.declared.field.Field.TheVariants as field
 use Rattle.pfair_file.specs.declared.fault.FileFault.{FileFault}
 use Rattle.pfair_file.specs.declared.fault.FileFault.TheVariants as fault
-use Rattle.pfair_file.specs.declared.made.Made.{Made}
-use Rattle.pfair_file.specs.declared.made.TheConstants.{MOST_ENTRIES}
+use Rattle.pfair_file.specs.declared.tables.Made.{Made}
+use Rattle.pfair_file.specs.declared.tables.TheConstants.{MOST_ENTRIES}
 
 -- the logs, by processor
 abbrev pub Logs : Type 0

@@ -6,7 +6,7 @@ use Rattle.pfair_entry.specs.declared.notice.NoticeFault.{NoticeFault}
 use Rattle.pfair_file.specs.Documents.{empty_logs}
 use Rattle.pfair_file.specs.Entries.{Logs, with_entries}
 use Rattle.pfair_file.specs.Tables.{made_at}
-use Rattle.pfair_file.specs.declared.made.Made.{Made}
+use Rattle.pfair_file.specs.declared.tables.Made.{Made}
 use Rattle.pfair_file.specs.declared.fault.FileFault.{FileFault}
 
 abbrev pub entry_list : Result Logged NoticeFault → List Logged

@@ -1,4 +1,4 @@
-//! Task files.
+//! Task files: their header and their logs.
 ghost use Rattle.std.specs.Prelude.{◌≡◌, ◌≢◌, ◌≤◌, ◌<◌, All, IfOk, IfErr, IsTrue, OnOk, Ok, Err, Some, None, vec_len};
 ghost use Rattle.toml.specs.View.{table_view};
 ghost use Rattle.pfair_table.specs.Limits.{IsSettings};
@@ -6,13 +6,11 @@ ghost use Rattle.pfair_table.specs.Script.{is_short, lists_of};
 ghost use Rattle.std.specs.List.{list_all};
 ghost use Rattle.pfair_file.specs.Documents.{closed, close_all, document, empty_logs, entries_at, logs_at, script_of_file};
 ghost use Rattle.pfair_file.specs.declared.fault.FileFault.TheVariants.{Memory, NotToml};
+ghost use Rattle.pfair_file.specs.Headers.{settings_of, version_of};
 
 use crate::fault::FileFault;
-use crate::field::Field;
-use crate::header::{read_settings, read_version};
-use crate::lookup::find;
-use crate::made::MOST_ENTRIES;
-use crate::tables::add_entries;
+use crate::field::{Field, find, integer, number, within};
+use crate::tables::{MOST_ENTRIES, add_entries};
 use pfair_entry::Entry;
 use pfair_table::{Script, Settings};
 use std::alloc::{AllocError, Global};
@@ -136,4 +134,31 @@ fn close_log(log: &mut Vec<Entry>, slots: u64) -> Result<(), AllocError>
         log.push(entry)?;
     }
     Ok(())
+}
+
+// Reads the version of the format, or the fault of its key.
+fn read_version(table: &Table) -> Result<u64, FileFault>
+    ensures { result ≡ version_of (table_view table.now) }
+{
+    let stated = integer(table, 0, Field::Version)?;
+    within(stated, 1, 2, FileFault::Version)
+}
+
+// Reads the settings of the run, or the first fault of their keys.
+fn read_settings(table: &Table) -> Result<Settings, FileFault>
+    ensures { result ≡ settings_of (table_view table.now) }
+{
+    let processors = number(
+        table,
+        0,
+        Field::Processors,
+        1,
+        Settings::MAX_PROCESSORS as u64,
+    )?;
+    let frame = number(table, 0, Field::Frame, 1, Settings::MAX_FRAME)?;
+    let slots = number(table, 0, Field::Slots, 1, Settings::MAX_SLOTS)?;
+    match Settings::new(processors as u8, frame, slots) {
+        Some(settings) => Ok(settings),
+        None => unreachable!(),
+    }
 }

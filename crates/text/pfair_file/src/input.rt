@@ -1,12 +1,69 @@
-//! Reading the whole of a reader, up to the longest file that is taken.
-ghost use Rattle.std.specs.Prelude.{◌≡◌, ◌≤◌, ◌<◌, ◌⊎◌, ℕ, List, length, IfErr, IfOk, IsErrOf, OnOk};
+//! What a program is given: its words, and the task file that it reads.
+ghost use Rattle.std.specs.Prelude.{◌≡◌, ◌⊎◌, IfErr, alloc_error, Ok, IfOk, IfSome, ◌≤◌, ◌<◌, ℕ, List, length, IsErrOf, OnOk, IsTrue, ◌↔◌};
+ghost use Rattle.pfair_file.specs.Input.{TakesOneFile, HasTaken};
+ghost use Rattle.pfair_file.specs.Documents.{script_of_file};
+ghost use Rattle.pfair_file.specs.Schedules.{IsRefusalOf};
+ghost use Rattle.pfair_file.specs.declared.program_fault.ProgramFault.TheVariants.{ReadFailed, Memory, FileTooLong};
 ghost use Rattle.std.specs.Io.KnownBytes.{Consumes, IsAtEnd};
-ghost use Rattle.pfair_file.specs.Input.{HasTaken};
-ghost use Rattle.pfair_file.specs.declared.program_fault.ProgramFault.TheVariants.{FileTooLong, ReadFailed, Memory};
+ghost use Rattle.std.specs.IoError.{error_kind};
 
+use crate::document::read_file;
 use crate::program_fault::ProgramFault;
-use std::alloc::Global;
-use std::io::Read;
+use pfair_table::Script;
+use std::alloc::{AllocError, AllocGlobal, Global};
+use std::fs::{File, Files};
+use std::io;
+use std::io::{ErrorKind, Read};
+use std::rt::Env;
+
+/// Returns the words after the program's name.
+///
+/// # Errors
+/// `no_text` if a word is no text, and what a failed allocation makes of the fault's type if an
+/// allocation fails.
+pub fn given_words<P: Env + AllocGlobal, F: From<AllocError> + Drop>(
+    rt: &P,
+    no_text: F,
+) -> Result<Vec<String>, F>
+    ensures { IfErr result (λ e. (e ≡ no_text) ⊎ F.from_gives alloc_error e) }
+{
+    match std::env::args(rt) {
+        Ok(args) => Ok(args.skip(1).collect(rt.alloc())?),
+        Err(error) if is_want_of_memory(&error) => Err(F::from(AllocError)),
+        Err(_) => Err(no_text),
+    }
+}
+
+/// Opens a task file for reading.
+///
+/// # Errors
+/// [`ProgramFault::Memory`] if an allocation fails, else [`ProgramFault::ReadFailed`].
+pub fn opened<P: Files>(rt: &P, file: &str) -> Result<P::File, ProgramFault>
+    ensures { IfErr result (λ e. (e ≡ ReadFailed) ⊎ (e ≡ Memory)) }
+{
+    match File::open(rt, file) {
+        Ok(reader) => Ok(reader),
+        Err(error) if is_want_of_memory(&error) => Err(ProgramFault::Memory),
+        Err(_) => Err(ProgramFault::ReadFailed),
+    }
+}
+
+/// Returns the script that a reader's bytes hold. No more than 67,108,864 bytes are taken from the
+/// reader, or one more if the file is too long or an allocation fails. The cost is that of reading
+/// all bytes, and of [`read_file`].
+///
+/// # Errors
+/// [`ProgramFault::ReadFailed`] if the reader answers an error, [`ProgramFault::FileTooLong`]
+/// if more than 67,108,864 bytes come, [`ProgramFault::File`] with the first fault of the file,
+/// and [`ProgramFault::Memory`] if an allocation fails.
+pub fn read_script<R: Read>(alloc: Global, reader: &mut R) -> Result<Script, ProgramFault>
+    ensures ok { IfOk result (λ s. IfSome (R.remaining reader.old) (λ bytes. script_of_file bytes ≡ Ok s)) }
+    ensures refused { IfErr result (IsRefusalOf (R.remaining reader.old)) }
+    ensures taken { TakesOneFile result (R.remaining reader.old) (R.remaining reader.new) }
+{
+    let bytes = read_bytes(alloc, reader)?;
+    Ok(read_file(alloc, bytes.as_slice())?)
+}
 
 /// The most bytes that a file may have.
 pub const LONGEST_FILE: usize = 67_108_864;
@@ -44,4 +101,11 @@ pub fn read_bytes<R: Read>(alloc: Global, reader: &mut R) -> Result<Vec<u8>, Pro
         }
     }
     Err(ProgramFault::FileTooLong)
+}
+
+// Returns whether an error of the platform means that memory ran out.
+fn is_want_of_memory(error: &io::Error) -> bool
+    ensures { IsTrue result ↔ (error_kind error.now ≡ ErrorKind.OutOfMemory) }
+{
+    error.kind() == ErrorKind::OutOfMemory
 }

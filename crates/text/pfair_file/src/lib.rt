@@ -10,24 +10,13 @@
 pub(crate) mod document;
 pub(crate) mod fault;
 pub(crate) mod field;
-mod given;
-pub(crate) mod header;
 mod input;
 pub mod laws;
-mod line;
-pub(crate) mod lookup;
-pub(crate) mod made;
-mod memory;
-pub(crate) mod notice;
 mod program_fault;
-mod schedule;
 pub(crate) mod tables;
 
 pub use document::read_file;
 pub use fault::FileFault;
 pub use field::Field;
-pub use given::given_words;
-pub use input::{LONGEST_FILE, read_bytes};
-pub use line::write_line;
-pub use program_fault::ProgramFault;
-pub use schedule::{opened, read_script};
+pub use input::{LONGEST_FILE, given_words, opened, read_bytes, read_script};
+pub use program_fault::{ProgramFault, write_line};

@@ -1,15 +1,17 @@
-//! The entries of a task file.
-ghost use Rattle.std.specs.Prelude.{◌≡◌, ◌≢◌, ◌≤◌, All, IfErr, OnOk, Ok, Err, is_some, vec_len};
+//! The entries of a task file: each table makes one.
+ghost use Rattle.std.specs.Prelude.{◌≡◌, ◌≢◌, ◌≤◌, All, IfErr, OnOk, Ok, Err, is_some, vec_len, option_map};
 ghost use Rattle.toml.specs.View.{items_view, table_view};
 ghost use Rattle.pfair_table.specs.Script.{lists_of};
-ghost use Rattle.pfair_file.specs.Entries.{tables_of, with_entry, with_items};
+ghost use Rattle.pfair_file.specs.Entries.{tables_of, with_entry, with_items, longer_log};
 ghost use Rattle.pfair_file.specs.declared.fault.FileFault.TheVariants.{Memory};
+ghost use Rattle.pfair_file.specs.Tables.{made_at, early_at, fields_at, kind_at, notice_at};
+ghost use Rattle.std.specs.Result.{result_map_both};
+ghost use Rattle.pfair_entry.specs.Notice.{noticed};
 
 use crate::fault::FileFault;
-use crate::field::Field;
-use crate::made::{MOST_ENTRIES, append, read_entry};
-use pfair_entry::Entry;
-use pfair_table::Settings;
+use crate::field::{Field, find, natural_number, number, text};
+use pfair_entry::{ChangeFields, Entry, Kind, Notice, NoticeFault, checked_entry};
+use pfair_table::{Script, Settings};
 use toml::{Table, Value};
 
 // Adds the entry of one table to the log of its processor.
@@ -72,4 +74,108 @@ pub fn add_entries(
         add_entry(logs, i as u64 + 1, version, table)?;
     }
     Ok(())
+}
+
+/// The most entries that a file can hold of one processor: one less than a log has, which the file's
+/// end closes.
+pub(crate) const MOST_ENTRIES: usize = Script::LONGEST_LOG - 1;
+
+/// What a table makes.
+#[derive(Clone, Copy)]
+pub struct Made {
+    /// The processor, counted from 0.
+    pub processor: u64,
+    /// The entry in that processor's log, or why there is none.
+    pub entry: Result<Entry, NoticeFault>,
+}
+
+// Appends to the log of a processor the entry that a table makes, if it makes one.
+fn append(
+    log: &mut Vec<Entry>,
+    processor: u8,
+    made: Result<Entry, NoticeFault>,
+) -> Result<(), FileFault>
+    requires { vec_len log.old ≤ MOST_ENTRIES }
+    ensures ok { OnOk result (longer_log processor log.old.items made ≡ Ok log.new.items) }
+    ensures fault { IfErr result (λ f. f ≢ Memory → longer_log processor log.old.items made ≡ Err f) }
+    ensures short { vec_len log.new ≤ MOST_ENTRIES }
+{
+    let made = if log.len() >= MOST_ENTRIES {
+        Err(NoticeFault::LogFull)
+    } else {
+        made
+    };
+    match made {
+        Ok(entry) => log.push(entry).ok().ok_or(FileFault::Memory),
+        Err(cause) => Err(FileFault::Entry {
+            proc: processor,
+            number: log.len() as u32 + 1,
+            cause,
+        }),
+    }
+}
+
+// Reads what a table makes, or the first fault of its keys.
+fn read_entry(table: &Table, place: u64, processors: u64, version: u64) -> Result<Made, FileFault>
+    requires { 1 ≤ processors }
+    ensures { result ≡ made_at version processors place (table_view table.now) }
+{
+    let processor = number(table, place, Field::Processor, 0, processors - 1)?;
+    let floor = natural_number(table, place, Field::Floor)?;
+    let notice = read_notice(table, place, version)?;
+    let entry = checked_entry(floor, notice);
+    Ok(Made { processor, entry })
+}
+
+// Reads the announcement of a table, if it has a kind, or the first fault of its keys.
+fn read_notice(table: &Table, place: u64, version: u64) -> Result<Option<Notice<'_>>, FileFault>
+    ensures { result_map_both (option_map noticed) (λ e. e) result ≡ notice_at version place (table_view table.now) }
+{
+    let Some(kind) = read_kind(table, place)? else {
+        return Ok(None);
+    };
+    let at = natural_number(table, place, Field::At)?;
+    let name = text(table, place, Field::Name)?.as_bytes();
+    let change = change_fields(table, place, version).change(kind)?;
+    Ok(Some(Notice { at, name, change }))
+}
+
+// The kind of a table, if it has one.
+fn read_kind(table: &Table, place: u64) -> Result<Option<Kind>, FileFault>
+    ensures { result ≡ kind_at place (table_view table.now) }
+{
+    let field = Field::Kind;
+    let Some(value) = find(table, field) else {
+        return Ok(None);
+    };
+    let name = value.as_str().ok_or(FileFault::WrongKind { place, field })?;
+    let kind = Kind::named(name.as_bytes()).ok_or(FileFault::Range { place, field })?;
+    Ok(Some(kind))
+}
+
+// The keys that kinds of announcements ask for beside those of all.
+fn change_fields(table: &Table, place: u64, version: u64) -> ChangeFields<FileFault>
+    ensures { result ≡ fields_at version place (table_view table.now) }
+{
+    ChangeFields {
+        cost: natural_number(table, place, Field::Cost),
+        period: natural_number(table, place, Field::Period),
+        early: read_early(table, place, version),
+        index: natural_number(table, place, Field::Index),
+        by: natural_number(table, place, Field::By),
+    }
+}
+
+// Whether a task that arrives may run early: never in version 1.
+fn read_early(table: &Table, place: u64, version: u64) -> Result<bool, FileFault>
+    ensures { result ≡ early_at version place (table_view table.now) }
+{
+    let field = Field::Early;
+    if version < 2 {
+        return Ok(false);
+    }
+    let Some(value) = find(table, field) else {
+        return Ok(false);
+    };
+    value.as_bool().ok_or(FileFault::WrongKind { place, field })
 }

@@ -8,10 +8,10 @@ use Rattle.std.specs.Fmt.{decimal, signed_decimal}
 use Rattle.pfair_text.specs.Rows.{line, lines_text}
 use Rattle.pfair_text.proofs.RowFacts.{first_left, lines_text-append}
 use Rattle.pfair_weight.specs.Share.{Share}
-use Rattle.pfair_entry.specs.declared.announcement.Announcement.{Announcement}
-use Rattle.pfair_entry.specs.declared.announcement.Announcement.TheVariants.{Arrive, Depart, Late}
+use Rattle.pfair_entry.specs.declared.entry.Announcement.{Announcement}
+use Rattle.pfair_entry.specs.declared.entry.Announcement.TheVariants.{Arrive, Depart, Late}
 use Rattle.pfair_admission.specs.declared.decision.Decision.{Decision}
-use Rattle.pfair_table.specs.declared.pick.Decided.{Decided}
+use Rattle.pfair_table.specs.declared.slot.Decided.{Decided}
 use Rattle.pfair_table.specs.Table.{Table}
 use Rattle.pfair_weight.specs.Name.{NameValue}
 use Rattle.pfair_lag.specs.Book.{Tally, Book, tally_of, lag_of, entered_with, left}

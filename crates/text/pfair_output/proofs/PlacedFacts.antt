@@ -3,7 +3,7 @@ use Rattle.std.proofs.Common.{ℕ, suc, ◌+◌, ◌<◌, ◌≡◌, sym, ap, �
 use Rattle.std.proofs.lemmas.Option.{same_Some}
 use Rattle.pfair_text.proofs.RowFacts.{first_left}
 use Rattle.pfair_text.specs.Rows.{line, lines_text}
-use Rattle.pfair_table.specs.declared.pick.Pick.{Pick}
+use Rattle.pfair_table.specs.declared.slot.Pick.{Pick}
 use Rattle.pfair_table.specs.Table.{Table}
 use Rattle.pfair_output.specs.Replay.{placed_row, placed_rows_from}
 

@@ -7,7 +7,7 @@ use Rattle.pfair_text.specs.Rows.{lines_text}
 use Rattle.pfair_text.proofs.RowFacts.{lines_text-append}
 use Rattle.pfair_lag.specs.Book.{Book}
 use Rattle.pfair_replica.specs.Replica.{Replica, frontier, numbers_below, said}
-use Rattle.pfair_table.specs.declared.pick.Decided.{Decided}
+use Rattle.pfair_table.specs.declared.slot.Decided.{Decided}
 use Rattle.pfair_table.specs.Table.{Settings, table, decisions}
 use Rattle.pfair_output.specs.Decisions.{decided_rows}
 use Rattle.pfair_output.specs.Lags.{lag_rows}

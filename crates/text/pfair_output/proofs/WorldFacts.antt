@@ -9,9 +9,9 @@ use Rattle.std.proofs.lemmas.Grind.{flat_map-append}
 use Rattle.pfair_weight.specs.Name.{NameValue, NamesApart, name_eq}
 use Rattle.pfair_weight.specs.Share.{Share}
 use Rattle.pfair_weight.proofs.NamesApart.{apart_head, apart_nil, apart_tail}
-use Rattle.pfair_entry.specs.declared.announcement.Announcement.{Announcement}
-use Rattle.pfair_entry.specs.declared.announcement.Announcement.TheVariants.{Arrive, Depart, Late}
-use Rattle.pfair_entry.specs.declared.said.Said.{Said}
+use Rattle.pfair_entry.specs.declared.entry.Announcement.{Announcement}
+use Rattle.pfair_entry.specs.declared.entry.Announcement.TheVariants.{Arrive, Depart, Late}
+use Rattle.pfair_entry.specs.declared.entry.Said.{Said}
 use Rattle.pfair_replica.specs.Replica.{Replica, frontier, said, numbers_below}
 use Rattle.pfair_replica.specs.ReplicaRows.{replica_of}
 use Rattle.pfair_table.specs.Refinement.{Dispatch, IsWholePlan}
@@ -19,8 +19,8 @@ use Rattle.pfair_admission.specs.declared.decision.Decision.{Decision}
 use Rattle.pfair_admission.specs.declared.decision.Decision.TheVariants.{Admitted, Departing, Delayed, Refused}
 use Rattle.pfair_admission.specs.Member.{Member, is_departing}
 use Rattle.pfair_admission.specs.Admission.{Machine, member_named, decision, newcomer, with_freeing, with_delay, with_quantum, change, effect, is_freed, present, all_decided, all_decisions, announcements}
-use Rattle.pfair_table.specs.declared.pick.Pick.{Pick}
-use Rattle.pfair_table.specs.declared.pick.Decided.{Decided}
+use Rattle.pfair_table.specs.declared.slot.Pick.{Pick}
+use Rattle.pfair_table.specs.declared.slot.Decided.{Decided}
 use Rattle.pfair_table.specs.Table.{Settings, Origin, Story, Table, machine, members_before, names_task, slot_of, history, world, table, decisions, with_decisions, plan}
 use Rattle.pfair_lag.specs.Book.{Tally, Book, empty_book, tally_of, has_run, entered_after, entered_with, slot_more}
 use Rattle.pfair_output.specs.Lags.{is_staying, lag_row, lag_rows}

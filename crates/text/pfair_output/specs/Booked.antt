@@ -1,11 +1,11 @@
 -- A book of lags that is notified of what was planned, slot by slot, and its rows.
 use Rattle.std.specs.Prelude.{ℕ, ◌-◌, None, Some, Bool, true, false, if◌then◌else◌, List, [], ◌∷◌, ◌++◌, map}
 use Rattle.std.specs.Fmt.{decimal, signed_decimal}
-use Rattle.pfair_entry.specs.declared.announcement.Announcement.{Announcement}
-use Rattle.pfair_entry.specs.declared.announcement.Announcement.TheVariants.{Arrive, Depart, Late}
+use Rattle.pfair_entry.specs.declared.entry.Announcement.{Announcement}
+use Rattle.pfair_entry.specs.declared.entry.Announcement.TheVariants.{Arrive, Depart, Late}
 use Rattle.pfair_admission.specs.declared.decision.Decision.{Decision}
 use Rattle.pfair_admission.specs.declared.decision.Decision.TheVariants.{Admitted, Departing, Delayed, Refused}
-use Rattle.pfair_table.specs.declared.pick.Decided.{Decided}
+use Rattle.pfair_table.specs.declared.slot.Decided.{Decided}
 use Rattle.pfair_admission.specs.Member.{Member, is_departing}
 use Rattle.pfair_table.specs.Table.{Origin, Table}
 use Rattle.pfair_weight.specs.Name.{NameValue}

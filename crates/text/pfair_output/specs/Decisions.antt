@@ -6,7 +6,7 @@ use Rattle.pfair_admission.specs.Refusal.{refusal_number}
 use Rattle.pfair_admission.specs.declared.decision.Decision.{Decision}
 use Rattle.pfair_admission.specs.declared.decision.Decision.TheVariants.{Admitted, Departing, Delayed, Refused}
 use Rattle.pfair_text.specs.Rows.{lines_text}
-use Rattle.pfair_table.specs.declared.pick.Decided.{Decided}
+use Rattle.pfair_table.specs.declared.slot.Decided.{Decided}
 use Rattle.pfair_output.specs.Slots.{slots_from}
 
 abbrev pub decisions_header : List (List ℕ)

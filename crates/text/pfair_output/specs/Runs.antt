@@ -1,7 +1,7 @@
 -- A script's run, slot by slot.
 use Rattle.std.specs.Prelude.{ℕ, List, map, min, None}
 use Rattle.pfair_replica.specs.Replica.{Replica, frontier, numbers_below, said}
-use Rattle.pfair_table.specs.declared.pick.Decided.{Decided}
+use Rattle.pfair_table.specs.declared.slot.Decided.{Decided}
 use Rattle.pfair_table.specs.Script.{LoggedRun, replica_of_logs}
 use Rattle.pfair_table.specs.Table.{Settings, decisions}
 

@@ -1,23 +1,27 @@
-//! Lags as rows: time, task, numerator, period.
-ghost use Rattle.std.specs.Prelude.{◌≡◌, ◌≤◌, ◌<◌, ◌-◌, ◌++◌, OnOk, List, Some, drop, slice_get, take, true};
+//! Lags as rows: time, task, numerator, period; and the book of lags with which a run begins.
+ghost use Rattle.std.specs.Prelude.{◌≡◌, ◌≤◌, ◌<◌, ◌-◌, ◌++◌, OnOk, List, Some, drop, slice_get, take, true, IfOk};
 ghost use Rattle.pfair_text.specs.Rows.{is_plain, IsOpen, line, lines_text, text_so_far};
 ghost use Rattle.pfair_weight.specs.Name.{NameValue};
 ghost use Rattle.pfair_lag.specs.Book.{Tally};
-ghost use Rattle.pfair_table.specs.declared.pick.Decided.{Decided};
+ghost use Rattle.pfair_table.specs.declared.slot.Decided.{Decided};
 ghost use Rattle.pfair_table.specs.Table.{Table};
 ghost use Rattle.std.specs.Fmt.{decimal};
 ghost use Rattle.pfair_output.specs.Lags.{lags_header};
-ghost use Rattle.pfair_output.specs.Booked.{booked, all_booked, slot_booked, all_slots_booked, tally_row, book_rows, rows_booked};
+ghost use Rattle.pfair_output.specs.Booked.{booked, all_booked, slot_booked, all_slots_booked, tally_row, book_rows, rows_booked, entered_again, first_book};
+ghost use Rattle.std.specs.List.{AllByRecursion};
+ghost use Rattle.pfair_admission.specs.Carried.{CanBeCarried};
+ghost use Rattle.pfair_admission.specs.Member.{Member};
+ghost use Rattle.pfair_admission.specs.declared.members.TheConstants.Members.{LAST_SLOT};
 
 use csv::Writer;
 use itoa::Buffer;
-use pfair_admission::Decision;
+use pfair_admission::{Decision, Members};
 use pfair_entry::Announcement;
 use pfair_lag::{LagBook, MAX_HORIZON};
 use pfair_ready::Ready;
 use pfair_table::{Decided, Dispatcher, Pick};
 use pfair_text::add_row;
-use std::alloc::AllocError;
+use std::alloc::{AllocError, Global};
 
 /// Adds the header of lags as rows.
 ///
@@ -185,5 +189,50 @@ fn add_task(
             Buffer::new().format(period).as_bytes(),
         ],
     )?;
+    Ok(())
+}
+
+/// Returns the book before a run's first slot: it has the lags of the members that were carried into
+/// it. O(n) for n members.
+///
+/// # Errors
+/// Returns [`AllocError`] if an allocation fails.
+pub fn first_book<R: Ready>(
+    alloc: Global,
+    dispatcher: &Dispatcher<R>,
+) -> Result<LagBook, AllocError>
+    ensures { IfOk result (λ book. book ≡ first_book dispatcher.now.origin) }
+{
+    let mut book = LagBook::new(alloc);
+    let Some(state) = dispatcher.state() else {
+        return Ok(book);
+    };
+    let (members, slot) = (state.members(), state.slot());
+    for place in 0..members.len() {
+        enter_at(&mut book, members, place, slot)?;
+    }
+    Ok(book)
+}
+
+// Enters the member at a place of those that were carried into a run that begins at the slot, unless it
+// is departing.
+fn enter_at(
+    book: &mut LagBook,
+    members: &Members,
+    place: usize,
+    slot: u64,
+) -> Result<(), AllocError>
+    requires able { AllByRecursion CanBeCarried members.now.members }
+    requires slot { slot ≤ LAST_SLOT }
+    ensures { OnOk result ((member : Member) → slice_get members.now.members place ≡ Some member
+        → book.new ≡ entered_again slot member book.old) }
+{
+    let Some((_, member)) = members.at(place) else {
+        return Ok(());
+    };
+    if !member.is_departing() {
+        let slots = slot.saturating_sub(member.joined());
+        book.enter_after(*member.name(), member.weight(), slots, member.next() - 1)?;
+    }
     Ok(())
 }

@@ -6,9 +6,9 @@ use Rattle.pfair_weight.specs.Name.{name_eq}
 use Rattle.std.proofs.lemmas.List.{append-nil, length-append}
 use Rattle.pfair_admission.specs.declared.delay.Delay.{Delay}
 use Rattle.pfair_state.specs.Reading.{as_late, late_said}
-use Rattle.pfair_state.specs.declared.row.LateRow.{LateRow}
-use Rattle.pfair_state.specs.declared.row.Row.{Row}
-use Rattle.pfair_state.specs.declared.row.Row.TheVariants.{Late}
+use Rattle.pfair_state.specs.declared.rows.LateRow.{LateRow}
+use Rattle.pfair_state.specs.declared.rows.Row.{Row}
+use Rattle.pfair_state.specs.declared.rows.Row.TheVariants.{Late}
 use Rattle.pfair_state.proofs.Behind.{first_at, next_behind}
 
 module _ (rows : List Row) (from : ℕ) (name : List ℕ) where

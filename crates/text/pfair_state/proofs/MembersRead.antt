@@ -12,9 +12,9 @@ use Rattle.pfair_admission.specs.declared.delay.Delay.{Delay}
 use Rattle.pfair_admission.proofs.RestoredRuns.{in_turn}
 use Rattle.pfair_table.specs.Limits.{AreLeftAt}
 use Rattle.pfair_state.specs.Reading.{IsBehindMembers, as_late, late_said, member_of, as_member, member_said, own_said}
-use Rattle.pfair_state.specs.declared.row.MemberRow.{MemberRow}
-use Rattle.pfair_state.specs.declared.row.Row.{Row}
-use Rattle.pfair_state.specs.declared.row.Row.TheVariants.{Member as MemberIn}
+use Rattle.pfair_state.specs.declared.rows.MemberRow.{MemberRow}
+use Rattle.pfair_state.specs.declared.rows.Row.{Row}
+use Rattle.pfair_state.specs.declared.rows.Row.TheVariants.{Member as MemberIn}
 use Rattle.pfair_state.proofs.Behind.{behind_some, first_at, next_behind}
 
 pub middle : {A : Type 0} (P : A → Type 0) (xs ys : List A) (x : A) → AllByRecursion P (xs ++ x ∷ ys) → P x

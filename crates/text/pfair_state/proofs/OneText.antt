@@ -14,10 +14,10 @@ use Rattle.pfair_text.specs.Rows.{lines_text}
 use Rattle.pfair_entry_row.specs.Fields.{parts, parts_at}
 use Rattle.pfair_state.specs.Reading.{AreSpelled, IsSpelled, StatesHaveOneText, as_late, fields_of, late_said, line_of, member_of, member_said, ran_said, said_of}
 use Rattle.pfair_state.specs.Rows.{slot_field}
-use Rattle.pfair_state.specs.declared.row.LateRow.{LateRow}
-use Rattle.pfair_state.specs.declared.row.MemberRow.{MemberRow}
-use Rattle.pfair_state.specs.declared.row.Row.{Row}
-use Rattle.pfair_state.specs.declared.row.Row.TheVariants.{First, Member, Late, Ran, End}
+use Rattle.pfair_state.specs.declared.rows.LateRow.{LateRow}
+use Rattle.pfair_state.specs.declared.rows.MemberRow.{MemberRow}
+use Rattle.pfair_state.specs.declared.rows.Row.{Row}
+use Rattle.pfair_state.specs.declared.rows.Row.TheVariants.{First, Member, Late, Ran, End}
 use Rattle.pfair_state.proofs.RowsSaid.{rows_say}
 use Rattle.pfair_state.proofs.Spelled.{dash_is_no_number, parts_of_line, parts_of_text, same_member}
 use Rattle.pfair_state.proofs.StateRead.{behind_members, ends_members, last_of}

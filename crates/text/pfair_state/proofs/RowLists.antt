@@ -4,7 +4,7 @@ use Rattle.std.specs.List.{flat_map}
 use Rattle.std.proofs.lemmas.List.{length-append}
 use Rattle.pfair_text.specs.Rows.{line, lines_text}
 use Rattle.pfair_text.proofs.RowFacts.{first_left, lines_text-append}
-use Rattle.pfair_table.specs.declared.pick.Pick.{Pick}
+use Rattle.pfair_table.specs.declared.slot.Pick.{Pick}
 use Rattle.pfair_table.specs.Table.{Table}
 use Rattle.pfair_state.specs.Rows.{Row, ran_row, ran_rows}
 

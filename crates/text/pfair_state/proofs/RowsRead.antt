@@ -7,7 +7,7 @@ use Rattle.std.proofs.lemmas.List.Splits.{length-slice_split}
 use Rattle.pfair_text.specs.Rows.{lines_text}
 use Rattle.pfair_entry_row.specs.Fields.{parts, parts_at}
 use Rattle.pfair_state.specs.Reading.{IsSpelled, fields_of, line_of}
-use Rattle.pfair_state.specs.declared.row.Row.{Row}
+use Rattle.pfair_state.specs.declared.rows.Row.{Row}
 use Rattle.pfair_state.proofs.Spelled.{parts_of_line, parts_of_text}
 
 -- the rows that are left, where some were read and this is the rest of the text

@@ -10,7 +10,7 @@ use Rattle.pfair_admission.specs.declared.delay.Delay.{Delay}
 use Rattle.pfair_table.specs.Table.{Carried, Table}
 use Rattle.pfair_state.specs.Reading.{fields_of, first_said, late_said, member_said, ran_said, said_before_end, said_of}
 use Rattle.pfair_state.specs.Rows.{first_row, end_row, late_row, member_row, member_rows, ran_row, ran_rows, rows_before_end, state_rows}
-use Rattle.pfair_state.specs.declared.row.Row.TheVariants.{End}
+use Rattle.pfair_state.specs.declared.rows.Row.TheVariants.{End}
 
 delays_say : (name : List ℕ) (delays : List Delay) → map fields_of (map (late_said name) delays) ≡ map (late_row name) delays
 delays_say name [] = refl

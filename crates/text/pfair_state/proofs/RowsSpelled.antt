@@ -10,7 +10,7 @@ use Rattle.pfair_admission.proofs.Each.{each, each_map}
 use Rattle.pfair_table.specs.Limits.{IsState}
 use Rattle.pfair_table.specs.Table.{Carried, Table}
 use Rattle.pfair_state.specs.Reading.{AreSpelled, IsSpelled, IsSpelledQuantum, IsWritable, first_said, late_said, member_said, own_said, ran_said, said_before_end}
-use Rattle.pfair_state.specs.declared.row.Row.TheVariants.{End}
+use Rattle.pfair_state.specs.declared.rows.Row.TheVariants.{End}
 
 pub on_ok : {A E P : Type 0} (r : Result A E) → P → OnOk r P
 on_ok (Ok x) h = h

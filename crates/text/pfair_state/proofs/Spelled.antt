@@ -25,9 +25,9 @@ use Rattle.pfair_entry_row.proofs.Lines.{at_each, joined, truth_is_plain}
 use Rattle.pfair_entry_row.proofs.Names.{no_comma-plain}
 use Rattle.pfair_state.specs.Reading.{IsSpelled, fields_of, line_of}
 use Rattle.pfair_state.specs.Rows.{slot_field}
-use Rattle.pfair_state.specs.declared.row.MemberRow.{MemberRow}
-use Rattle.pfair_state.specs.declared.row.Row.{Row}
-use Rattle.pfair_state.specs.declared.row.Row.TheVariants.{First, Member, Late, Ran, End}
+use Rattle.pfair_state.specs.declared.rows.MemberRow.{MemberRow}
+use Rattle.pfair_state.specs.declared.rows.Row.{Row}
+use Rattle.pfair_state.specs.declared.rows.Row.TheVariants.{First, Member, Late, Ran, End}
 
 -- ---- what is right has no fault
 

@@ -11,9 +11,9 @@ use Rattle.pfair_table.specs.Table.{Carried, Table}
 use Rattle.pfair_state.specs.Reading.{IsBehindMembers, IsWritable, as_first, as_end, member_said, as_quantum, ran_said, said_before_end, said_of}
 use Rattle.pfair_state.specs.declared.fault.ReadFault.{ReadFault}
 use Rattle.pfair_state.specs.declared.fault.ReadFault.TheVariants.{Memory}
-use Rattle.pfair_state.specs.declared.row.FirstRow.{FirstRow}
-use Rattle.pfair_state.specs.declared.row.Row.{Row}
-use Rattle.pfair_state.specs.declared.row.Row.TheVariants.{End}
+use Rattle.pfair_state.specs.declared.rows.FirstRow.{FirstRow}
+use Rattle.pfair_state.specs.declared.rows.Row.{Row}
+use Rattle.pfair_state.specs.declared.rows.Row.TheVariants.{End}
 use Rattle.pfair_state.proofs.Behind.{first_at}
 
 -- the number of all rows, as the last one says it

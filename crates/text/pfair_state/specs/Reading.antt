@@ -11,15 +11,15 @@ use Rattle.pfair_admission.specs.declared.delay.Delay.{Delay}
 use Rattle.pfair_table.specs.Limits.{AreLeftAt, IsState}
 use Rattle.pfair_table.specs.Places.{ArePlacesOf, IsFit}
 use Rattle.pfair_table.specs.Table.{Carried, Table}
-use Rattle.pfair_table.specs.declared.pick.Pick.{Pick}
+use Rattle.pfair_table.specs.declared.slot.Pick.{Pick}
 use Rattle.pfair_state.specs.Rows.{slot_field, state_text}
 use Rattle.pfair_state.specs.declared.fault.ReadFault.{ReadFault}
 use Rattle.pfair_state.specs.declared.fault.ReadFault.TheVariants.{Memory}
-use Rattle.pfair_state.specs.declared.row.FirstRow.{FirstRow}
-use Rattle.pfair_state.specs.declared.row.LateRow.{LateRow}
-use Rattle.pfair_state.specs.declared.row.MemberRow.{MemberRow}
-use Rattle.pfair_state.specs.declared.row.Row.{Row}
-use Rattle.pfair_state.specs.declared.row.Row.TheVariants.{First, Member, Late, Ran, End}
+use Rattle.pfair_state.specs.declared.rows.FirstRow.{FirstRow}
+use Rattle.pfair_state.specs.declared.rows.LateRow.{LateRow}
+use Rattle.pfair_state.specs.declared.rows.MemberRow.{MemberRow}
+use Rattle.pfair_state.specs.declared.rows.Row.{Row}
+use Rattle.pfair_state.specs.declared.rows.Row.TheVariants.{First, Member, Late, Ran, End}
 
 -- ---- a row
 

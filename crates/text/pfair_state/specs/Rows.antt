@@ -6,7 +6,7 @@ use Rattle.pfair_text.specs.Rows.{lines_text}
 use Rattle.pfair_entry_row.specs.Row.{dash, truth}
 use Rattle.pfair_admission.specs.Member.{Member}
 use Rattle.pfair_admission.specs.declared.delay.Delay.{Delay}
-use Rattle.pfair_table.specs.declared.pick.Pick.{Pick}
+use Rattle.pfair_table.specs.declared.slot.Pick.{Pick}
 use Rattle.pfair_table.specs.Table.{Carried, Table}
 
 -- a row's fields

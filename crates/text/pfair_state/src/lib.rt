@@ -5,7 +5,6 @@
 mod fault;
 pub mod laws;
 mod read;
-mod row;
 mod rows;
 mod write;
 

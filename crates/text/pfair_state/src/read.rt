@@ -10,8 +10,7 @@ ghost use Rattle.pfair_state.specs.Rows.{state_text};
 ghost use Rattle.pfair_state.specs.declared.fault.ReadFault.TheVariants.{Memory};
 
 use crate::fault::{ReadFault, Why, no_row, refused};
-use crate::row::{MemberRow, Row};
-use crate::rows::{begin_at, end_at, late_at, member_at, quantum_at, read_rows};
+use crate::rows::{MemberRow, Row, begin_at, end_at, late_at, member_at, quantum_at, read_rows};
 use crate::write::add_state;
 use pfair_admission::{Delay, MemberState, Members, RestoreFault};
 use pfair_table::{Settings, State};

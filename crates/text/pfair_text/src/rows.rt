@@ -1,11 +1,14 @@
-//! The text of a table, made row by row by a CSV writer in memory.
-ghost use Rattle.std.specs.Prelude.{◌≡◌, ◌<◌, ◌++◌, [], length, map, IsTrue, OnOk, IfOk};
+//! The text of a table, made row by row by a CSV writer in memory, then sent to a writer.
+ghost use Rattle.std.specs.Prelude.{◌≡◌, ◌<◌, ◌++◌, [], length, map, IsTrue, OnOk, IfOk, ◌≤◌, take, OnErr};
 ghost use Rattle.std.specs.List.{list_all};
 ghost use Rattle.csv.specs.Writing.{writer_pending};
 ghost use Rattle.pfair_text.specs.Rows.{is_plain, IsOpen, line, text_so_far};
+ghost use Rattle.std.specs.Io.KnownBytes.{Appends};
+ghost use Rattle.pfair_text.specs.Output.{TakesPrefix};
 
 use csv::{Writer, WriterBuilder};
 use std::alloc::{AllocError, Global};
+use std::io::Write;
 
 /// Creates an empty text, to which rows are added, of any numbers of fields.
 pub fn new_text(alloc: Global) -> Writer<Vec<u8>>
@@ -49,4 +52,30 @@ pub fn finish(writer: Writer<Vec<u8>>) -> Result<Vec<u8>, AllocError>
         Ok(text) => Ok(text),
         Err(_) => Err(AllocError),
     }
+}
+
+/// A writer answered an error, or took none of a piece that isn't empty.
+#[derive(Clone, Copy, Debug, PartialEq, Eq)]
+pub struct WriteFailed;
+
+/// Sends a text in as many calls of `write` as the writer takes.
+///
+/// At `Ok` the writer has gained the whole text. O(bytes), beside the writer's own cost; it allocates
+/// nothing.
+///
+/// # Errors
+/// Returns [`WriteFailed`] at the first error of the writer, whatever its kind, or if the writer takes
+/// nothing of a piece; a prefix of the text has then gone out.
+pub fn send<W: Write>(writer: &mut W, text: &[u8]) -> Result<(), WriteFailed>
+    ensures ok { OnOk result (Appends (W.contents writer.old) (W.contents writer.new) text.now) }
+    ensures failed { OnErr result (TakesPrefix (W.contents writer.old) (W.contents writer.new) text.now) }
+{
+    let mut sent = 0;
+    'pieces: while sent < text.len() {
+        match writer.write(&text[sent..]) {
+            Ok(0) | Err(_) => return Err(WriteFailed),
+            Ok(taken) => sent += taken,
+        }
+    }
+    Ok(())
 }

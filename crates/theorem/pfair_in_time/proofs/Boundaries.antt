@@ -7,11 +7,11 @@ use Rattle.pfair_weight.specs.Name.{NamesApart}
 use Rattle.pfair_weight.specs.Share.{Share, IsWeight, units_of}
 use Rattle.pfair_weight.specs.Window.{release_of}
 use Rattle.pfair_entry.specs.Exact.{name_exact}
-use Rattle.pfair_entry.specs.declared.announcement.Announcement.{Announcement}
+use Rattle.pfair_entry.specs.declared.entry.Announcement.{Announcement}
 use Rattle.pfair_entry.specs.Entry.{IsWeighed}
 use Rattle.pfair_replica.specs.Among.{Among, among_left, among_append, among_filter, filter_among, among_map, map_among}
 use Rattle.pfair_admission.specs.declared.decision.Decision.TheVariants.{Admitted, Departing, Delayed, Refused}
-use Rattle.pfair_admission.specs.declared.refusal.Refusal.TheVariants.{NameTaken, PeriodOutsideFrame, NoRoom, AlreadyDeparting, AlreadyReleased}
+use Rattle.pfair_admission.specs.declared.decision.Refusal.TheVariants.{NameTaken, PeriodOutsideFrame, NoRoom, AlreadyDeparting, AlreadyReleased}
 use Rattle.pfair_admission.specs.Member.{Member, theta, is_departing, busy_until, freeing_slot}
 use Rattle.pfair_admission.specs.Admission.{Machine, is_named, member_named, claimed, arrival, departure, late_release, decision, newcomer, with_freeing, with_delay, change, effect, is_freed, present, decided, all_decided, boundary}
 use Rattle.pfair_admission.proofs.Effects.{by_effect}

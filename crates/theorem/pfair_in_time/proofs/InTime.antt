@@ -7,7 +7,7 @@ use Rattle.pfair_weight.specs.Window.{release_of, deadline_of, starts_job_of}
 use Rattle.pfair_entry.specs.Exact.{name_itself}
 use Rattle.pfair_replica.specs.Among.{Among, among_map}
 use Rattle.pfair_admission.specs.Member.{Member, theta, is_departing, is_delayed_at, eligible_from, next_key}
-use Rattle.pfair_table.specs.declared.pick.Pick.{Pick}
+use Rattle.pfair_table.specs.declared.slot.Pick.{Pick}
 use Rattle.pfair_admission.proofs.Keeping.{eligible_at_job}
 use Rattle.pfair_table.specs.Table.{Settings, pick, index_of, Story, world, table}
 use Rattle.pfair_optimal.specs.Schedule.{Task, Subtask, deadline, is_row, has_run, IsNext}

@@ -14,7 +14,7 @@ use Rattle.pfair_entry.specs.Exact.{name_exact, name_itself}
 use Rattle.pfair_entry.specs.Same.{name_eq}
 use Rattle.pfair_replica.specs.Among.{Among, among_all}
 use Rattle.pfair_replica.specs.Replica.{numbers_below}
-use Rattle.pfair_table.specs.declared.pick.Pick.{Pick}
+use Rattle.pfair_table.specs.declared.slot.Pick.{Pick}
 use Rattle.pfair_table.specs.Table.{Table, names_task}
 use Rattle.pfair_in_time.specs.Schedules.{Arrival, quanta_before, NoneServesMore}
 

@@ -1,7 +1,7 @@
 -- What a dispatcher has planned is in time, in whichever run it is, and whatever events have come.
 use Rattle.std.proofs.Common.{◌≡◌, ℕ, zero, suc, List, [], ◌∷◌, map, Some, refl, ap, sym, ◌∙◌, subst, inl, inr}
 use Rattle.std.specs.Prelude.{◌⊎◌}
-use Rattle.pfair_lattice.specs.declared.flat.Flat.TheVariants.{Torn}
+use Rattle.pfair_lattice.specs.declared.join_map.Flat.TheVariants.{Torn}
 use Rattle.pfair_lattice.specs.HeldLaws.{join_least, below_itself}
 use Rattle.pfair_entry.specs.Exact.{entry_exact}
 use Rattle.pfair_entry.specs.Same.{entry_eq}

@@ -23,7 +23,7 @@ use Rattle.pfair_admission.specs.declared.decision.Decision.TheVariants.{Admitte
 use Rattle.pfair_admission.specs.Member.{Member, theta, is_departing, eligible_from, next_key}
 use Rattle.pfair_admission.specs.Admission.{Machine, is_named, member_named, arrival, newcomer, effect, is_freed, present, decided, all_decided, announcements}
 use Rattle.pfair_admission.proofs.Keeping.{eligible_at_job}
-use Rattle.pfair_table.specs.declared.pick.Pick.{Pick}
+use Rattle.pfair_table.specs.declared.slot.Pick.{Pick}
 use Rattle.pfair_table.specs.Ranks.{first_by_rank}
 use Rattle.pfair_table.specs.Table.{Settings, machine, names_task, next_index, counted_one, counted, is_eligible, eligible, index_of, pick, chosen, table_of, world, table}
 use Rattle.pfair_table.proofs.NextIndexes.{world_counted}

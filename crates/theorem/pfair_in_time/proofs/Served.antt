@@ -11,17 +11,17 @@ use Rattle.pfair_weight.specs.Window.{deadline_of}
 use Rattle.pfair_weight.specs.WindowFacts.{deadline_rises, window_not_empty}
 use Rattle.pfair_weight.proofs.NamesApart.{apart_head, apart_tail}
 use Rattle.pfair_entry.specs.Exact.{name_exact, name_itself}
-use Rattle.pfair_entry.specs.declared.said.Said.{Said}
+use Rattle.pfair_entry.specs.declared.entry.Said.{Said}
 use Rattle.pfair_entry.specs.Same.{name_eq}
 use Rattle.pfair_entry.specs.Entry.{IsWeighed}
 use Rattle.pfair_replica.specs.Among.{Among, among_append, among_all, filter_among, among_map, map_among}
 use Rattle.pfair_replica.specs.Replica.{Replica, said}
 use Rattle.pfair_admission.specs.declared.decision.Decision.{Decision}
 use Rattle.pfair_admission.specs.declared.decision.Decision.TheVariants.{Admitted, Refused}
-use Rattle.pfair_admission.specs.declared.refusal.Refusal.TheVariants.{NameTaken, PeriodOutsideFrame, NoRoom}
+use Rattle.pfair_admission.specs.declared.decision.Refusal.TheVariants.{NameTaken, PeriodOutsideFrame, NoRoom}
 use Rattle.pfair_admission.specs.Member.{Member}
 use Rattle.pfair_admission.specs.Admission.{Machine, is_named, member_named, claimed, arrival, newcomer, effect, is_freed, present, decided, all_decided, all_decisions, announcements}
-use Rattle.pfair_table.specs.declared.pick.Decided.{Decided}
+use Rattle.pfair_table.specs.declared.slot.Decided.{Decided}
 use Rattle.pfair_table.specs.Table.{Settings, machine, quanta, counted_one, history, world, table, with_decisions, decisions}
 use Rattle.pfair_table.proofs.NextIndexes.{world_counted}
 use Rattle.pfair_in_time.specs.Schedules.{Arrival, announced, AreArrivals, SaysOnly, units_wanted, quanta_before, IsServed, ServedWhereThereIsRoom}

@@ -21,7 +21,7 @@ use Rattle.pfair_replica.specs.Among.{Among, among_all, among_filter, among_map,
 use Rattle.pfair_admission.specs.Member.{Member, is_departing, busy_until, eligible_from, next_key}
 use Rattle.pfair_admission.specs.Admission.{announcements}
 use Rattle.pfair_table.specs.Table.{Settings, Table, machine, names_task, quanta, next_index, counted_one, counted, is_eligible, eligible, pick, chosen, Story, history, world, table}
-use Rattle.pfair_table.specs.declared.pick.Pick.{Pick}
+use Rattle.pfair_table.specs.declared.slot.Pick.{Pick}
 use Rattle.pfair_in_time.specs.Descent.{Descends, IsSound, IsNew}
 use Rattle.pfair_in_time.specs.Laws.{AllSound, AllHaveWeights, IsFreed}
 use Rattle.pfair_table.proofs.Members.{named_world}

@@ -3,7 +3,7 @@ use Rattle.std.specs.Prelude.{ℕ, ◌≡◌, ◌<◌, List, [], ◌∷◌, leng
 use Rattle.std.specs.List.{AllByRecursion}
 use Rattle.pfair_replica.specs.ReplicaRows.{replica_of}
 use Rattle.pfair_replica.specs.Replica.{Replica, IsReplica, Untorn, said}
-use Rattle.pfair_table.specs.declared.event.Event.{Event}
+use Rattle.pfair_table.specs.declared.run.Event.{Event}
 use Rattle.pfair_table.specs.Events.{IsEvent, begin_at, run}
 use Rattle.pfair_table.specs.Limits.{IsSettings}
 use Rattle.pfair_table.specs.NextRun.{left_by}

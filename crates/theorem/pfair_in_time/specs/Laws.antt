@@ -1,7 +1,7 @@
 -- The laws of members over boundaries.
 use Rattle.std.specs.Prelude.{ℕ, ◌≡◌, ◌≤◌, ◌⊎◌, List, Some}
 use Rattle.pfair_weight.specs.Name.{NamesApart}
-use Rattle.pfair_entry.specs.declared.announcement.Announcement.{Announcement}
+use Rattle.pfair_entry.specs.declared.entry.Announcement.{Announcement}
 use Rattle.pfair_entry.specs.Entry.{IsWeighed}
 use Rattle.pfair_replica.specs.Among.{Among}
 use Rattle.pfair_admission.specs.Member.{Member}

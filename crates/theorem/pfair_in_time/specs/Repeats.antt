@@ -6,7 +6,7 @@ use Rattle.pfair_replica.specs.Among.{Among}
 use Rattle.pfair_replica.specs.Replica.{Replica, said}
 use Rattle.pfair_admission.specs.Admission.{member_named}
 use Rattle.pfair_admission.specs.Member.{Member}
-use Rattle.pfair_table.specs.declared.pick.Pick.{Pick}
+use Rattle.pfair_table.specs.declared.slot.Pick.{Pick}
 use Rattle.pfair_table.specs.Table.{Settings, world, table}
 use Rattle.pfair_in_time.specs.Schedules.{Arrival, SaysOnly}
 

@@ -5,7 +5,7 @@ use Rattle.pfair_weight.specs.Window.{deadline_of}
 use Rattle.pfair_replica.specs.Among.{Among}
 use Rattle.pfair_replica.specs.Replica.{Replica, IsReplica, said}
 use Rattle.pfair_admission.specs.Member.{Member, theta, is_departing}
-use Rattle.pfair_table.specs.declared.pick.Pick.{Pick}
+use Rattle.pfair_table.specs.declared.slot.Pick.{Pick}
 use Rattle.pfair_table.specs.RunsOn.{left_over}
 use Rattle.pfair_table.specs.Table.{Settings, Origin, Story, Table, slot_of, history, world, table}
 use Rattle.pfair_in_time.specs.InTime.{IsInTime}

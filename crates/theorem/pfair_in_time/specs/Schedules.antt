@@ -4,13 +4,13 @@ use Rattle.std.specs.List.{AllByRecursion}
 use Rattle.pfair_weight.specs.Name.{NameValue as Name, NamesApart}
 use Rattle.pfair_weight.specs.Share.{Share, IsWeight, units_of}
 use Rattle.pfair_weight.specs.Window.{deadline_of}
-use Rattle.pfair_entry.specs.declared.announcement.Announcement.{Announcement}
-use Rattle.pfair_entry.specs.declared.announcement.Announcement.TheVariants.{Arrive}
+use Rattle.pfair_entry.specs.declared.entry.Announcement.{Announcement}
+use Rattle.pfair_entry.specs.declared.entry.Announcement.TheVariants.{Arrive}
 use Rattle.pfair_replica.specs.Among.{Among}
 use Rattle.pfair_replica.specs.Replica.{Replica, said, numbers_below}
 use Rattle.pfair_admission.specs.declared.decision.Decision.TheVariants.{Admitted}
 use Rattle.pfair_admission.specs.Admission.{announcements}
-use Rattle.pfair_table.specs.declared.pick.Decided.{Decided}
+use Rattle.pfair_table.specs.declared.slot.Decided.{Decided}
 use Rattle.pfair_table.specs.Table.{Settings, Table, names_task, table, decisions}
 
 -- ---- tasks that join at slot 0

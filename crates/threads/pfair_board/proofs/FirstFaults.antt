@@ -4,8 +4,8 @@ use Rattle.pfair_replica.specs.ReplicaRows.{ReplicaRows, replica_of}
 use Rattle.pfair_table.specs.Table.{Settings, Table}
 use Rattle.pfair_table.specs.Script.{LoggedRun, replica_of_logs}
 use Rattle.pfair_board.specs.declared.threads.Worked.{Worked}
-use Rattle.pfair_table.specs.declared.run_fault.RunFault.{RunFault}
-use Rattle.pfair_table.specs.declared.run_fault.RunFault.TheVariants.{Memory, GateGaveUp, Astray, Stalled}
+use Rattle.pfair_table.specs.declared.answer.RunFault.{RunFault}
+use Rattle.pfair_table.specs.declared.answer.RunFault.TheVariants.{Memory, GateGaveUp, Astray, Stalled}
 use Rattle.pfair_desk.specs.Boards.{BoardFrame}
 use Rattle.pfair_board.specs.Logs.{IsTaken, log_of}
 use Rattle.pfair_board.specs.WorkerFaults.{IsWorkerFault}

@@ -9,7 +9,7 @@ use Rattle.pfair_table.specs.Planned.{as_tables}
 use Rattle.pfair_table.specs.Table.{Table, plan}
 use Rattle.pfair_table.specs.Script.{LoggedRun, replica_of_logs}
 use Rattle.pfair_board.specs.declared.threads.Worked.{Worked}
-use Rattle.pfair_table.specs.declared.run_fault.RunFault.{RunFault}
+use Rattle.pfair_table.specs.declared.answer.RunFault.{RunFault}
 use Rattle.pfair_desk.specs.Boards.{BoardFrame}
 use Rattle.pfair_board.specs.Works.{IsWorkOf}
 use Rattle.pfair_board.specs.Finish.{IsGood}

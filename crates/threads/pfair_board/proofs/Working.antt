@@ -1,6 +1,6 @@
 -- What desks hold while a worker runs.
 use Rattle.std.proofs.Common.{arith, ◌∙◌, sym, subst, ℕ, inl, inr, ⊎_elim, List}
-use Rattle.pfair_lattice.specs.declared.flat.Flat.TheVariants.{Torn}
+use Rattle.pfair_lattice.specs.declared.join_map.Flat.TheVariants.{Torn}
 use Rattle.pfair_entry.specs.Entry.{Logged}
 use Rattle.pfair_table.specs.Refinement.{Dispatch}
 use Rattle.pfair_table.specs.Table.{Table}

@@ -1,6 +1,6 @@
 -- What a desk holds of a log.
 use Rattle.std.specs.Prelude.{◌≡◌, ◌≢◌, ℕ, ◌+◌, List, [], Some, length, slice_get, slice_index_or}
-use Rattle.pfair_lattice.specs.declared.flat.Flat.TheVariants.{One}
+use Rattle.pfair_lattice.specs.declared.join_map.Flat.TheVariants.{One}
 use Rattle.pfair_entry.specs.Entry.{Logged}
 use Rattle.pfair_replica.specs.ReplicaRows.{held}
 use Rattle.pfair_table.specs.Script.{LoggedRun}

@@ -1,8 +1,8 @@
 -- Why a worker gives no tables.
 use Rattle.std.specs.Prelude.{ℕ, ◌≡◌, Bool, true, List}
 use Rattle.pfair_entry.specs.Entry.{Logged}
-use Rattle.pfair_table.specs.declared.run_fault.RunFault.{RunFault}
-use Rattle.pfair_table.specs.declared.run_fault.RunFault.TheVariants.{Memory, GateGaveUp, Astray, Stalled}
+use Rattle.pfair_table.specs.declared.answer.RunFault.{RunFault}
+use Rattle.pfair_table.specs.declared.answer.RunFault.TheVariants.{Memory, GateGaveUp, Astray, Stalled}
 use Rattle.pfair_desk.specs.Desks.{DeskView}
 use Rattle.pfair_board.specs.Logs.{IsTaken}
 

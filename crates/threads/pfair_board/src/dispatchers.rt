@@ -1,20 +1,21 @@
-//! Dispatchers in threads of their own.
-ghost use Rattle.std.specs.Prelude.{◌≡◌, ◌≤◌, ℕ, [], IfOk, IfErr, OnOk, Some, Vec, slice_get, vec_len};
+//! Dispatchers in threads of their own, and the fault with which their run ends.
+ghost use Rattle.std.specs.Prelude.{◌≡◌, ◌≤◌, ℕ, [], IfOk, IfErr, OnOk, Some, Vec, slice_get, vec_len, ◌↔◌, IsTrue, false};
 ghost use Rattle.std.specs.declared.alloc.Global.{Global};
 ghost use Rattle.pfair_replica.specs.Replica.{frontier};
 ghost use Rattle.pfair_table.specs.Script.{capacity_of, replica_of_logs};
-ghost use Rattle.pfair_table.specs.declared.pick.Pick.{Pick};
+ghost use Rattle.pfair_table.specs.declared.slot.Pick.{Pick};
 ghost use Rattle.pfair_board.specs.Finish.{IsFinished, IsGood, HasPlan};
 ghost use Rattle.pfair_board.specs.RunFaults.{IsRunFaultOf};
 ghost use Rattle.pfair_board.specs.Sinks.{has_first, has_kept};
 ghost use Rattle.pfair_board.specs.declared.threads.Worked.{Worked};
+ghost use Rattle.pfair_replica.specs.ReplicaRows.{replica_of};
+ghost use Rattle.pfair_board.specs.FirstFault.{SomeEndsIn, SomeStrays, Holds, AllHold, IsFirstFault};
 
-use crate::first_fault::first_fault;
-use crate::gate::Gate;
-use crate::sink::Sink;
 use crate::threads::{Worked, run_all};
+use crate::worker::{Gate, Sink};
 use pfair_desk::{Board, Desk};
 use pfair_ready::Ready;
+use pfair_replica::Replica;
 use pfair_replica::laws::least_join;
 use pfair_table::{Pick, Run, RunFault, Script, take_script};
 use std::alloc::{AllocError, Global};
@@ -157,4 +158,59 @@ fn hand_back(
         runs.push(made)?;
     }
     Ok(Finished { board, desks, runs })
+}
+
+// Returns the first fault of these workers, each of whom should hold the whole script.
+fn first_fault<K>(works: &[Worked<K>], whole: &Replica, slots: u64) -> Option<RunFault>
+    ensures { IsFirstFault works.now (replica_of whole.now) slots result }
+{
+    if some_ends_in(works, RunFault::Memory) {
+        return Some(RunFault::Memory);
+    }
+    if some_ends_in(works, RunFault::GateGaveUp) {
+        return Some(RunFault::GateGaveUp);
+    }
+    if !all_hold(works, whole) {
+        return Some(RunFault::Astray);
+    }
+    let slot = whole.frontier();
+    if slot < slots {
+        return Some(RunFault::Stalled { slot });
+    }
+    None
+}
+
+// Whether some worker ends in this fault.
+fn some_ends_in<K>(works: &[Worked<K>], fault: RunFault) -> bool
+    ensures { IsTrue result ↔ SomeEndsIn works.now fault }
+{
+    for work in works {
+        if let Err(own) = &work.kept {
+            if *own == fault {
+                return true;
+            }
+        }
+    }
+    false
+}
+
+// Whether each worker came to its end and holds what this replica holds.
+fn all_hold<K>(works: &[Worked<K>], replica: &Replica) -> bool
+    ensures all { IsTrue result → AllHold works.now (replica_of replica.now) }
+    ensures some { result ≡ false → SomeStrays works.now (replica_of replica.now) }
+{
+    for work in works {
+        if !holds(work, replica) {
+            return false;
+        }
+    }
+    true
+}
+
+// Whether a worker came to its end and holds what this replica holds.
+fn holds<K>(work: &Worked<K>, replica: &Replica) -> bool
+    ensures { IsTrue result ↔ Holds work.now (replica_of replica.now) }
+{
+    let held = work.desk.replica();
+    work.kept.is_ok() && held.le(replica) && replica.le(held)
 }

@@ -9,18 +9,12 @@
 #![tactic(auto)]
 
 mod dispatchers;
-mod first_fault;
-mod gate;
-mod hints;
 pub mod laws;
-mod sink;
 mod threads;
 mod worker;
 
 pub use dispatchers::{Finished, run_dispatchers, run_dispatchers_into};
-pub use gate::{Gate, OpenGate};
-pub use hints::Hints;
 pub use pfair_desk::{Board, Desk, LookFault, PublishFault};
 pub use pfair_table::{Run, RunFault};
-pub use sink::Sink;
-pub use worker::run_worker;
+pub use threads::Hints;
+pub use worker::{Gate, OpenGate, Sink, run_worker};

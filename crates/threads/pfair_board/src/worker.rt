@@ -1,17 +1,16 @@
-//! What each worker does.
-ghost use Rattle.std.specs.Prelude.{◌≡◌, ◌≤◌, ◌+◌, [], false, true, length, IfOk, IfErr, OnOk, None};
+//! What each worker does, where it comes before each slot, and what takes its tables.
+ghost use Rattle.std.specs.Prelude.{◌≡◌, Bool, true, false, ℕ, ◌++◌, ◌∷◌, [], List, OnOk, length, ◌≤◌, ◌+◌, IfOk, IfErr, None};
+ghost use Rattle.pfair_table.specs.Table.{Table, plan};
+ghost use Rattle.pfair_table.specs.Places.{IsFit};
 ghost use Rattle.pfair_replica.specs.ReplicaRows.{replica_of};
-ghost use Rattle.pfair_table.specs.Table.{plan};
 ghost use Rattle.pfair_desk.specs.Desks.{IsDeskOf, GrownDesk};
 ghost use Rattle.pfair_board.specs.Finish.{IsRunOf};
 ghost use Rattle.pfair_board.specs.Logs.{HasPublished};
 ghost use Rattle.pfair_board.specs.WorkerFaults.{IsWorkerFault, IsPlanningFault};
 ghost use Rattle.pfair_board.specs.Works.{IsAtWork, HasLearned, HasPlanned};
-ghost use Rattle.pfair_table.specs.declared.run_fault.RunFault.TheVariants.{Memory};
+ghost use Rattle.pfair_table.specs.declared.answer.RunFault.TheVariants.{Memory};
 
-use crate::gate::Gate;
-use crate::hints::{Hint, Hints};
-use crate::sink::Sink;
+use crate::threads::{Hint, Hints};
 use pfair_desk::{Board, Desk, PublishFault};
 use pfair_entry::Entry;
 use pfair_ready::Ready;
@@ -19,6 +18,75 @@ use pfair_table::{Pick, Run, RunFault, Settings, SlotPlanner};
 use std::alloc::{AllocError, Global};
 use std::mem;
 use std::sync::Wait;
+
+/// Where the workers of a run come before each slot: a gate may hold a worker back until others
+/// have come, and may give up.
+pub trait Gate {
+    /// Whether a gate of this type may give up.
+    ghost may_give_up: { Bool };
+
+    /// Lets a worker pass, which comes from its own thread, once for each slot, just before it plans
+    /// that slot. The worker is the processor whose log it has, counted from 0. Returns `false` if
+    /// the gate gave up; the worker's run ends then.
+    fn come<P: Wait>(&self, rt: &P, worker: u8, slot: u64) -> bool
+        ensures { result ≡ false → may_give_up ≡ true };
+}
+
+/// Lets every worker pass at once, and never gives up.
+#[derive(Clone, Copy, Debug)]
+pub struct OpenGate;
+
+impl Gate for OpenGate {
+    ghost may_give_up = { false };
+
+    fn come<P: Wait>(&self, _rt: &P, _worker: u8, _slot: u64) -> bool {
+        true
+    }
+}
+
+/// Takes the tables of a worker's slots, one after another, as they are planned: it may keep them,
+/// or what is made of them, or nothing.
+pub trait Sink: Drop {
+    /// What the sink of a row's worker has after these tables.
+    ghost has: { Self → ℕ → List Table → Type 0 };
+
+    /// Takes the table of the next slot, of at most 64 rows with a task of its own each. Returns the
+    /// list, as room for the next table, if it isn't kept.
+    ///
+    /// # Errors
+    /// `AllocError` if an allocation fails. The worker's run ends then.
+    fn take(&mut self, slot: u64, table: Vec<Pick>) -> Result<Option<Vec<Pick>>, AllocError>
+        requires fit { IsFit Settings.MAX_PROCESSORS table.items }
+        requires before { (row : ℕ) × (tables : List Table) × (length tables ≡ slot) × has self.old row tables }
+        ensures { OnOk result ((row : ℕ) (tables : List Table) → length tables ≡ slot
+            → has self.old row tables → has self.new row (tables ++ table.items ∷ [])) };
+}
+
+/// Keeps each table.
+impl Sink for Vec<Vec<Pick>> {
+    ghost use Rattle.pfair_board.specs.Sinks.{has_kept};
+
+    ghost has = { has_kept };
+
+    fn take(&mut self, _slot: u64, table: Vec<Pick>) -> Result<Option<Vec<Pick>>, AllocError> {
+        self.push(table)?;
+        Ok(None)
+    }
+}
+
+/// The first worker has a sink. The others may have none.
+impl<K: Sink> Sink for Option<K> {
+    ghost use Rattle.pfair_board.specs.Sinks.{has_first};
+
+    ghost has = { has_first K.has };
+
+    fn take(&mut self, slot: u64, table: Vec<Pick>) -> Result<Option<Vec<Pick>>, AllocError> {
+        match self {
+            Some(sink) => sink.take(slot, table),
+            None => Ok(Some(table)),
+        }
+    }
+}
 
 /// Works out every slot of one processor's run, given its own log alone.
 ///

@@ -1,7 +1,7 @@
 -- What a desk is to its callers.
 use Rattle.std.specs.Prelude.{◌≡◌, ℕ, ◌+◌, List, Some}
-use Rattle.pfair_lattice.specs.declared.flat.Flat.{Flat}
-use Rattle.pfair_lattice.specs.declared.flat.Flat.TheVariants.{One}
+use Rattle.pfair_lattice.specs.declared.join_map.Flat.{Flat}
+use Rattle.pfair_lattice.specs.declared.join_map.Flat.TheVariants.{One}
 use Rattle.pfair_entry.specs.Entry.{Logged}
 use Rattle.pfair_replica.specs.Replica.{Replica, join, with_entry, empty_replica}
 use Rattle.pfair_replica.specs.ReplicaRows.{ReplicaRows, held, replica_of}

@@ -1,6 +1,6 @@
 -- Why a desk refuses.
 use Rattle.std.specs.Prelude.{◌≡◌, ◌≢◌, ◌<◌, ◌≤◌, ℕ, None, Some}
-use Rattle.pfair_lattice.specs.declared.flat.Flat.TheVariants.{One}
+use Rattle.pfair_lattice.specs.declared.join_map.Flat.TheVariants.{One}
 use Rattle.pfair_entry.specs.Entry.{Logged}
 use Rattle.pfair_desk.specs.declared.fault.PublishFault.{PublishFault}
 use Rattle.pfair_desk.specs.declared.fault.PublishFault.TheVariants as publish

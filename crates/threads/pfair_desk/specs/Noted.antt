@@ -1,7 +1,7 @@
 -- How a desk's notes and what it holds fit together.
 use Rattle.std.specs.Prelude.{◌≡◌, ℕ, ◌+◌, ◌*◌, ◌<◌, ◌≤◌, List, length, Option, Some, None, slice_index_or}
 use Rattle.pfair_lattice.specs.Held.{Held}
-use Rattle.pfair_lattice.specs.declared.flat.Flat.TheVariants.{One, Torn}
+use Rattle.pfair_lattice.specs.declared.join_map.Flat.TheVariants.{One, Torn}
 use Rattle.pfair_entry.specs.Entry.{Logged}
 use Rattle.pfair_replica.specs.Replica.{Replica}
 use Rattle.pfair_replica.specs.ReplicaRows.{IsShape}

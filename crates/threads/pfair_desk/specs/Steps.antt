@@ -1,7 +1,7 @@
 -- What desks do on a board of cells that are set once: they learn from the cells and from one another.
 use Rattle.std.specs.Prelude.{ℕ, ⊤, ◌==◌, ◌&&◌, List, [], ◌∷◌, Option, Some, None, unwrap_or, if◌then◌else◌}
 use Rattle.pfair_lattice.specs.Held.{Held, HeldBelow}
-use Rattle.pfair_lattice.specs.declared.flat.Flat.TheVariants.{One}
+use Rattle.pfair_lattice.specs.declared.join_map.Flat.TheVariants.{One}
 use Rattle.pfair_entry.specs.Entry.{Logged, IsEntry}
 use Rattle.pfair_replica.specs.Replica.{Contents, Replica, nothing_held, only, contents_join}
 use Rattle.pfair_desk.specs.Boards.{IsKey}

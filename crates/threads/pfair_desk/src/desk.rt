@@ -1,7 +1,7 @@
 //! A dispatcher's end of the board.
 ghost use Rattle.std.specs.Prelude.{◌≡◌, ◌<◌, ◌≤◌, ◌*◌, ◌+◌, ℕ, IfOk, IfErr, OnOk, OnErr, Ok, Some, None, length, map};
 ghost use Rattle.once_cell.specs.Once.{cell_name};
-ghost use Rattle.pfair_lattice.specs.declared.flat.Flat.TheVariants.{One};
+ghost use Rattle.pfair_lattice.specs.declared.join_map.Flat.TheVariants.{One};
 ghost use Rattle.pfair_entry.specs.Entry.{Logged};
 ghost use Rattle.pfair_replica.specs.ReplicaRows.{IsShape, IsReplicaRows, held, replica_of};
 ghost use Rattle.pfair_replica.specs.Faults.{HoldsMore, IsTakeFaultOf};
@@ -11,9 +11,8 @@ ghost use Rattle.pfair_desk.specs.Desks.{DeskView, state_of, IsDeskOf, OfOneBoar
 ghost use Rattle.pfair_desk.specs.Faults.{IsPublishFaultOf};
 ghost use Rattle.pfair_desk.specs.Gained.{HasReadRow, LacksSome, gained, gained_in_row, NoGapInRow};
 
-use crate::board::Board;
+use crate::board::{Board, Notes};
 use crate::fault::PublishFault;
-use crate::notes::Notes;
 use once_cell::race::OnceBox;
 use pfair_entry::Entry;
 use pfair_replica::laws::read_by_number;

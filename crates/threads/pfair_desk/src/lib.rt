@@ -9,8 +9,6 @@ mod board;
 mod desk;
 mod fault;
 pub mod laws;
-mod note;
-mod notes;
 
 pub use board::Board;
 pub use desk::Desk;

@@ -2,7 +2,7 @@ use Rattle.std.proofs.Common.{ℕ, ◌<◌, ◌≤◌, ◌∙◌, ◌∷◌, [],
 use Rattle.std.specs.List.{AllByRecursion}
 use Rattle.pfair_replica.specs.ReplicaRows.{replica_of}
 use Rattle.pfair_replica.specs.Replica.{Replica, said, numbers_below}
-use Rattle.pfair_table.specs.declared.pick.Decided.{Decided}
+use Rattle.pfair_table.specs.declared.slot.Decided.{Decided}
 use Rattle.pfair_table.specs.Places.{places_after, places_in, table_before, places_before, IsFit}
 use Rattle.pfair_table.specs.Limits.{IsOrigin}
 use Rattle.pfair_table.specs.Planned.{PlannedSlots, IsNext, last_or}

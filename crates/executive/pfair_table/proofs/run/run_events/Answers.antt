@@ -1,6 +1,6 @@
 use Rattle.std.proofs.Common.{◌≡◌, ◌+◌, ◌∙◌, sym, ap, subst, drop, List}
 use Rattle.std.specs.List.{AllByRecursion}
-use Rattle.pfair_table.specs.declared.event.Event.{Event}
+use Rattle.pfair_table.specs.declared.run.Event.{Event}
 use Rattle.pfair_table.specs.Table.{Settings}
 use Rattle.pfair_table.specs.Events.{IsEvent, Course, happens, run}
 use Rattle.pfair_table.specs.Refinement.{course_of}

@@ -3,7 +3,7 @@ use Rattle.std.proofs.lemmas.List.{length-take}
 use Rattle.std.specs.Prelude.{OnErr, OnOk}
 use Rattle.std.specs.Io.KnownBytes.{Appends}
 use Rattle.pfair_text.specs.Output.{TakesPrefix}
-use Rattle.pfair_text.specs.declared.output.WriteFailed.{WriteFailed}
+use Rattle.pfair_text.specs.declared.rows.WriteFailed.{WriteFailed}
 use Rattle.pfair_feed.proofs.Writing.{all_or_cut}
 use Rattle.pfair_feed.proofs.complaint.report_refused.Goals as goal
 

@@ -4,7 +4,7 @@ use Rattle.clap.specs.Words.{is_simple_and_free}
 use Rattle.pfair_words.specs.Parse.{texts}
 use Rattle.pfair_words.specs.FollowAsked.{IsAnswerTo, IsAnswerToKind}
 use Rattle.pfair_words.specs.FollowLine.{line}
-use Rattle.pfair_words.specs.declared.parse.Parsed.TheVariants.{Help, Refused}
+use Rattle.pfair_words.specs.declared.command.Parsed.TheVariants.{Help, Refused}
 use Rattle.pfair_words.proofs.Answered.{parsed_at, taken}
 use Rattle.pfair_words.proofs.follow.read_words.Goals as goal
 

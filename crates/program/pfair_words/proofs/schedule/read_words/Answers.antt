@@ -5,7 +5,7 @@ use Rattle.pfair_words.specs.Parse.{texts}
 use Rattle.pfair_words.specs.Plain.{HasCount, IsPlainAnswer}
 use Rattle.pfair_words.specs.ScheduleAsked.{IsAnswer, IsAnswerTo, IsAnswerToKind}
 use Rattle.pfair_words.specs.ScheduleLine.{line}
-use Rattle.pfair_words.specs.declared.parse.Parsed.TheVariants.{Help, Refused}
+use Rattle.pfair_words.specs.declared.command.Parsed.TheVariants.{Help, Refused}
 use Rattle.pfair_words.specs.declared.schedule.Asked.{Asked}
 use Rattle.pfair_file.specs.declared.program_fault.ProgramFault.{ProgramFault}
 use Rattle.pfair_words.proofs.Answered.{parsed_at, taken}

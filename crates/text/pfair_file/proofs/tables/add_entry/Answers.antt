@@ -8,7 +8,7 @@ use Rattle.pfair_entry.specs.Entry.{Logged}
 use Rattle.pfair_table.specs.Script.{lists_of}
 use Rattle.pfair_file.specs.Entries.{longer_log, with_entry}
 use Rattle.pfair_file.specs.Tables.{made_at}
-use Rattle.pfair_file.specs.declared.made.Made.{Made}
+use Rattle.pfair_file.specs.declared.tables.Made.{Made}
 use Rattle.pfair_file.specs.declared.fault.FileFault.{FileFault}
 use Rattle.pfair_file.specs.declared.fault.FileFault.TheVariants.{Memory}
 use Rattle.pfair_file.proofs.tables.add_entry.Goals.{After-append}

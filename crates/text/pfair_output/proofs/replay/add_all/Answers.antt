@@ -5,7 +5,7 @@ use Rattle.std.specs.Option.{option_map}
 use Rattle.std.specs.Prelude.{Vec}
 use Rattle.std.specs.declared.alloc.Global.{Global}
 use Rattle.pfair_text.specs.Rows.{lines_text, text_so_far}
-use Rattle.pfair_table.specs.declared.pick.Pick.{Pick}
+use Rattle.pfair_table.specs.declared.slot.Pick.{Pick}
 use Rattle.pfair_output.specs.Replay.{placed_rows_from, placed_table_rows}
 use Rattle.pfair_output.proofs.SlotFacts.{slot_more}
 use Rattle.pfair_output.proofs.replay.add_all.Goals as goal

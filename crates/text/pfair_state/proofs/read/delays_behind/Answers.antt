@@ -2,7 +2,7 @@ use Rattle.std.proofs.Common.{rules, arith, ◌≡◌, ◌+◌, [], ◌∷◌, S
 use Rattle.std.proofs.lemmas.List.{length-append}
 use Rattle.std.proofs.lemmas.Option.{slice_get_within}
 use Rattle.pfair_state.specs.Reading.{as_late}
-use Rattle.pfair_state.specs.declared.row.Row.TheVariants.{Late}
+use Rattle.pfair_state.specs.declared.rows.Row.TheVariants.{Late}
 use Rattle.pfair_state.proofs.DelaysRead.{all_named, all_read, delay_read, other_name}
 use Rattle.pfair_state.proofs.RowKinds.{late_is}
 use Rattle.pfair_state.proofs.read.delays_behind.Goals.{in-Some+then-ne, in_default}

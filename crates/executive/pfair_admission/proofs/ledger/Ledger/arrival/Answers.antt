@@ -5,7 +5,7 @@ use Rattle.pfair_admission.specs.Admission.{claimed, present}
 use Rattle.pfair_admission.specs.Ledger.{is_there, listed}
 use Rattle.pfair_admission.specs.declared.decision.Decision.{Decision}
 use Rattle.pfair_admission.specs.declared.decision.Decision.TheVariants.{Admitted, Refused}
-use Rattle.pfair_admission.specs.declared.refusal.Refusal.TheVariants.{NameTaken, PeriodOutsideFrame, NoRoom}
+use Rattle.pfair_admission.specs.declared.decision.Refusal.TheVariants.{NameTaken, PeriodOutsideFrame, NoRoom}
 use Rattle.pfair_admission.proofs.Written.{taken}
 use Rattle.pfair_admission.proofs.ledger.Ledger.arrival.Goals as goal
 

@@ -3,7 +3,7 @@ use Rattle.std.specs.Map.{values_of}
 use Rattle.std.proofs.lemmas.Option.{same_Some}
 use Rattle.indexmap.specs.IndexMap.{set_value_at, with_value_at}
 use Rattle.pfair_weight.specs.Share.{Share, units_of}
-use Rattle.pfair_entry.specs.declared.announcement.Announcement.TheVariants.{Depart}
+use Rattle.pfair_entry.specs.declared.entry.Announcement.TheVariants.{Depart}
 use Rattle.pfair_admission.specs.declared.decision.Decision.{Decision}
 use Rattle.pfair_admission.specs.Member.{Member}
 use Rattle.pfair_admission.specs.Admission.{departure, effect, member_named, present, with_freeing}

@@ -1,7 +1,7 @@
 use Rattle.std.proofs.Common.{ℕ, zero, suc, ◌<◌, ◌≤◌, ◌≡◌, ◌∙◌, refl, sym, ap, subst, arith, get_or, List, [], ◌∷◌, ◌++◌, length, map, rules, take, vec_len, Vec, Global, None}
 use Rattle.std.specs.List.{AllByRecursion}
 use Rattle.std.proofs.lemmas.List.{get_or-map, length-map, map-append, take-map, take_more}
-use Rattle.pfair_table.specs.declared.pick.Pick.{Pick}
+use Rattle.pfair_table.specs.declared.slot.Pick.{Pick}
 use Rattle.pfair_table.specs.Places.{places_after, places_in, IsFit}
 use Rattle.pfair_table.specs.Planned.{as_tables, last_or}
 use Rattle.pfair_table.specs.Table.{Table}

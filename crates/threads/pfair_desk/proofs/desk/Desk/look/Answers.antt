@@ -1,5 +1,5 @@
 use Rattle.std.proofs.Common.{◌≡◌, ap, sym, ◌∙◌, subst, refl, Some, arith}
-use Rattle.pfair_lattice.specs.declared.flat.Flat.TheVariants.{One}
+use Rattle.pfair_lattice.specs.declared.join_map.Flat.TheVariants.{One}
 use Rattle.pfair_replica.specs.ReplicaRows.{held, replica_of}
 use Rattle.pfair_desk.specs.Boards.{IsKey}
 use Rattle.pfair_desk.specs.Desks.{DeskView, learned, state_of}

@@ -1,6 +1,6 @@
 use Rattle.std.proofs.Common.{◌≡◌, ◌+◌, ◌-◌, ap, sym, ◌∙◌, arith, refl, ⊎_elim, subst, Ok, Some, true, false, is_none, is_some, cond, IsSome}
 use Rattle.std.proofs.lemmas.Bool.{cases_lt}
-use Rattle.pfair_lattice.specs.declared.flat.Flat.TheVariants.{One}
+use Rattle.pfair_lattice.specs.declared.join_map.Flat.TheVariants.{One}
 use Rattle.pfair_replica.specs.ReplicaRows.{held, replica_of}
 use Rattle.pfair_desk.specs.Desks.{DeskView, state_of, learned}
 use Rattle.pfair_desk.specs.Gained.{gained_in_row}

@@ -1,5 +1,0 @@
-use Rattle.pfair_table.proofs.Bucketed.{AreBucketsBelow}
-use Rattle.pfair_table.proofs.buckets.Buckets.of.Given as goal
-
-abbrev pub invariant-loop-row : goal.invariant-loop-row
-invariant-loop-row l = AreBucketsBelow l.table l.ends l.row

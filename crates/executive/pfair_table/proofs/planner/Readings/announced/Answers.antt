@@ -1,0 +1,19 @@
+use Rattle.std.proofs.Common.{◌≡◌, ◌∙◌, sym, subst, List}
+use Rattle.std.specs.Prelude.{IfOk}
+use Rattle.pfair_entry.specs.declared.entry.Said.{Said}
+use Rattle.pfair_replica.specs.ReplicaRows.{replica_of}
+use Rattle.pfair_table.proofs.ReadOn.{whole_said, none_said}
+use Rattle.pfair_table.proofs.planner.Readings.announced.Goals as goal
+
+pub returns-then-slot-self-clause-announced : goal.returns-then-slot-self-clause-announced
+returns-then-slot-self-clause-announced c =
+    let now = c.read_on.new.self in
+    c.new.ensures.items
+    ∙ sym (none_said now.by_processor.items c.args.slot (λ k r is. now.silent k r c.args.slot is c.if-slot-self.true))
+    ∙ whole_said (replica_of c.args.replica.now) now.by_processor.items c.read_on.ensures.readings c.requires.replica c.requires.untorn c.in_ok-read_on.ensures.whole c.args.slot
+
+pub returns-clause-announced : goal.returns-clause-announced
+returns-clause-announced c =
+    subst (λ (s : List Said). IfOk c.said.result (λ announced. announced.items ≡ s))
+    (whole_said (replica_of c.args.replica.now) c.read_on.new.self.by_processor.items c.read_on.ensures.readings c.requires.replica c.requires.untorn c.in_ok-read_on.ensures.whole c.args.slot)
+    c.said.ensures

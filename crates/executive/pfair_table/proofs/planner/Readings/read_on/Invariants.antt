@@ -1,0 +1,12 @@
+use Rattle.std.proofs.Common.{◌≡◌}
+use Rattle.pfair_replica.specs.ReplicaRows.{replica_of}
+use Rattle.pfair_table.specs.Readings.{AreReadingsOf}
+use Rattle.pfair_table.proofs.ReadOn.{AreWholeBelow}
+use Rattle.pfair_table.proofs.planner.Readings.read_on.Given as goal
+
+abbrev pub invariant-loop-processor : goal.invariant-loop-processor
+invariant-loop-processor l = record {
+  readings : AreReadingsOf (replica_of l.replica) l.self.by_processor.items;
+  whole : AreWholeBelow (replica_of l.replica) l.self.by_processor.items l.processor;
+  none_yet : l.self.read ≡ 0;
+}

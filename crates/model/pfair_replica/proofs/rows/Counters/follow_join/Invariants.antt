@@ -1,0 +1,10 @@
+use Rattle.std.proofs.Common.{◌≡◌, length}
+use Rattle.pfair_replica.specs.ReplicaRows.{held_in}
+use Rattle.pfair_replica.proofs.Following.{Midway}
+use Rattle.pfair_replica.proofs.rows.Counters.follow_join.Given as goal
+
+abbrev pub invariant-loop-processor : goal.invariant-loop-processor
+invariant-loop-processor l = record {
+  so_many : length l.self.beginnings.items ≡ length l.initial.self.beginnings.items;
+  midway : Midway l.capacity l.processor (held_in l.other) (held_in l.rows) l.self.beginnings.items l.self.torn;
+}

@@ -1,0 +1,12 @@
+use Rattle.std.proofs.Common.{ℕ, ◌≡◌, ◌≤◌, ◌*◌, ◌^◌, min, take}
+use Rattle.std.specs.Prelude.{fold}
+use Rattle.pfair_replica.specs.declared.rows.Beginning.{Beginning}
+use Rattle.pfair_replica.specs.Counters.{first_mark, total_count}
+use Rattle.pfair_replica.proofs.rows.all_of.Given as goal
+
+abbrev pub invariant-loop-beginning : goal.invariant-loop-beginning
+invariant-loop-beginning l = record {
+  least : l.least ≡ fold (λ (least : ℕ) (b : Beginning). min least b.mark) (first_mark l.beginnings) (take l.beginning-index l.beginnings);
+  total : l.total ≡ total_count (take l.beginning-index l.beginnings);
+  room : l.total ≤ l.beginning-index * 2 ^ 32;
+}

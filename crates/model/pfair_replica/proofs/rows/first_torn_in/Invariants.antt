@@ -1,0 +1,7 @@
+use Rattle.std.proofs.Common.{ℕ, ◌≤◌}
+use Rattle.pfair_replica.specs.ReplicaRows.{held_in}
+use Rattle.pfair_replica.specs.Counters.{IsTornAt}
+use Rattle.pfair_replica.proofs.rows.first_torn_in.Given as goal
+
+abbrev pub invariant-loop-before : goal.invariant-loop-before
+invariant-loop-before l = (n : ℕ) → 1 ≤ n → n ≤ l.before → IsTornAt (held_in l.rows) l.processor n → ⊥

@@ -1,0 +1,8 @@
+use Rattle.std.proofs.lemmas.Grind.{common_steps}
+use Rattle.std.proofs.Common.{arith}
+use Rattle.pfair_weight.specs.Rounding.{rounded_twice}
+use Rattle.pfair_weight.proofs.Cascades.{ceiling_is}
+use Rattle.pfair_weight.proofs.stepper.Cascade.end.Goals as goal
+
+pub returns-clause-within : goal.returns-clause-within
+returns-clause-within c = grind (arith, common_steps, ceiling_is, rounded_twice)

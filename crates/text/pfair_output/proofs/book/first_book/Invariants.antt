@@ -1,7 +1,0 @@
-use Rattle.std.proofs.Common.{◌≡◌, take}
-use Rattle.pfair_lag.specs.Book.{empty_book}
-use Rattle.pfair_output.specs.Booked.{all_entered}
-use Rattle.pfair_output.proofs.book.first_book.Given as goal
-
-abbrev pub invariant-loop-place : goal.invariant-loop-place
-invariant-loop-place g l = l.book ≡ all_entered l.slot (take l.place l.members.members) empty_book

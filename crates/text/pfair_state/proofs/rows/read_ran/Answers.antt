@@ -1,0 +1,13 @@
+use Rattle.std.proofs.Common.{arith}
+use Rattle.std.proofs.lemmas.Fmt.{decimal_injective}
+use Rattle.pfair_state.proofs.Spelled.{whole}
+use Rattle.pfair_state.proofs.rows.read_ran.Goals as goal
+
+pub returns-in_err-read_number-2 : goal.returns-in_err-read_number-2
+returns-in_err-read_number-2 c pick place spelled is = grind (arith, decimal_injective, whole)
+
+pub returns-in_err-ok-2 : goal.returns-in_err-ok-2
+returns-in_err-ok-2 c pick place spelled is = grind (arith, decimal_injective, whole)
+
+pub returns : goal.returns
+returns c pick place spelled is = grind (arith, decimal_injective, whole)

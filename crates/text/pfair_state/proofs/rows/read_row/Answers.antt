@@ -1,0 +1,19 @@
+use Rattle.std.proofs.Common.{arith}
+use Rattle.std.proofs.lemmas.Fmt.{decimal_injective}
+use Rattle.pfair_state.specs.declared.rows.Row.TheVariants.{First, Member, Late, Ran, End}
+use Rattle.pfair_state.proofs.Spelled.{whole}
+use Rattle.pfair_state.proofs.rows.read_row.Goals as goal
+
+pub returns-in_err-read_number-in-end : goal.returns-in_err-read_number-in-end
+returns-in_err-read_number-in-end c (First f) h is = grind arith
+returns-in_err-read_number-in-end c (Member m) h is = grind arith
+returns-in_err-read_number-in-end c (Late l) h is = grind arith
+returns-in_err-read_number-in-end c (Ran p place) h is = grind arith
+returns-in_err-read_number-in-end c (End rows) h is = grind (arith, whole)
+
+pub returns-in_ok-read_number-in-end : goal.returns-in_ok-read_number-in-end
+returns-in_ok-read_number-in-end c (First f) h is = grind arith
+returns-in_ok-read_number-in-end c (Member m) h is = grind arith
+returns-in_ok-read_number-in-end c (Late l) h is = grind arith
+returns-in_ok-read_number-in-end c (Ran p place) h is = grind arith
+returns-in_ok-read_number-in-end c (End rows) h is = grind (arith, decimal_injective, whole)
