@@ -1,7 +1,6 @@
 -- A book of lags that is notified slot by slot, and its rows.
-use Rattle.std.proofs.Common.{◌≡◌, ◌+◌, ◌-◌, ℕ, zero, suc, ◌<◌, ◌≤◌, ◌++◌, ◌∷◌, [], List, length, map, take, drop, Some, refl, sym, arith, ◌∙◌, ap, append_assoc}
+use Rattle.std.proofs.Common.{◌≡◌, ◌+◌, ◌-◌, ℕ, zero, suc, ◌<◌, ◌≤◌, ◌++◌, ◌∷◌, [], List, length, map, take, drop, Some, refl, sym, arith, ◌∙◌, ap, append_assoc, slice_get}
 use Rattle.std.proofs.lemmas.List.{length-map, length-append}
-use Rattle.std.specs.Prelude.{slice_get}
 use Rattle.pfair_lag.specs.Book.{Book}
 use Rattle.pfair_table.specs.declared.slot.Decided.{Decided}
 use Rattle.pfair_table.specs.Table.{Table}

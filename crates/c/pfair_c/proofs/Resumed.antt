@@ -1,6 +1,5 @@
 -- What `pfair_resume` answers once a state is read.
-use Rattle.std.proofs.Common.{ℕ, ◌≡◌, ◌≤◌, ◌<◌, ◌⊎◌, length, ◌∙◌, inl, inr, true, false, Bool, List, Some, None, ap, arith, sym, subst, refl}
-use Rattle.std.specs.Prelude.{Result, Ok, Err}
+use Rattle.std.proofs.Common.{ℕ, ◌≡◌, ◌≤◌, ◌<◌, ◌⊎◌, length, ◌∙◌, inl, inr, true, false, Bool, List, Some, None, ap, arith, sym, subst, refl, Result, Ok, Err}
 use Rattle.std.specs.declared.alloc.AllocError.{AllocError}
 use Rattle.pfair_state.specs.Reading.{IsWritable}
 use Rattle.pfair_state.specs.Rows.{state_text}

@@ -1,5 +1,5 @@
 -- The quanta of several slots, row by row and slot by slot.
-use Rattle.std.proofs.Common.{◌≡◌, ◌+◌, ◌-◌, ℕ, zero, suc, ◌<◌, ◌≤◌, ◌++◌, ◌∷◌, [], List, length, min, take, drop, set, get_or, slice_get, ap, refl, arith, ◌∙◌, append_assoc, sym}
+use Rattle.std.proofs.Common.{◌≡◌, ◌+◌, ◌-◌, ℕ, zero, suc, ◌<◌, ◌≤◌, ◌++◌, ◌∷◌, List, length, min, take, drop, set, get_or, slice_get, ap, refl, arith, ◌∙◌, append_assoc, sym, []}
 use Rattle.std.proofs.lemmas.List.{length-append}
 use Rattle.pfair_table.specs.declared.slot.Pick.{Pick}
 use Rattle.pfair_table.specs.Table.{Origin, Table}

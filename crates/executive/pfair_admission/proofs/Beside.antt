@@ -1,37 +1,20 @@
 -- The members of a next run beside those of the long run.
-use Rattle.std.proofs.lemmas.Grind.{common_steps}
-use Rattle.std.proofs.Common.{◌≡◌, ℕ, ◌+◌, ◌-◌, ◌*◌, ◌≤◌, Bool, true, false, cond, List, [], ◌∷◌, ◌++◌, map, Option, Some, None, refl, sym, ap, ◌∙◌, arith, inl, inr}
-use Rattle.std.specs.Prelude.{pos, ◌-ℤ◌, not, nat_le, nat_lt, ◌==◌, ◌||◌, ◌&&◌, is_some, if◌then◌else◌}
-use Rattle.std.specs.List.{AllByRecursion, filter, find}
-use Rattle.std.specs.Option.{option_map}
-use Rattle.std.proofs.lemmas.Bool.{cases_lt}
-use Rattle.std.proofs.lemmas.Bool.Decides.{nat_tests}
+use Rattle.std.proofs.Common.{◌≡◌, ℕ, ◌+◌, ◌-◌, ◌*◌, ◌≤◌, Bool, true, false, cond, List, [], ◌∷◌, ◌++◌, map, Option, Some, None, refl, sym, ap, ◌∙◌, arith, inl, inr, pos, ◌-ℤ◌, not, nat_le, nat_lt, ◌==◌, ◌||◌, ◌&&◌, is_some, if◌then◌else◌}
+use Rattle.pfair_admission.proofs.Common.{common_steps, AllByRecursion, filter, find, option_map, cases_lt, nat_tests, map-append, sum_by-cons, NamesApart, Share, IsWeight, Announcement, Arrive, Depart, Late, Decision, Admitted, Departing, Delayed, Refused, Delay, Member, theta, is_departing, eligible_from, next_key, lag_at, Machine, is_named, member_named, claimed, arrival, departure, late_release, decision, newcomer, with_freeing, with_delay, with_quantum, change, effect, is_freed, present, decided, all_decided, all_decisions, announcements, subtasks_of, taken_off, raised, all_raised}
 use Rattle.std.proofs.lemmas.Int.{ints}
-use Rattle.std.proofs.lemmas.List.{map-append}
 use Rattle.std.proofs.lemmas.List.Folds.{list_any-append}
-use Rattle.std.proofs.lemmas.List.Sums.{sum_by-cons}
 use Rattle.std.proofs.lemmas.Simd.{map-map}
 use Rattle.std.proofs.Math.Bool.{or-true}
 use Rattle.std.proofs.Math.Nat.{mul-add, mul_assoc, mul_comm}
-use Rattle.pfair_weight.specs.Name.{NamesApart}
 use Rattle.pfair_weight.proofs.NamesApart.{apart_head, apart_tail}
-use Rattle.pfair_weight.specs.Share.{Share, IsWeight}
 use Rattle.pfair_weight.specs.Window.{release_of}
 use Rattle.pfair_order.specs.declared.Key.{Key}
 use Rattle.pfair_order.proofs.Later.{filter_mapped}
 use Rattle.pfair_entry.specs.Exact.{name_exact}
 use Rattle.pfair_entry.specs.Same.{name_eq}
 use Rattle.pfair_entry.specs.declared.entry.Said.{Said}
-use Rattle.pfair_entry.specs.declared.entry.Announcement.{Announcement}
-use Rattle.pfair_entry.specs.declared.entry.Announcement.TheVariants.{Arrive, Depart, Late}
 use Rattle.pfair_entry.specs.Entry.{IsWeighed}
-use Rattle.pfair_admission.specs.declared.decision.Decision.{Decision}
-use Rattle.pfair_admission.specs.declared.decision.Decision.TheVariants.{Admitted, Departing, Delayed, Refused}
 use Rattle.pfair_admission.specs.declared.decision.Refusal.TheVariants.{AlreadyDeparting, AlreadyReleased}
-use Rattle.pfair_admission.specs.declared.delay.Delay.{Delay}
-use Rattle.pfair_admission.specs.Member.{Member, theta, is_departing, eligible_from, next_key, lag_at}
-use Rattle.pfair_admission.specs.Admission.{Machine, is_named, member_named, claimed, arrival, departure, late_release, decision, newcomer, with_freeing, with_delay, with_quantum, change, effect, is_freed, present, decided, all_decided, all_decisions, announcements}
-use Rattle.pfair_admission.specs.Carried.{subtasks_of, taken_off, raised, all_raised}
 use Rattle.pfair_admission.proofs.Keeping.{theta_earlier, theta_later}
 use Rattle.pfair_admission.proofs.Lowered.{IsLowered, counted_from, eligible_same, freeing_slot_same, next_key_same, release_same}
 use Rattle.pfair_admission.proofs.NamesKept.{apart_effect, apart_present}

@@ -1,23 +1,8 @@
 -- How far the announcements of a boundary are decided, and how far delays can lead.
-use Rattle.std.proofs.lemmas.Grind.{common_steps}
-use Rattle.std.proofs.Common.{◌≡◌, ℕ, ◌+◌, ◌-◌, ◌*◌, ◌<◌, ◌≤◌, Bool, List, [], ◌∷◌, ◌++◌, length, take, get_or, Some, Result, Ok, Err, OnOk, OnErr, refl, sym, ap, subst, ◌∙◌, arith}
-use Rattle.std.specs.Prelude.{not, if◌then◌else◌}
-use Rattle.std.specs.List.{AllByRecursion}
-use Rattle.std.proofs.SliceLists.{all_by_recursion_push}
-use Rattle.std.proofs.lemmas.List.{take_more}
-use Rattle.std.proofs.lemmas.List.Sums.{sum_by_push}
+use Rattle.std.proofs.Common.{◌≡◌, ℕ, ◌+◌, ◌-◌, ◌*◌, ◌<◌, ◌≤◌, Bool, List, [], ◌∷◌, ◌++◌, length, take, get_or, Some, Result, Ok, Err, OnOk, OnErr, refl, sym, ap, subst, ◌∙◌, arith, not, if◌then◌else◌}
+use Rattle.pfair_admission.proofs.Common.{common_steps, AllByRecursion, all_by_recursion_push, take_more, sum_by_push, Announcement, Decision, Delay, LONGEST_DELAY, LAST_SLOT, MAX_HEARD, Member, last_offset, Machine, change, newcomer, with_freeing, with_delay, with_quantum, effect, is_freed, present, decision, decided, all_decided, all_decisions, announcements, ran, after_boundary, EachBounded, EachHasRoom, IsCutShort, Roster, after_all, Membership}
 use Rattle.pfair_entry.specs.Entry.{IsWithinLimits}
-use Rattle.pfair_entry.specs.declared.entry.Announcement.{Announcement}
 use Rattle.pfair_entry.specs.declared.entry.Said.{Said}
-use Rattle.pfair_admission.specs.declared.decision.Decision.{Decision}
-use Rattle.pfair_admission.specs.declared.delay.Delay.{Delay}
-use Rattle.pfair_entry.specs.declared.entry.TheConstants.Entry.{LONGEST_DELAY}
-use Rattle.pfair_admission.specs.declared.members.TheConstants.Members.{LAST_SLOT, MAX_HEARD}
-use Rattle.pfair_admission.specs.Member.{Member, last_offset}
-use Rattle.pfair_admission.specs.Admission.{Machine, change, newcomer, with_freeing, with_delay, with_quantum, effect, is_freed, present, decision, decided, all_decided, all_decisions, announcements, ran}
-use Rattle.pfair_admission.specs.Roster.{after_boundary, EachBounded, EachHasRoom, IsCutShort, Roster}
-use Rattle.pfair_admission.specs.Ledger.{after_all}
-use Rattle.pfair_admission.specs.Membership.{Membership}
 use Rattle.pfair_admission.proofs.Each.{each_at, each_filter}
 use Rattle.pfair_admission.proofs.Effects.{by_effect, each_change}
 

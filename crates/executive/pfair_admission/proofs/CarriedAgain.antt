@@ -1,16 +1,8 @@
 -- A member that is carried twice.
-use Rattle.std.proofs.Common.{◌≡◌, ℕ, ◌+◌, ◌-◌, ◌<◌, ◌≤◌, cond, List, [], ◌∷◌, map, refl, arith}
-use Rattle.std.specs.Prelude.{nat_lt}
+use Rattle.std.proofs.Common.{◌≡◌, ℕ, ◌+◌, ◌-◌, ◌<◌, ◌≤◌, cond, List, [], ◌∷◌, map, refl, arith, nat_lt}
+use Rattle.pfair_admission.proofs.Common.{nat_tests, cases_lt, append-nil, filter-append, LAST_INDEX, Delay, Member, jobs_done, subtasks_done, passed_delays, coming_delays, as_one, lowered, delays_from, carried, CanBeCarried}
 use Rattle.std.proofs.Math.Nat.{div-eq_of_lt, div-mul-le_self, div-zero}
-use Rattle.std.proofs.lemmas.Bool.Decides.{nat_tests}
-use Rattle.std.proofs.lemmas.Bool.{cases_lt}
-use Rattle.std.proofs.lemmas.List.{append-nil}
-use Rattle.std.proofs.lemmas.List.Elements.{filter-append}
 use Rattle.std.proofs.lemmas.Nat.{div-add-mod'}
-use Rattle.pfair_entry.specs.declared.entry.TheConstants.Entry.{LAST_INDEX}
-use Rattle.pfair_admission.specs.declared.delay.Delay.{Delay}
-use Rattle.pfair_admission.specs.Member.{Member}
-use Rattle.pfair_admission.specs.Carried.{jobs_done, subtasks_done, passed_delays, coming_delays, as_one, lowered, delays_from, carried, CanBeCarried}
 
 -- ---- its next subtask
 

@@ -1,15 +1,7 @@
 -- The delays of a member that is carried.
-use Rattle.std.proofs.lemmas.Grind.{common_steps}
-use Rattle.std.proofs.Common.{◌≡◌, ℕ, ◌+◌, ◌*◌, ◌≤◌, Bool, true, false, cond, List, [], ◌∷◌, map, refl, arith}
-use Rattle.std.specs.Prelude.{nat_le, nat_lt, ◌==◌}
-use Rattle.std.specs.List.{sum_by, filter, list_any}
-use Rattle.std.proofs.lemmas.Bool.Decides.{nat_tests}
-use Rattle.std.proofs.lemmas.List.Elements.{filter-append}
+use Rattle.std.proofs.Common.{◌≡◌, ℕ, ◌+◌, ◌*◌, ◌≤◌, Bool, true, false, cond, List, [], ◌∷◌, map, refl, arith, nat_le, nat_lt, ◌==◌}
+use Rattle.pfair_admission.proofs.Common.{common_steps, sum_by, filter, list_any, nat_tests, filter-append, sum_by-cons, sum_by-append, Delay, Member, last_offset, jobs_done, passed_delays, coming_delays, as_one, lowered, delays_from, carried}
 use Rattle.std.proofs.lemmas.List.Folds.{list_any-append}
-use Rattle.std.proofs.lemmas.List.Sums.{sum_by-cons, sum_by-append}
-use Rattle.pfair_admission.specs.declared.delay.Delay.{Delay}
-use Rattle.pfair_admission.specs.Member.{Member, last_offset}
-use Rattle.pfair_admission.specs.Carried.{jobs_done, passed_delays, coming_delays, as_one, lowered, delays_from, carried}
 
 abbrev slots : List Delay → ℕ
 slots ds = sum_by (λ (d : Delay). d.by) ds

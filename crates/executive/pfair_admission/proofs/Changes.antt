@@ -1,18 +1,9 @@
 -- A member that is changed where it stands.
-use Rattle.std.proofs.Common.{◌≡◌, ℕ, Bool, true, List, Option, Some, Result, IfOk, OnErr, refl, sym, ap, ◌∙◌, arith}
-use Rattle.std.specs.Prelude.{filter, if◌then◌else◌}
-use Rattle.std.specs.Map.{values_of}
-use Rattle.indexmap.specs.IndexMap.{set_value_at}
-use Rattle.std.specs.Option.{option_map, is_some}
-use Rattle.pfair_entry.specs.declared.entry.Announcement.TheVariants.{Depart, Late}
-use Rattle.pfair_admission.specs.declared.decision.Decision.{Decision}
-use Rattle.pfair_admission.specs.declared.decision.Decision.TheVariants.{Departing}
+use Rattle.std.proofs.Common.{◌≡◌, ℕ, Bool, true, List, Option, Some, Result, IfOk, OnErr, refl, sym, ap, ◌∙◌, arith, filter, if◌then◌else◌}
+use Rattle.pfair_admission.proofs.Common.{values_of, set_value_at, option_map, Depart, Late, Decision, Departing, Member, change, effect, present, running, ran, quantum_of, seatless, Roster, is_there, IsOnly, Numbered}
+use Rattle.std.specs.Option.{is_some}
 use Rattle.pfair_admission.specs.declared.members.Quantum.{Quantum}
-use Rattle.pfair_admission.specs.Member.{Member}
-use Rattle.pfair_admission.specs.Admission.{change, effect, present, running, ran, quantum_of, seatless}
 use Rattle.pfair_admission.specs.Change.{after_departure, after_late_release, after_quantum}
-use Rattle.pfair_admission.specs.Roster.{Roster}
-use Rattle.pfair_admission.specs.Ledger.{is_there, IsOnly, Numbered}
 use Rattle.pfair_admission.proofs.Written.{filter_again, filter_all, only_written, same_written, values_written}
 
 -- those that count, where the named one, m, has become n: they stay where it stays, and change as it does

@@ -1,18 +1,9 @@
 -- The delays to come, and those that have passed, gathered one by one.
-use Rattle.std.proofs.lemmas.Grind.{common_steps}
 use Rattle.std.proofs.Common.{◌≡◌, ℕ, ◌+◌, ◌*◌, ◌<◌, ◌≤◌, true, false, cond, List, [], ◌∷◌, ◌++◌, get_or, length, map, take, Some, refl, ap, arith}
-use Rattle.std.specs.Prelude.{nat_lt, ◌||◌, unwrap_or}
-use Rattle.std.specs.List.{sum_by, list_any}
+use Rattle.pfair_admission.proofs.Common.{common_steps, nat_lt, ◌||◌, unwrap_or, sum_by, list_any, nat_tests, sum_by_more_le, Delay, own_delay, LAST_SLOT, Member, as_one, carried_delays, jobs_done, passed_delays, CanBeCarried}
 use Rattle.std.specs.Ordering.{nat_cmp}
 use Rattle.std.specs.BTreeMap as map
 use Rattle.std.specs.BTreeMap.{BTreeMap}
-use Rattle.std.proofs.lemmas.Bool.Decides.{nat_tests}
-use Rattle.std.proofs.lemmas.List.Sums.{sum_by_more_le}
-use Rattle.pfair_admission.specs.declared.delay.Delay.{Delay}
-use Rattle.pfair_admission.specs.Incarnation.{own_delay}
-use Rattle.pfair_admission.specs.declared.members.TheConstants.Members.{LAST_SLOT}
-use Rattle.pfair_admission.specs.Member.{Member}
-use Rattle.pfair_admission.specs.Carried.{as_one, carried_delays, jobs_done, passed_delays, CanBeCarried}
 use Rattle.pfair_admission.proofs.Delays.{at_key, own_push, own_slots}
 use Rattle.pfair_admission.proofs.Sums.{sum_filter}
 

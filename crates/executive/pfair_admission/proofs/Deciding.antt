@@ -1,23 +1,7 @@
 -- What is left when an announcement is decided.
 use Rattle.std.proofs.Common.{◌≡◌, ℕ, ◌+◌, ◌*◌, ◌≤◌, Bool, List, [], ◌∷◌, ◌++◌, Option, Some, None, Result, Ok, Err, IfOk, OnOk, OnErr, sym, ap, ◌∙◌, arith}
-use Rattle.std.proofs.lemmas.List.Sums.{sum_by_push}
-use Rattle.std.proofs.lemmas.Bool.{cases_lt}
-use Rattle.std.proofs.lemmas.Bool.Decides.{nat_tests}
-use Rattle.std.proofs.lemmas.Option.{same_Some}
+use Rattle.pfair_admission.proofs.Common.{sum_by_push, cases_lt, nat_tests, same_Some, Share, units_of, MAX_OFFSET, Arrive, Depart, Late, Decision, Admitted, LONGEST_DELAY, MAX_PROCESSORS, MAX_FRAME, Member, last_offset, Machine, member_named, claimed, arrival, departure, late_release, newcomer, effect, present, decided, NoneFreed, EachHasRoom, is_there, Membership}
 use Rattle.pfair_weight.specs.Options.{nothing}
-use Rattle.pfair_weight.specs.Share.{Share, units_of}
-use Rattle.pfair_weight.specs.declared.window.TheConstants.{MAX_OFFSET}
-use Rattle.pfair_entry.specs.declared.entry.Announcement.TheVariants.{Arrive, Depart, Late}
-use Rattle.pfair_admission.specs.declared.decision.Decision.{Decision}
-use Rattle.pfair_admission.specs.declared.decision.Decision.TheVariants.{Admitted}
-use Rattle.pfair_entry.specs.declared.entry.TheConstants.Entry.{LONGEST_DELAY}
-use Rattle.pfair_admission.specs.declared.members.TheConstants.Members.{MAX_PROCESSORS, MAX_FRAME}
-use Rattle.pfair_admission.specs.Member.{Member, last_offset}
-use Rattle.pfair_admission.specs.Admission.{Machine, member_named, claimed, arrival, departure, late_release, newcomer, effect, present, decided}
-use Rattle.pfair_admission.specs.Removal.{NoneFreed}
-use Rattle.pfair_admission.specs.Roster.{EachHasRoom}
-use Rattle.pfair_admission.specs.Ledger.{is_there}
-use Rattle.pfair_admission.specs.Membership.{Membership}
 use Rattle.pfair_admission.proofs.MemberLists.{present_all, none_freed_push}
 use Rattle.pfair_admission.proofs.Written.{filter_again}
 

@@ -1,14 +1,6 @@
 -- An announcement does nothing, or one of three things; and a boundary lets members go, and decides announcements.
-use Rattle.std.proofs.Common.{◌≡◌, ℕ, Bool, true, false, List, [], ◌∷◌, ◌++◌, arith}
-use Rattle.std.specs.List.{AllByRecursion}
-use Rattle.std.specs.Prelude.{if◌then◌else◌}
-use Rattle.pfair_weight.specs.Share.{Share}
-use Rattle.pfair_entry.specs.declared.entry.Announcement.{Announcement}
-use Rattle.pfair_entry.specs.declared.entry.Announcement.TheVariants.{Arrive, Depart, Late}
-use Rattle.pfair_admission.specs.declared.decision.Decision.{Decision}
-use Rattle.pfair_admission.specs.declared.decision.Decision.TheVariants.{Admitted, Departing, Delayed}
-use Rattle.pfair_admission.specs.Member.{Member}
-use Rattle.pfair_admission.specs.Admission.{Machine, all_decided, boundary, change, decided, decision, effect, is_named, newcomer, present, with_delay, with_freeing}
+use Rattle.std.proofs.Common.{◌≡◌, ℕ, Bool, true, false, List, [], ◌∷◌, ◌++◌, arith, if◌then◌else◌}
+use Rattle.pfair_admission.proofs.Common.{AllByRecursion, Share, Announcement, Arrive, Depart, Late, Decision, Admitted, Departing, Delayed, Member, Machine, all_decided, boundary, change, decided, decision, effect, is_named, newcomer, present, with_delay, with_freeing}
 use Rattle.pfair_admission.proofs.Each.{each_map}
 
 module _ (P : List Member → Type 0) (t : ℕ) (ms : List Member) (h : P ms) where

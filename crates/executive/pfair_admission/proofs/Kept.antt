@@ -1,22 +1,7 @@
 -- What the ledger keeps when a member is written.
-use Rattle.std.proofs.lemmas.Grind.{common_steps}
-use Rattle.std.proofs.Common.{◌≡◌, ℕ, ◌+◌, ◌≤◌, ◌<◌, Bool, true, cond, List, [], ◌∷◌, ◌++◌, Option, Some, None, refl, sym, ap, subst, ◌∙◌, arith}
-use Rattle.std.specs.Prelude.{filter, nat_eq, slice_get}
-use Rattle.std.proofs.SliceLists.{all_by_recursion_push}
-use Rattle.std.proofs.lemmas.List.Sums.{sum_by_push}
-use Rattle.std.proofs.lemmas.Bool.Decides.{nat_tests}
-use Rattle.indexmap.specs.IndexMap.{insert_entry, with_value_at}
-use Rattle.std.specs.List.{IsDistinct}
-use Rattle.std.specs.Map.{keys_of, values_of, lookup}
-use Rattle.std.proofs.lemmas.List.Elements.{filter-append}
-use Rattle.pfair_weight.specs.Name.{name_eq}
-use Rattle.pfair_weight.specs.Share.{Share, units_of}
-use Rattle.pfair_admission.specs.declared.decision.Decision.TheVariants.{Admitted}
-use Rattle.pfair_admission.specs.Member.{Member}
-use Rattle.pfair_admission.specs.Admission.{Machine, arrival, claimed, member_named, newcomer, present}
-use Rattle.pfair_admission.specs.Removal.{earlier_of, IsNotBefore, NoneFreed, NoneFreedBefore}
+use Rattle.std.proofs.Common.{◌≡◌, ℕ, ◌+◌, ◌≤◌, ◌<◌, Bool, true, cond, List, [], ◌∷◌, ◌++◌, Option, Some, None, refl, sym, ap, subst, ◌∙◌, arith, filter, nat_eq, slice_get}
+use Rattle.pfair_admission.proofs.Common.{common_steps, all_by_recursion_push, sum_by_push, nat_tests, insert_entry, with_value_at, IsDistinct, keys_of, values_of, lookup, filter-append, name_eq, Share, units_of, Admitted, Member, Machine, arrival, claimed, member_named, newcomer, present, earlier_of, IsNotBefore, NoneFreed, NoneFreedBefore, is_there, listed, IsLedger, IsUnswept, Numbered}
 use Rattle.pfair_admission.specs.declared.ledger.Ledger.{Ledger}
-use Rattle.pfair_admission.specs.Ledger.{is_there, listed, IsLedger, IsUnswept, Numbered}
 use Rattle.pfair_admission.proofs.Changes.{IsLike}
 use Rattle.pfair_admission.proofs.Deciding.{admitted_new, admitted_room, claimed_arrived}
 use Rattle.pfair_admission.proofs.MemberLists.{claimed_present, first_earlier, first_push, not_before_right, present_all}

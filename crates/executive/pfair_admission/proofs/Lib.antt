@@ -4,6 +4,7 @@ pub mod CarriedAgain
 pub mod Carrying
 mod Changes
 mod Coming
+mod Common
 pub mod Deciding
 pub mod Delays
 pub mod Each

@@ -1,14 +1,6 @@
 -- Lists of members: who is freed, and what they claim.
-use Rattle.std.proofs.lemmas.Grind.{common_steps}
-use Rattle.std.proofs.Common.{◌≡◌, ℕ, ◌+◌, ◌≤◌, false, cond, List, [], ◌∷◌, ◌++◌, get_or, take, Option, Some, None, refl, sym, ap, subst, ◌∙◌, arith}
-use Rattle.std.specs.Prelude.{not, slice_get}
-use Rattle.std.proofs.lemmas.Option.{same_Some, slice_get-get_or, slice_get_within}
-use Rattle.std.proofs.lemmas.List.Sums.{sum_by-cons, sum_by_more, sum_by_more_le}
-use Rattle.std.proofs.lemmas.Bool.Decides.{nat_tests}
-use Rattle.pfair_weight.specs.Share.{units_of}
-use Rattle.pfair_admission.specs.Member.{Member}
-use Rattle.pfair_admission.specs.Admission.{claimed, change, is_freed, present}
-use Rattle.pfair_admission.specs.Removal.{earlier_of, IsNotBefore, NoneFreedBefore, NoneFreed}
+use Rattle.std.proofs.Common.{◌≡◌, ℕ, ◌+◌, ◌≤◌, false, cond, List, [], ◌∷◌, ◌++◌, get_or, take, Option, Some, None, refl, sym, ap, subst, ◌∙◌, arith, not, slice_get}
+use Rattle.pfair_admission.proofs.Common.{common_steps, same_Some, slice_get-get_or, slice_get_within, sum_by-cons, sum_by_more, sum_by_more_le, nat_tests, units_of, Member, claimed, change, is_freed, present, earlier_of, IsNotBefore, NoneFreedBefore, NoneFreed}
 use Rattle.pfair_admission.proofs.Sums.{sum_filter}
 
 -- ---- who is freed

@@ -1,20 +1,9 @@
 -- The numbers of members, and the names that lead to them.
-use Rattle.std.proofs.Common.{◌≡◌, ℕ, zero, suc, ◌+◌, ◌<◌, Bool, true, false, cond, List, [], ◌∷◌, ◌++◌, get_or, Option, IfSome, Some, None, refl, sym, ap, subst, ◌∙◌, arith}
-use Rattle.std.specs.Prelude.{nat_eq, not, filter, is_some, slice_get, position}
-use Rattle.std.specs.List.{AllByRecursion, IsDistinct}
-use Rattle.std.specs.Map.{keys_of, values_of, lookup}
+use Rattle.std.proofs.Common.{◌≡◌, ℕ, zero, suc, ◌+◌, ◌<◌, Bool, true, false, cond, List, [], ◌∷◌, ◌++◌, get_or, Option, IfSome, Some, None, refl, sym, ap, subst, ◌∙◌, arith, nat_eq, not, filter, is_some, slice_get, position}
+use Rattle.pfair_admission.proofs.Common.{AllByRecursion, IsDistinct, keys_of, values_of, lookup, all_by_recursion_push, nat_tests, same_Some, none-some, slice_get-get_or, insert_entry, set_value_at, NameValue, name_eq, Member, is_named, member_named, NoneFreed, has_number, is_there, IsFound, IsNamedIn, IsNumberOf, IsOnly, IsRegister, Numbered}
 use Rattle.std.specs.Cmp.Lexicographic.{bytes_decides}
-use Rattle.std.proofs.SliceLists.{all_by_recursion_push}
-use Rattle.std.proofs.lemmas.Bool.Decides.{nat_tests}
 use Rattle.std.proofs.lemmas.List.Quantifiers.{position-Some}
-use Rattle.std.proofs.lemmas.Option.{same_Some, none-some, slice_get-get_or}
-use Rattle.indexmap.specs.IndexMap.{insert_entry, set_value_at}
-use Rattle.pfair_weight.specs.Name.{NameValue, name_eq}
-use Rattle.pfair_admission.specs.Member.{Member}
-use Rattle.pfair_admission.specs.Admission.{is_named, member_named}
-use Rattle.pfair_admission.specs.Removal.{NoneFreed}
 use Rattle.pfair_admission.proofs.Each.{each, each_kept, both}
-use Rattle.pfair_admission.specs.Ledger.{has_number, is_there, IsFound, IsNamedIn, IsNumberOf, IsOnly, IsRegister, Numbered}
 
 abbrev pub Names : Type 0
 Names = List (NameValue × ℕ)

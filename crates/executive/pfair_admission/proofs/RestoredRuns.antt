@@ -1,21 +1,10 @@
 -- The members that a run begins with, restored one behind the other.
 use Rattle.std.proofs.Common.{◌≡◌, ℕ, ◌+◌, ◌*◌, ◌%◌, ◌<◌, ◌≤◌, false, cond, List, [], ◌∷◌, ◌++◌, map, None, Some, refl, sym, ap, ◌∙◌, arith}
-use Rattle.std.specs.List.{AllByRecursion}
+use Rattle.pfair_admission.proofs.Common.{AllByRecursion, all_by_recursion_push, nat_tests, sum_by-append, sum_by-cons, sum_by_push, NamesApart, IsWeight, Share, units_of, Admitted, Member, arrival, claimed, member_named, Machine, carried, CanBeCarried, IsNotBefore, CanBeRestored, IsLeftAt}
 use Rattle.std.specs.Cmp.Lexicographic.{nat_list_eq_equiv}
-use Rattle.std.proofs.SliceLists.{all_by_recursion_push}
-use Rattle.std.proofs.lemmas.Bool.Decides.{nat_tests}
-use Rattle.std.proofs.lemmas.List.Sums.{sum_by-append, sum_by-cons, sum_by_push}
-use Rattle.pfair_weight.specs.Name.{NamesApart}
-use Rattle.pfair_weight.specs.Share.{IsWeight, Share, units_of}
 use Rattle.pfair_weight.proofs.NamesApart.{apart_head, apart_push, apart_tail}
 use Rattle.pfair_entry.specs.Same.{name_eq}
-use Rattle.pfair_admission.specs.declared.decision.Decision.TheVariants.{Admitted}
-use Rattle.pfair_admission.specs.Member.{Member}
-use Rattle.pfair_admission.specs.Admission.{arrival, claimed, member_named, Machine}
-use Rattle.pfair_admission.specs.Carried.{carried, CanBeCarried}
 use Rattle.pfair_admission.specs.Laws.{AreInFrame, HaveRoom}
-use Rattle.pfair_admission.specs.Removal.{IsNotBefore}
-use Rattle.pfair_admission.specs.Restored.{CanBeRestored, IsLeftAt}
 use Rattle.pfair_admission.proofs.CarriedAgain.{able_again, carried_again, done_low}
 use Rattle.pfair_admission.proofs.Deciding.{admitted_new, admitted_room}
 use Rattle.pfair_admission.proofs.Each.{each}

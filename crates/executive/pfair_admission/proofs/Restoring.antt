@@ -1,30 +1,9 @@
 -- What a run can leave, and whether it is restored.
-use Rattle.std.proofs.lemmas.Grind.{common_steps}
-use Rattle.std.proofs.Common.{◌≡◌, ℕ, ◌+◌, ◌-◌, ◌*◌, ◌<◌, ◌≤◌, Bool, true, false, List, [], ◌∷◌, ◌++◌, length, length-append, map, Option, Some, None, Result, Ok, Err, OnOk, OnErr, refl, sym, ap, subst, ◌∙◌, arith}
-use Rattle.std.specs.Prelude.{is_some, nat_le}
-use Rattle.std.specs.List.{list_all}
-use Rattle.std.specs.Map.{values_of}
-use Rattle.std.proofs.SliceLists.{all_by_recursion_push}
+use Rattle.std.proofs.Common.{◌≡◌, ℕ, ◌+◌, ◌-◌, ◌*◌, ◌<◌, ◌≤◌, Bool, true, false, List, [], ◌∷◌, ◌++◌, length, length-append, map, Option, Some, None, Result, Ok, Err, OnOk, OnErr, refl, sym, ap, subst, ◌∙◌, arith, is_some, nat_le}
+use Rattle.pfair_admission.proofs.Common.{common_steps, list_all, values_of, all_by_recursion_push, nat_tests, sum_by-cons, Delay, LAST_INDEX, LAST_SLOT, Member, last_offset, IsWeight, Share, Decision, Admitted, Refused, LONGEST_DELAY, IsFound, Numbered, EachBounded, Membership, arrival, is_freed, member_named, Machine, as_one, carried, coming_delays, delays_from, jobs_done, passed_delays, subtasks_done, IsNotBefore, is_left_at, is_summed_up, CanBeRestored, IsLeftAt}
 use Rattle.std.proofs.Math.Nat.{div-eq_of_lt}
-use Rattle.std.proofs.lemmas.Bool.Decides.{nat_tests}
-use Rattle.std.proofs.lemmas.List.Sums.{sum_by-cons}
-use Rattle.pfair_admission.specs.declared.delay.Delay.{Delay}
-use Rattle.pfair_entry.specs.declared.entry.TheConstants.Entry.{LAST_INDEX}
-use Rattle.pfair_admission.specs.declared.members.TheConstants.Members.{LAST_SLOT}
-use Rattle.pfair_admission.specs.Member.{Member, last_offset}
-use Rattle.pfair_weight.specs.Share.{IsWeight, Share}
-use Rattle.pfair_admission.specs.declared.decision.Decision.{Decision}
-use Rattle.pfair_admission.specs.declared.decision.Decision.TheVariants.{Admitted, Refused}
 use Rattle.pfair_admission.specs.declared.decision.Refusal.{Refusal}
 use Rattle.pfair_admission.specs.declared.decision.Refusal.TheVariants.{NameTaken}
-use Rattle.pfair_entry.specs.declared.entry.TheConstants.Entry.{LONGEST_DELAY}
-use Rattle.pfair_admission.specs.Ledger.{IsFound, Numbered}
-use Rattle.pfair_admission.specs.Roster.{EachBounded}
-use Rattle.pfair_admission.specs.Membership.{Membership}
-use Rattle.pfair_admission.specs.Admission.{arrival, is_freed, member_named, Machine}
-use Rattle.pfair_admission.specs.Carried.{as_one, carried, coming_delays, delays_from, jobs_done, passed_delays, subtasks_done}
-use Rattle.pfair_admission.specs.Removal.{IsNotBefore}
-use Rattle.pfair_admission.specs.Restored.{is_left_at, is_summed_up, CanBeRestored, IsLeftAt}
 use Rattle.pfair_admission.proofs.CarriedAgain.{done_low, lowered_by_none, next_low}
 use Rattle.pfair_admission.proofs.Written.{filter_all, only_named}
 

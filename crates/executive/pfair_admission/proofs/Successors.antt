@@ -1,24 +1,7 @@
 -- The members of a next run, numbered anew.
-use Rattle.std.proofs.lemmas.Grind.{common_steps}
-use Rattle.std.proofs.Common.{◌≡◌, ℕ, zero, suc, ◌+◌, ◌*◌, ◌<◌, ◌≤◌, true, cond, List, [], ◌∷◌, ◌++◌, get_or, length, map, take, Some, None, refl, sym, ap, subst, ◌∙◌, arith}
-use Rattle.std.specs.Prelude.{nat_eq, filter, slice_get}
-use Rattle.std.specs.List.{AllByRecursion, IsDistinct}
-use Rattle.std.specs.Map.{keys_of, values_of, lookup}
-use Rattle.std.proofs.SliceLists.{all_by_recursion_push}
-use Rattle.std.proofs.lemmas.List.{map-append, take_more}
-use Rattle.std.proofs.lemmas.List.Sums.{sum_by-cons}
-use Rattle.std.proofs.lemmas.Option.{same_Some, none-some, slice_get-get_or, slice_get_within}
-use Rattle.indexmap.specs.IndexMap.{insert_entry}
-use Rattle.pfair_weight.specs.Name.{NameValue, name_eq}
-use Rattle.pfair_entry.specs.declared.entry.TheConstants.Entry.{LONGEST_DELAY}
-use Rattle.pfair_admission.specs.declared.members.TheConstants.Members.{LAST_SLOT}
+use Rattle.std.proofs.Common.{◌≡◌, ℕ, zero, suc, ◌+◌, ◌*◌, ◌<◌, ◌≤◌, true, cond, List, [], ◌∷◌, ◌++◌, get_or, length, map, take, Some, None, refl, sym, ap, subst, ◌∙◌, arith, nat_eq, filter, slice_get}
+use Rattle.pfair_admission.proofs.Common.{common_steps, AllByRecursion, IsDistinct, keys_of, values_of, lookup, all_by_recursion_push, map-append, take_more, sum_by-cons, same_Some, none-some, slice_get-get_or, slice_get_within, insert_entry, NameValue, name_eq, LONGEST_DELAY, LAST_SLOT, Member, last_offset, claimed, is_named, member_named, carried, CanBeCarried, listed, IsLedger, IsRegister, Numbered, IsNotBefore, NoneFreedBefore, EachBounded}
 use Rattle.pfair_admission.specs.declared.ledger.Ledger.{Ledger}
-use Rattle.pfair_admission.specs.Member.{Member, last_offset}
-use Rattle.pfair_admission.specs.Admission.{claimed, is_named, member_named}
-use Rattle.pfair_admission.specs.Carried.{carried, CanBeCarried}
-use Rattle.pfair_admission.specs.Ledger.{listed, IsLedger, IsRegister, Numbered}
-use Rattle.pfair_admission.specs.Removal.{IsNotBefore, NoneFreedBefore}
-use Rattle.pfair_admission.specs.Roster.{EachBounded}
 use Rattle.pfair_admission.proofs.Each.{each_map}
 use Rattle.pfair_admission.proofs.Kept.{values_pushed}
 use Rattle.pfair_admission.proofs.Registers.{number_at, one_place, register_more, same_name, Names}

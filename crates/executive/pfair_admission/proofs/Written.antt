@@ -1,15 +1,6 @@
 -- A member that is written at its place.
-use Rattle.std.proofs.Common.{◌≡◌, ℕ, zero, suc, ◌+◌, ◌<◌, Bool, true, false, cond, List, [], ◌∷◌, length, Option, IfSome, Some, None, refl, sym, ap, subst, ◌∙◌, arith}
-use Rattle.std.specs.Prelude.{filter, is_some, slice_get}
-use Rattle.std.specs.Map.{values_of}
-use Rattle.std.proofs.lemmas.List.Sums.{sum_by-cons}
-use Rattle.std.proofs.lemmas.Option.{same_Some, none-some}
-use Rattle.indexmap.specs.IndexMap.{set_value_at}
-use Rattle.pfair_weight.specs.Share.{Share, units_of}
-use Rattle.pfair_admission.specs.Member.{Member}
-use Rattle.pfair_admission.specs.Admission.{change, claimed, is_named, member_named}
-use Rattle.pfair_admission.specs.Removal.{IsNotBefore, NoneFreedBefore}
-use Rattle.pfair_admission.specs.Ledger.{IsOnly, IsPlace, Numbered}
+use Rattle.std.proofs.Common.{◌≡◌, ℕ, zero, suc, ◌+◌, ◌<◌, Bool, true, false, cond, List, [], ◌∷◌, length, Option, IfSome, Some, None, refl, sym, ap, subst, ◌∙◌, arith, filter, is_some, slice_get}
+use Rattle.pfair_admission.proofs.Common.{values_of, sum_by-cons, same_Some, none-some, set_value_at, Share, units_of, Member, change, claimed, is_named, member_named, IsNotBefore, NoneFreedBefore, IsOnly, IsPlace, Numbered}
 
 -- the members, of which the one at a place is another
 abbrev pub with_at : List Member → ℕ → Member → List Member

@@ -1,14 +1,10 @@
 -- Being in windows and staying within a lag of one are the same.
 use Rattle.std.proofs.Common.{◌≡◌, ℕ, zero, suc, ◌+◌, ◌-◌, ◌*◌, ◌<◌, ◌≤◌, List, length, get_or, arith, inl, inr}
-use Rattle.std.proofs.lemmas.Bool.{cases_lt}
+use Rattle.pfair_lag.proofs.Common.{cases_lt, Share, IsWeight, deadline_of, ArePicks, InWindows, KeepsReleases, MeetsDeadlines, pick_of, quanta_before, LagWithin, LagBelowOne, LagAboveMinusOne}
 use Rattle.std.proofs.lemmas.Int.{ints}
 use Rattle.std.proofs.lemmas.Nat.{mul-le}
 use Rattle.std.proofs.Math.Nat.{le_refl}
-use Rattle.pfair_weight.specs.Share.{Share, IsWeight}
-use Rattle.pfair_weight.specs.Window.{deadline_of}
 use Rattle.pfair_weight.specs.WindowFacts.{released, of_released, before_deadline, of_before_deadline}
-use Rattle.pfair_lag.specs.Picks.{ArePicks, InWindows, KeepsReleases, MeetsDeadlines, pick_of}
-use Rattle.pfair_lag.specs.Lag.{quanta_before, LagWithin, LagBelowOne, LagAboveMinusOne}
 use Rattle.pfair_lag.proofs.Counts.{rises, before_time, quanta_le}
 
 -- deadlines kept, by whole numbers: one more quantum would be ahead of the share

@@ -1,10 +1,7 @@
 -- Rising lists, and how many of their numbers lie below a time.
 use Rattle.std.proofs.Common.{◌≡◌, ℕ, zero, suc, ◌+◌, ◌-◌, ◌<◌, ◌≤◌, ltb, List, [], ◌∷◌, length, get_or, arith, inl, inr}
-use Rattle.std.proofs.lemmas.Bool.{cases_lt}
+use Rattle.pfair_lag.proofs.Common.{cases_lt, common_steps, ArePicks, Rises, quanta_before}
 use Rattle.std.proofs.lemmas.List.Sums.{count_by-le-length}
-use Rattle.std.proofs.lemmas.Grind.{common_steps}
-use Rattle.pfair_lag.specs.Picks.{ArePicks, Rises}
-use Rattle.pfair_lag.specs.Lag.{quanta_before}
 
 rises_to : (xs : List ℕ) (h : ℕ) → ArePicks xs h → (j k : ℕ) → j < k → k < length xs → get_or xs j 0 < get_or xs k 0
 rises_to xs h p j zero below inside = absurd (omega arith)

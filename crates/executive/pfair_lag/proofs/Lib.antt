@@ -1,5 +1,6 @@
 mod Agree
 mod BookLemmas
+mod Common
 mod Counts
 mod MissLemmas
 mod RunLemmas

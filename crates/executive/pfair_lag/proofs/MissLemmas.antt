@@ -1,13 +1,9 @@
 -- One subtask alone is the first that is out of its window.
-use Rattle.std.proofs.Common.{◌≡◌, ℕ, ◌+◌, ◌<◌, ◌≤◌, Bool, true, false, Option, Some, None, List, length, refl, sym, ap, subst, ◌∙◌, arith, inl, inr}
-use Rattle.std.specs.Prelude.{IsTrue, ◌↔◌, MatchOption, is_some, not}
-use Rattle.std.proofs.lemmas.Bool.{cases_lt}
-use Rattle.pfair_weight.specs.Share.{Share, IsWeight}
-use Rattle.pfair_weight.specs.Window.{release_of, deadline_of}
+use Rattle.std.proofs.Common.{◌≡◌, ℕ, ◌+◌, ◌<◌, ◌≤◌, Bool, true, false, Option, Some, None, List, length, refl, sym, ap, subst, ◌∙◌, arith, inl, inr, IsTrue, ◌↔◌, MatchOption, is_some, not}
+use Rattle.pfair_lag.proofs.Common.{cases_lt, Share, IsWeight, release_of, deadline_of, pick_of}
 use Rattle.pfair_weight.specs.WindowFacts.{deadline_rises, window_not_empty}
 use Rattle.pfair_lag.specs.declared.windows.Miss.{Miss}
 use Rattle.pfair_lag.specs.declared.windows.Miss.TheVariants.{Early, Tardy, Unserved}
-use Rattle.pfair_lag.specs.Picks.{pick_of}
 use Rattle.pfair_lag.specs.Miss.{miss_index, IsMiss, IsFirstMiss, IsLate, IsFirstLate}
 use Rattle.pfair_lag.specs.Laws.{OneFirstMiss, OneFirstLate, MissesAreOut, LateMissDeadlines}
 

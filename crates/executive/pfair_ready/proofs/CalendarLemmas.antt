@@ -1,14 +1,8 @@
 -- The lists of a calendar's near slots, and what moves out of them.
 use Rattle.std.proofs.lemmas.Grind.{common_steps}
-use Rattle.std.proofs.Common.{◌≡◌, ℕ, zero, suc, ◌+◌, ◌<◌, ◌≤◌, ◌⊎◌, inl, inr, List, [], ◌∷◌, ◌++◌, Vec, Global, length, refl, sym, ap, subst, arith, Option, Some}
-use Rattle.std.specs.Prelude.{Contains, slice_get, slice_set, slice_index_or, option_to_list, ◌%◌, ◌-◌}
+use Rattle.std.proofs.Common.{◌≡◌, ℕ, zero, suc, ◌+◌, ◌<◌, ◌≤◌, ◌⊎◌, inl, inr, List, [], ◌∷◌, ◌++◌, Vec, Global, length, refl, sym, ap, subst, arith, Option, Some, Contains, slice_get, slice_set, slice_index_or, option_to_list, ◌%◌, ◌-◌}
+use Rattle.pfair_ready.proofs.Common.{cases_order, leb-true, leb-false, same_Some, slice_get_past, slice_get-get_or, Key, Calendar, Date, in_bucket, under, HasTurn, IsAmong, IsNear, IsNoted, Moves}
 use Rattle.std.proofs.Math.Nat.{div-add-mod}
-use Rattle.std.proofs.lemmas.Bool.{cases_order, leb-true, leb-false}
-use Rattle.std.proofs.lemmas.Option.{same_Some, slice_get_past, slice_get-get_or}
-use Rattle.pfair_order.specs.declared.Key.{Key}
-use Rattle.pfair_ready.specs.declared.calendar.Calendar.{Calendar}
-use Rattle.pfair_ready.specs.declared.calendar.Date.{Date}
-use Rattle.pfair_ready.specs.Calendar.{in_bucket, under, HasTurn, IsAmong, IsNear, IsNoted, Moves}
 
 abbrev pub Buckets : Type 0
 Buckets = List (Vec Date Global)

@@ -1,18 +1,7 @@
 -- What waits is in the calendar, or has a turn.
-use Rattle.std.proofs.Common.{◌≡◌, ℕ, ◌≤◌, ◌⊎◌, inl, inr, Bool, true, false, cond, List, ◌∷◌, refl, sym, ap, subst, ◌∙◌, arith, Option, Some, None, true≢false}
-use Rattle.std.specs.Prelude.{Contains, is_some}
-use Rattle.std.specs.Ordering.{is_eq, eq_by_cmp}
-use Rattle.std.specs.Cmp.{Equal-is, tied_itself}
+use Rattle.std.proofs.Common.{◌≡◌, ℕ, ◌≤◌, ◌⊎◌, inl, inr, Bool, true, false, cond, List, ◌∷◌, refl, sym, ap, subst, ◌∙◌, arith, Option, Some, None, true≢false, Contains, is_some}
+use Rattle.pfair_ready.proofs.Common.{is_eq, eq_by_cmp, Equal-is, tied_itself, get-empty, get-insert, get-remove, same_map, none-some, same_Some, Key, Calendar, Date, NameValue, name_cmp, Queue, HasTurn, IsCovered, IsNoted, Moves, IsPermutation}
 use Rattle.std.specs.FinMap as finmap
-use Rattle.std.specs.FinMap.{get-empty, get-insert, get-remove, same_map}
-use Rattle.std.proofs.lemmas.Option.{none-some, same_Some}
-use Rattle.pfair_order.specs.declared.Key.{Key}
-use Rattle.pfair_ready.specs.declared.calendar.Calendar.{Calendar}
-use Rattle.pfair_ready.specs.declared.calendar.Date.{Date}
-use Rattle.pfair_ready.specs.Names.{NameValue, name_cmp}
-use Rattle.pfair_ready.specs.Queue.{Queue}
-use Rattle.pfair_ready.specs.Calendar.{HasTurn, IsCovered, IsNoted, Moves}
-use Rattle.std.specs.List.Sorted.{IsPermutation}
 use Rattle.pfair_ready.proofs.HeapLemmas.{top_or_stays}
 use Rattle.pfair_ready.proofs.Names.{names_total, names_exact}
 

@@ -1,11 +1,6 @@
 -- Dates in a heap, and what moves from there to the turns.
-use Rattle.std.proofs.Common.{◌≡◌, ℕ, ◌<◌, ◌≤◌, ◌⊎◌, List, length, arith, Option}
-use Rattle.std.specs.Prelude.{Contains, IfNone, IfSome}
-use Rattle.std.specs.BinaryHeap.{IsHeap, PopsGreatest}
-use Rattle.std.specs.declared.cmp.Reverse.{Reverse}
-use Rattle.pfair_order.specs.declared.Key.{Key}
-use Rattle.pfair_ready.specs.declared.calendar.Date.{Date}
-use Rattle.pfair_ready.specs.Calendar.{later_cmp, HasTurn, Moves}
+use Rattle.std.proofs.Common.{◌≡◌, ℕ, ◌<◌, ◌≤◌, ◌⊎◌, List, length, arith, Option, Contains, IfNone, IfSome}
+use Rattle.pfair_ready.proofs.Common.{IsHeap, PopsGreatest, Reverse, Key, Date, later_cmp, HasTurn, Moves}
 
 pub popped_order : (o : Option (Reverse Date)) (xs ys : List (Reverse Date)) (n : ℕ) → n ≡ length xs → 0 < length xs → IfNone o (n ≡ 0) → IfSome o (λ x. PopsGreatest later_cmp xs x ys) → IsHeap later_cmp xs → IsHeap later_cmp ys
 popped_order o xs ys n e some none h up = grind arith

@@ -1,13 +1,8 @@
 -- What a heap has after an element was put in or taken out.
 use Rattle.std.proofs.lemmas.Grind.{common_steps}
-use Rattle.std.proofs.Common.{◌≡◌, ℕ, ◌<◌, ◌⊎◌, List, [], ◌∷◌, length, map, refl, subst, arith, Option, Some}
-use Rattle.std.specs.Prelude.{Contains, IfNone, IfSome, slice_get, slice_index_or}
-use Rattle.std.specs.List.Sorted.{IsPermutation}
-use Rattle.std.specs.declared.cmp.Reverse.{Reverse}
+use Rattle.std.proofs.Common.{◌≡◌, ℕ, ◌<◌, ◌⊎◌, List, [], ◌∷◌, length, map, refl, subst, arith, Option, Some, Contains, IfNone, IfSome, slice_get, slice_index_or}
+use Rattle.pfair_ready.proofs.Common.{IsPermutation, Reverse, Contains-append_right, same_Some, place_of, at_place}
 use Rattle.std.proofs.lemmas.List.Sorted.{Contains-permutation, IsPermutation-map}
-use Rattle.std.proofs.lemmas.List.Elements.{Contains-append_right}
-use Rattle.std.proofs.lemmas.Option.{same_Some}
-use Rattle.pfair_order.proofs.RankLemmas.{place_of, at_place}
 
 in_cons : {A : Type 0} (y : A) (xs : List A) (x : A) (i : ℕ) → slice_get (y ∷ xs) i ≡ Some x → (y ≡ x) ⊎ Contains xs x
 in_cons y xs x i e = grind (arith, same_Some, at_place)

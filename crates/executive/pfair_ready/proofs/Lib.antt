@@ -1,4 +1,5 @@
 mod CalendarLemmas
+mod Common
 mod CoverLemmas
 mod DateLemmas
 mod HeapLemmas

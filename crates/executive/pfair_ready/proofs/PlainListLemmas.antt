@@ -1,34 +1,16 @@
 -- The list of waiting keys and the map that it holds.
-use Rattle.std.proofs.Common.{◌≡◌, ℕ, Bool, true, false, cond, not, List, [], ◌∷◌, ◌++◌, map, refl, sym, ap, subst, ◌∙◌, Option, Some, None, arith}
-use Rattle.std.specs.Prelude.{nat_le}
-use Rattle.std.specs.List.{AllByRecursion, filter}
-use Rattle.std.specs.declared.cmp.Ordering.TheVariants.{Less, Equal, Greater}
-use Rattle.std.specs.Ordering.{is_eq}
-use Rattle.std.specs.Cmp.{eq_by_cmp_equiv}
+use Rattle.std.proofs.Common.{◌≡◌, ℕ, Bool, true, false, cond, not, List, [], ◌∷◌, ◌++◌, map, refl, sym, ap, subst, ◌∙◌, Option, Some, None, arith, nat_le}
+use Rattle.pfair_ready.proofs.Common.{AllByRecursion, filter, Less, Equal, Greater, is_eq, eq_by_cmp_equiv, put, find, entries-insert, get-entries, get-from_entries, get-remove, get-retain_keys, from_entries_push, same_map, IsPermutation, Key, keys_total, IsSplit, split_from_least, split_of_permutation, first_by_rank, pd2_cmp, apart_head, apart_tail, apart_filter, apart_map, bytes_decides, nat_list_eq_equiv, NameValue, name_cmp, name_eq, Queue, released, map-append, nil_from_length, none-some, queue_of, first_named}
 use Rattle.std.specs.FinMap as finmap
-use Rattle.std.specs.FinMap.{put, find, entries-insert, get-entries, get-from_entries, get-remove, get-retain_keys, from_entries_push, same_map}
-use Rattle.std.specs.List.Sorted.{IsPermutation}
 use Rattle.std.proofs.lemmas.List.Sorted.{IsPermutation-refl, IsPermutation-cons, IsPermutation-trans, IsPermutation-middle}
 use Rattle.std.specs.List as list
 use Rattle.std.specs.Option.{option_map, is_some}
-use Rattle.pfair_order.specs.declared.Key.{Key}
-use Rattle.pfair_order.proofs.KeyLaws.{keys_total}
-use Rattle.pfair_order.proofs.RankLemmas.{IsSplit, split_from_least, split_of_permutation}
 use Rattle.pfair_order.proofs.ByRank.{by_rank_of_split}
-use Rattle.pfair_order.specs.Rank.{first_by_rank}
 use Rattle.itertools.specs.Extremes.{IsKLeast, by_cmp}
-use Rattle.pfair_order.specs.Order.{pd2_cmp}
 use Rattle.pfair_order.proofs.NamesApart.{once_from_names}
 use Rattle.pfair_weight.specs.Name.{NamesApart}
-use Rattle.pfair_weight.proofs.NamesApart.{apart_head, apart_tail, apart_filter, apart_map}
-use Rattle.std.specs.Cmp.Lexicographic.{bytes_decides, nat_list_eq_equiv}
 use Rattle.pfair_ready.specs.declared.plain.PlainEntry.{PlainEntry}
-use Rattle.pfair_ready.specs.Names.{NameValue, name_cmp, name_eq}
-use Rattle.pfair_ready.specs.Queue.{Queue, released}
-use Rattle.std.proofs.lemmas.List.{map-append, nil_from_length}
-use Rattle.std.proofs.lemmas.Option.{none-some}
 use Rattle.pfair_ready.proofs.Names.{names_total, names_exact, same_name}
-use Rattle.pfair_ready.specs.PlainList.{queue_of, first_named}
 
 module _ {X Y : Type 0} (q : X → Bool) (f : X → Y) where
   -- what is made of the values that pass

@@ -1,32 +1,12 @@
 -- How far a selection has come over the turns, and its steps.
-use Rattle.std.proofs.Common.{◌≡◌, ℕ, ◌+◌, ◌<◌, ◌≤◌, inl, inr, true, false, List, [], ◌∷◌, ◌++◌, length, map, min, refl, sym, ap, subst, ◌∙◌, arith, Option, Some, None, length-append}
-use Rattle.std.specs.Prelude.{Contains, nat_le}
-use Rattle.std.specs.List.{AllByRecursion}
-use Rattle.std.specs.declared.cmp.Ordering.TheVariants.{Less}
-use Rattle.std.specs.Ordering.{is_lt, is_eq}
-use Rattle.std.specs.Cmp.{Equal-is, tied_itself}
+use Rattle.std.proofs.Common.{◌≡◌, ℕ, ◌+◌, ◌<◌, ◌≤◌, inl, inr, true, false, List, [], ◌∷◌, ◌++◌, length, map, min, refl, sym, ap, subst, ◌∙◌, arith, Option, Some, None, length-append, Contains, nat_le}
+use Rattle.pfair_ready.proofs.Common.{AllByRecursion, Less, is_lt, is_eq, Equal-is, tied_itself, IsPermutation, map_push, All-contains, true≢false, and_parts, Key, pd2_cmp, first_by_rank, keys_total, keys_exact, IsSplit, less_of, split_more, Calendar, Date, NameValue, Queue, released, without, HasTurn, IsCovered, IsNoted, IsFirst, is_due}
 use Rattle.std.specs.FinMap as finmap
-use Rattle.std.specs.List.Sorted.{IsPermutation}
-use Rattle.std.proofs.lemmas.List.{map_push}
 use Rattle.std.proofs.lemmas.List.Sorted.{IsPermutation-sym}
-use Rattle.std.proofs.lemmas.List.Elements.{All-contains}
-use Rattle.std.proofs.lemmas.Bool.{true≢false, and_parts}
 use Rattle.std.proofs.lemmas.Bool.Decides.{nat_tests}
-use Rattle.pfair_order.specs.declared.Key.{Key}
-use Rattle.pfair_order.specs.Order.{pd2_cmp}
-use Rattle.pfair_order.specs.Rank.{first_by_rank}
-use Rattle.pfair_order.proofs.KeyLaws.{keys_total, keys_exact}
-use Rattle.pfair_order.proofs.RankLemmas.{IsSplit, less_of, split_more}
 use Rattle.pfair_order.proofs.ByRank.{by_rank_of_split}
 use Rattle.pfair_order.proofs.InOrder.{each_trivial}
-use Rattle.pfair_ready.specs.declared.calendar.Calendar.{Calendar}
-use Rattle.pfair_ready.specs.declared.calendar.Date.{Date}
-use Rattle.pfair_ready.specs.Names.{NameValue}
-use Rattle.pfair_ready.specs.Queue.{Queue, released, without}
-use Rattle.pfair_ready.specs.Calendar.{HasTurn, IsCovered, IsNoted}
 use Rattle.pfair_ready.specs.TurnOrder.{task_cmp}
-use Rattle.pfair_ready.specs.Turns.{IsFirst}
-use Rattle.pfair_ready.specs.Waiting.{is_due}
 use Rattle.pfair_ready.proofs.CoverLemmas.{covered_less, covered_popped, still_there}
 use Rattle.pfair_ready.proofs.TurnLemmas.{same_order}
 use Rattle.pfair_ready.proofs.Released.{IsReleased, each_released, released_remove, without_none, without_push}

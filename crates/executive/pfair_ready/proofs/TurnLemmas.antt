@@ -1,16 +1,8 @@
 -- The turns of a heap, and their order.
 use Rattle.std.proofs.Common.{◌≡◌, ℕ, false, List, refl, ap}
-use Rattle.std.specs.BinaryHeap.{IsUpperBound}
+use Rattle.pfair_ready.proofs.Common.{IsUpperBound, Less, Equal, Greater, Reverse, nat_cmp, is_lt, ordering_then, All-from_recursion, All-map, Key, pd2_cmp, tie_group_of, name_cmp, turn_cmp, reverse_cmp, turns_of, IsFirst}
 use Rattle.std.specs.declared.cmp.Ordering.{Ordering}
-use Rattle.std.specs.declared.cmp.Ordering.TheVariants.{Less, Equal, Greater}
-use Rattle.std.specs.declared.cmp.Reverse.{Reverse}
-use Rattle.std.specs.Ordering.{nat_cmp, is_lt, ordering_then}
-use Rattle.std.proofs.lemmas.List.Elements.{All-from_recursion, All-map}
-use Rattle.pfair_order.specs.declared.Key.{Key}
-use Rattle.pfair_order.specs.Order.{pd2_cmp, tie_group_of}
-use Rattle.pfair_ready.specs.Names.{name_cmp}
 use Rattle.pfair_ready.specs.TurnOrder.{task_cmp}
-use Rattle.pfair_ready.specs.Turns.{turn_cmp, reverse_cmp, turns_of, IsFirst}
 use Rattle.pfair_ready.proofs.Names.{names_exact}
 
 -- no turn of a heap goes before that of its top

@@ -1,21 +1,11 @@
 -- Two dispatchers whose replicas agree have planned alike.
-use Rattle.std.proofs.Common.{ℕ, ◌<◌, ◌≡◌, sym, ap, ◌∙◌, subst, arith, inl, inr, Bool, List, length, Some}
-use Rattle.std.specs.Prelude.{slice_get}
-use Rattle.pfair_lattice.specs.declared.join_map.Flat.TheVariants.{Torn}
+use Rattle.std.proofs.Common.{ℕ, ◌<◌, ◌≡◌, sym, ap, ◌∙◌, subst, arith, inl, inr, Bool, List, length, Some, slice_get}
+use Rattle.pfair_table.proofs.Common.{Torn, entry_eq, entry_exact, Replica, IsReplica, Untorn, Agree, said, Queue, Roster, Decided, Settings, Origin, Table, table, decisions, IsPlanOf, IsKept, table_before, places_before, places_in}
 use Rattle.pfair_lattice.specs.HeldLaws.{join_second}
-use Rattle.pfair_entry.specs.Same.{entry_eq}
-use Rattle.pfair_entry.specs.Exact.{entry_exact}
-use Rattle.pfair_replica.specs.Replica.{Replica, IsReplica, Untorn, Agree, said}
-use Rattle.pfair_ready.specs.Queue.{Queue}
-use Rattle.pfair_admission.specs.Roster.{Roster}
-use Rattle.pfair_table.specs.declared.slot.Decided.{Decided}
-use Rattle.pfair_table.specs.Table.{Settings, Origin, Table, table, decisions}
-use Rattle.pfair_table.specs.Refinement.{IsPlanOf, IsKept}
 use Rattle.pfair_table.proofs.TableLaws.{one_table}
 use Rattle.pfair_table.proofs.Runs.{get_numbers, untorn_left, one_schedule}
 use Rattle.pfair_table.proofs.Steps.{plan_of_held}
 use Rattle.pfair_table.specs.PlaceLaws.{OnePlacing}
-use Rattle.pfair_table.specs.Places.{table_before, places_before, places_in}
 use Rattle.pfair_table.proofs.Keeping.{tables_listed, is_of_held}
 use Rattle.pfair_table.proofs.PlacesKept.{follow_on, places_follow_tables}
 

@@ -1,19 +1,9 @@
 -- Rows found by their buckets.
 use Rattle.std.proofs.lemmas.Grind.{common_steps}
-use Rattle.std.proofs.Common.{ℕ, zero, suc, ◌+◌, ◌≤◌, ◌<◌, ◌≡◌, false, refl, sym, ap, ◌∙◌, arith, List, [], ◌∷◌, length, Some, None}
-use Rattle.std.specs.Prelude.{◌≢◌, slice_get, slice_index, set, replicate, if◌then◌else◌}
+use Rattle.std.proofs.Common.{ℕ, zero, suc, ◌+◌, ◌≤◌, ◌<◌, ◌≡◌, false, refl, sym, ap, ◌∙◌, arith, List, [], ◌∷◌, length, Some, None, ◌≢◌, slice_get, slice_index, set, replicate, if◌then◌else◌}
+use Rattle.pfair_table.proofs.Common.{cases_eq, false_from_ne_true, length-set, length-replicate, get_or-set_same, get_or-set_other, name_eq, name_exact, name_itself, Pick, Table, nat_list_eq_equiv, NamesApart, apart_head, apart_tail, place_of}
 use Rattle.pfair_order.proofs.RankLemmas.{at_each}
-use Rattle.std.proofs.lemmas.Bool.{cases_eq, false_from_ne_true}
-use Rattle.std.proofs.lemmas.List.{length-set, length-replicate, get_or-set_same, get_or-set_other}
 use Rattle.pfair_ready.specs.Names.{NameValue as Name}
-use Rattle.pfair_entry.specs.Same.{name_eq}
-use Rattle.pfair_entry.specs.Exact.{name_exact, name_itself}
-use Rattle.pfair_table.specs.declared.slot.Pick.{Pick}
-use Rattle.pfair_table.specs.Table.{Table}
-use Rattle.std.specs.Cmp.Lexicographic.{nat_list_eq_equiv}
-use Rattle.pfair_weight.specs.Name.{NamesApart}
-use Rattle.pfair_weight.proofs.NamesApart.{apart_head, apart_tail}
-use Rattle.pfair_table.specs.Places.{place_of}
 use Rattle.pfair_table.specs.Buckets.{bucket, AreBucketsOf}
 
 -- a task that no row names has no place

@@ -1,12 +1,8 @@
 -- Processors in use as bits, and the rows that take the least ones that are not.
-use Rattle.std.proofs.Common.{ℕ, ◌+◌, ◌-◌, ◌*◌, ◌^◌, ◌%◌, ◌<◌, ◌≤◌, ◌≡◌, refl, sym, ap, ◌∙◌, arith, inl, inr, w64, bit_or, Bool, true, false, List, [], ◌∷◌, ◌++◌, length, Option, Some, None}
-use Rattle.std.specs.Prelude.{◌||◌, ◌==◌, if◌then◌else◌}
-use Rattle.std.specs.List.{AllByRecursion}
+use Rattle.std.proofs.Common.{ℕ, ◌+◌, ◌-◌, ◌*◌, ◌^◌, ◌%◌, ◌<◌, ◌≤◌, ◌≡◌, refl, sym, ap, ◌∙◌, arith, inl, inr, w64, bit_or, Bool, true, false, List, [], ◌∷◌, ◌++◌, length, Option, Some, None, ◌||◌, ◌==◌, if◌then◌else◌}
+use Rattle.pfair_table.proofs.Common.{AllByRecursion, append_assoc, true≢false, eqb-true, eq-eqb, cases_lt, is_used, free_place, all_kept, filled}
 use Rattle.std.specs.Int.{bit_at, trailing_ones}
 use Rattle.std.proofs.lemmas.Nat.Bits.{bit_at-trailing_ones, bit_at_set_same, bit_at_set_other, bit_at_ones, bit_at-zero}
-use Rattle.std.proofs.lemmas.List.{append_assoc}
-use Rattle.std.proofs.lemmas.Bool.{true≢false, eqb-true, eq-eqb, cases_lt}
-use Rattle.pfair_table.specs.Places.{is_used, free_place, all_kept, filled}
 use Rattle.pfair_table.specs.PlacesInUse.{AreInUse}
 use Rattle.pfair_table.proofs.FreePlaces.{pigeons, free_is}
 use Rattle.pfair_table.proofs.PlacesKept.{count_others}

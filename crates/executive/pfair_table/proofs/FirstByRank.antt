@@ -1,8 +1,6 @@
 -- The first by rank, of keys whose names differ: what the laws of the PD2 order say of them.
-use Rattle.std.proofs.Common.{ℕ, ◌≤◌, ◌≡◌, List, length}
-use Rattle.std.specs.Prelude.{AllPairs}
-use Rattle.pfair_weight.specs.Name.{NamesApart}
-use Rattle.pfair_order.specs.declared.Key.{Key}
+use Rattle.std.proofs.Common.{ℕ, ◌≤◌, ◌≡◌, List, length, AllPairs}
+use Rattle.pfair_table.proofs.Common.{NamesApart, Key, first_by_rank, Among, among_contains, contains_among}
 use Rattle.pfair_order.specs.Order.{pd2_cmp, GoesBefore}
 use Rattle.pfair_order.specs.Rank.{AreFirst}
 use Rattle.pfair_order.proofs.KeyLaws.{keys_total}
@@ -10,8 +8,6 @@ use Rattle.pfair_order.proofs.OrderLemmas.{goes_before}
 use Rattle.pfair_order.proofs.RankLemmas.{place_of, first_pairs, first_within}
 use Rattle.pfair_order.proofs.InOrder.{by_rank_first, by_rank_of_same}
 use Rattle.pfair_order.proofs.NamesApart.{once_from_names}
-use Rattle.pfair_table.specs.Ranks.{first_by_rank}
-use Rattle.pfair_replica.specs.Among.{Among, among_contains, contains_among}
 
 module _ (keys : List Key) (apart : NamesApart (λ (k : Key). k.name) keys) (m : ℕ) where
   are_first : AreFirst pd2_cmp m keys (first_by_rank m keys)

@@ -1,25 +1,9 @@
 -- The dispatcher's invariant through plans.
-use Rattle.std.proofs.Common.{ℕ, zero, suc, min, ◌≤◌, ◌<◌, ◌≡◌, refl, sym, ap, ◌∙◌, arith, Bool, false, List, [], ◌∷◌, ◌++◌, length, map, None}
-use Rattle.std.specs.Prelude.{◌≢◌, ◌&&◌, not, nat_lt, IsTrue, if◌then◌else◌}
-use Rattle.std.proofs.lemmas.Bool.{le-ltb}
-use Rattle.std.proofs.lemmas.List.{map-append}
-use Rattle.std.proofs.lemmas.Option.{none-some}
-use Rattle.pfair_replica.specs.ReplicaRows.{ReplicaRows, replica_of}
-use Rattle.pfair_replica.specs.Replica.{Replica, IsReplica, has_torn, frontier, empty_replica, numbers_below, said}
-use Rattle.pfair_table.specs.Queue.{IsQueue}
-use Rattle.pfair_table.specs.Limits.{IsOrigin}
+use Rattle.std.proofs.Common.{ℕ, zero, suc, min, ◌≤◌, ◌<◌, ◌≡◌, refl, sym, ap, ◌∙◌, arith, Bool, false, List, [], ◌∷◌, ◌++◌, length, map, None, ◌≢◌, ◌&&◌, not, nat_lt, IsTrue, if◌then◌else◌}
+use Rattle.pfair_table.proofs.Common.{le-ltb, map-append, none-some, ReplicaRows, replica_of, Replica, IsReplica, has_torn, frontier, empty_replica, numbers_below, said, IsQueue, IsOrigin, Queue, Roster, Decided, Course, is_plannable, with_next_slot, PlannedSlots, with_next, Settings, Origin, Table, members_before, history, table, decisions, plan, plan_decisions, IsOf, Dispatch, IsPlanOf, IsInStep, IsKept, IsNextStep, IsWholePlan, course_of, untorn_by_test}
 use Rattle.pfair_table.proofs.Members.{named_before}
-use Rattle.pfair_ready.specs.Queue.{Queue}
-use Rattle.pfair_admission.specs.Roster.{Roster}
-use Rattle.pfair_table.specs.declared.slot.Decided.{Decided}
 use Rattle.pfair_table.specs.declared.answer.Step.{Step}
 use Rattle.pfair_table.specs.declared.answer.Step.TheVariants.{Planned, Waiting, Done}
-use Rattle.pfair_table.specs.Events.{Course, is_plannable, with_next_slot}
-use Rattle.pfair_table.specs.Planned.{PlannedSlots, with_next}
-use Rattle.pfair_table.specs.Table.{Settings, Origin, Table, members_before, history, table, decisions, plan, plan_decisions}
-use Rattle.pfair_table.specs.Laws.{IsOf}
-use Rattle.pfair_table.specs.Refinement.{Dispatch, IsPlanOf, IsInStep, IsKept, IsNextStep, IsWholePlan, course_of}
-use Rattle.pfair_replica.proofs.TornKeys.{untorn_by_test}
 use Rattle.pfair_table.proofs.Steps.{plan_of_held, step_of_held, plan_next_slot}
 
 -- ---- whether the next slot can be planned

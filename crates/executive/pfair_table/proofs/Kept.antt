@@ -1,18 +1,8 @@
 -- What is kept of planned slots: the list of all of them from one on.
-use Rattle.std.proofs.Common.{ℕ, zero, suc, ◌+◌, ◌-◌, ◌<◌, ◌≤◌, ◌≡◌, refl, sym, ap, ◌∙◌, arith, List, [], ◌∷◌, ◌++◌, length, drop, map}
-use Rattle.std.specs.Prelude.{slice_get}
-use Rattle.std.specs.Option.{option_map}
-use Rattle.std.proofs.lemmas.List.{length-map, length-append, length-drop, map-append, drop-append-le, drop-map}
-use Rattle.std.proofs.lemmas.Option.{slice_get_past, slice_get-map}
-use Rattle.std.proofs.Math.Seq.{drop-nil}
-use Rattle.pfair_replica.specs.ReplicaRows.{ReplicaRows, replica_of}
-use Rattle.pfair_replica.specs.Replica.{numbers_below, said}
-use Rattle.pfair_table.specs.declared.slot.Decided.{Decided}
+use Rattle.std.proofs.Common.{ℕ, zero, suc, ◌+◌, ◌-◌, ◌<◌, ◌≤◌, ◌≡◌, refl, sym, ap, ◌∙◌, arith, List, ◌∷◌, ◌++◌, length, drop, map, slice_get, []}
+use Rattle.pfair_table.proofs.Common.{option_map, length-map, length-append, length-drop, map-append, drop-append-le, drop-map, slice_get_past, slice_get-map, drop-nil, ReplicaRows, replica_of, numbers_below, said, Decided, places_from, places_in, places_after, table_before, places_before, PlannedSlots, AreKept, IsNext, with_next, tables_to, decided_to, last_or, Settings, Origin, Table, table, decisions}
 use Rattle.pfair_table.specs.declared.planned.PlannedSlot.{PlannedSlot}
 use Rattle.pfair_table.specs.declared.settings.TheConstants.Settings.{MAX_SLOTS}
-use Rattle.pfair_table.specs.Places.{places_from, places_in, places_after, table_before, places_before}
-use Rattle.pfair_table.specs.Planned.{PlannedSlots, AreKept, IsNext, with_next, tables_to, decided_to, last_or}
-use Rattle.pfair_table.specs.Table.{Settings, Origin, Table, table, decisions}
 use Rattle.pfair_table.proofs.Keeping.{tables_listed}
 use Rattle.pfair_table.proofs.Runs.{length_numbers}
 

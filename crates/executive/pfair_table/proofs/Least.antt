@@ -1,24 +1,13 @@
 -- What events leave is the least that is above all that they bring.
-use Rattle.std.proofs.Common.{ℕ, ◌≡◌, refl, sym, ◌∙◌, subst, arith, Bool, true, false, cond, List, [], ◌∷◌, Some}
-use Rattle.std.specs.Prelude.{◌&&◌, ◌==◌, nat_lt, nat_le}
-use Rattle.std.specs.List.{AllByRecursion}
-use Rattle.std.proofs.lemmas.Bool.{eqb-true, eq-eqb, ltb-true, leb-true, lt-ltb, le-leb, and_from, and_parts}
-use Rattle.pfair_lattice.specs.declared.join_map.Flat.TheVariants.{One}
+use Rattle.std.proofs.Common.{ℕ, ◌≡◌, refl, sym, ◌∙◌, subst, arith, Bool, true, false, cond, List, [], ◌∷◌, Some, ◌&&◌, ◌==◌, nat_lt, nat_le}
+use Rattle.pfair_table.proofs.Common.{AllByRecursion, eqb-true, eq-eqb, ltb-true, leb-true, lt-ltb, le-leb, and_from, and_parts, One, Logged, entry_eq, entry_exact, replica_of, has_key, has_shape, taken, absorbed, Replica, Below, join, only, with_entry, Course, begin_at, happens, run, Settings}
 use Rattle.pfair_lattice.specs.Held.{HeldBelow}
 use Rattle.pfair_lattice.specs.HeldLaws.{join_least, join_second, below_itself, below_trans, none_below}
-use Rattle.pfair_entry.specs.Entry.{Logged}
-use Rattle.pfair_entry.specs.Same.{entry_eq}
-use Rattle.pfair_entry.specs.Exact.{entry_exact}
-use Rattle.pfair_replica.specs.ReplicaRows.{replica_of}
-use Rattle.pfair_replica.specs.Offered.{has_key, has_shape, taken, absorbed}
 use Rattle.pfair_replica.specs.HeldAfter.{only_here}
-use Rattle.pfair_replica.specs.Replica.{Replica, Below, join, only, with_entry}
 use Rattle.pfair_replica.proofs.OfferedTo.{offered_stays}
 use Rattle.pfair_table.specs.declared.run.Event.{Event}
 use Rattle.pfair_table.specs.declared.run.Event.TheVariants.{Take, Absorb, Plan}
 use Rattle.pfair_table.specs.EventLaws.{IsBroughtBelow, EventsLeaveTheLeast}
-use Rattle.pfair_table.specs.Events.{Course, begin_at, happens, run}
-use Rattle.pfair_table.specs.Table.{Settings}
 use Rattle.pfair_table.proofs.Runs.{below_all}
 
 -- a replica of these processors and this capacity

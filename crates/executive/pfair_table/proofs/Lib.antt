@@ -1,27 +1,28 @@
+mod Alike
+mod Bucketed
+mod Common
+mod Filling
 mod FirstByRank
-pub mod Members
-pub mod TableLaws
-pub mod Runs
-pub mod NextIndexes
-mod QueueKept
-mod GivingQuanta
 pub mod FirstSubtasks
+mod FreePlaces
+mod GivingQuanta
+mod Keeping
+mod Kept
+mod Least
+mod Left
+pub mod Members
+pub mod NextIndexes
+mod NextRuns
+mod PlacesKept
+mod PlacesOn
+mod QueueKept
+mod ReadOn
+pub mod Runs
+pub mod RunsOn
+pub mod Scripts
+mod SlotPlanned
 mod Slots
 mod States
 mod Steps
-mod Keeping
-mod Kept
-pub mod Scripts
+pub mod TableLaws
 pub mod Within
-mod FreePlaces
-mod PlacesKept
-mod Filling
-mod PlacesOn
-mod Alike
-mod Left
-mod NextRuns
-pub mod RunsOn
-mod ReadOn
-mod Bucketed
-mod Least
-mod SlotPlanned

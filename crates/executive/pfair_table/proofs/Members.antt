@@ -1,13 +1,6 @@
 -- No two members have one name, at any slot, and how far their indexes rise.
 use Rattle.std.proofs.Common.{ℕ, zero, suc, List, [], ◌∷◌, Some, None, arith}
-use Rattle.pfair_weight.specs.Name.{NamesApart}
-use Rattle.pfair_weight.proofs.NamesApart.{apart_nil}
-use Rattle.pfair_entry.specs.declared.entry.Said.{Said}
-use Rattle.pfair_admission.specs.Member.{Member}
-use Rattle.pfair_admission.specs.Admission.{announcements, ran}
-use Rattle.pfair_admission.proofs.NamesKept.{apart_boundary, apart_ran}
-use Rattle.pfair_table.specs.Limits.{IsOrigin}
-use Rattle.pfair_table.specs.Table.{Settings, Origin, Table, History, machine, members_at, members_before, slot_of, all_ran, Story, history, world}
+use Rattle.pfair_table.proofs.Common.{NamesApart, apart_nil, Said, Member, announcements, ran, apart_boundary, apart_ran, IsOrigin, Settings, Origin, Table, History, machine, members_at, members_before, slot_of, all_ran, Story, history, world}
 
 abbrev pub label : Member → List ℕ
 label m = m.name

@@ -1,30 +1,12 @@
 -- The next index of a member is one more than its quanta in the tables; and adding one for each row keeps it so.
-use Rattle.std.proofs.Common.{ℕ, zero, suc, ◌+◌, ◌≤◌, ◌≡◌, refl, sym, ap, subst, ◌∙◌, arith, None, Bool, true, false, cond, List, [], ◌∷◌, ◌++◌, length, drop}
-use Rattle.std.specs.Prelude.{◌||◌, map, count_by, not, if◌then◌else◌}
-use Rattle.std.specs.List.{AllByRecursion}
+use Rattle.std.proofs.Common.{ℕ, zero, suc, ◌+◌, ◌≤◌, ◌≡◌, refl, sym, ap, subst, ◌∙◌, arith, None, Bool, true, false, cond, List, ◌∷◌, ◌++◌, length, drop, ◌||◌, map, count_by, not, if◌then◌else◌, []}
+use Rattle.pfair_table.proofs.Common.{AllByRecursion, length-append, drop_all, drop-append-le, map-id, nat_list_eq_equiv, among_all, map_same, name_eq, Announcement, name_exact, said, Said, Machine, is_named, newcomer, is_freed, boundary, with_freeing, with_delay, ran, with_quantum, announcements, Member, Settings, Origin, Table, History, machine, names_task, quanta, next_index, counted, counted_one, members_at, all_ran, Story, history, world, table, Pick, NamesApart, apart_head, apart_nil, apart_tail, each, each_filter, each_map, by_boundary, by_effect, each_change, RunsAreCounted}
 use Rattle.std.proofs.SliceLists.{all_by_recursion_push}
-use Rattle.std.proofs.lemmas.List.{length-append, drop_all, drop-append-le, map-id}
-use Rattle.std.specs.Cmp.Lexicographic.{nat_list_eq_equiv}
 use Rattle.std.proofs.lemmas.List.Sums.{sum_by_push}
 use Rattle.std.proofs.lemmas.Simd.{map-map}
-use Rattle.pfair_replica.specs.Among.{among_all, map_same}
-use Rattle.pfair_ready.specs.Names.{NameValue as Name}
 use Rattle.pfair_weight.specs.Share.{Share}
-use Rattle.pfair_entry.specs.Same.{name_eq}
-use Rattle.pfair_entry.specs.declared.entry.Announcement.{Announcement}
-use Rattle.pfair_entry.specs.Exact.{name_exact}
-use Rattle.pfair_replica.specs.Replica.{said}
-use Rattle.pfair_entry.specs.declared.entry.Said.{Said}
-use Rattle.pfair_admission.specs.Admission.{Machine, is_named, newcomer, is_freed, boundary, with_freeing, with_delay, ran, with_quantum, announcements}
-use Rattle.pfair_admission.specs.Member.{Member}
-use Rattle.pfair_table.specs.Table.{Settings, Origin, Table, History, machine, names_task, quanta, next_index, counted, counted_one, members_at, all_ran, Story, history, world, table}
-use Rattle.pfair_table.specs.declared.slot.Pick.{Pick}
-use Rattle.pfair_weight.specs.Name.{NamesApart}
-use Rattle.pfair_weight.proofs.NamesApart.{apart_head, apart_nil, apart_tail}
-use Rattle.pfair_admission.proofs.Each.{each, each_filter, each_map}
-use Rattle.pfair_admission.proofs.Effects.{by_boundary, by_effect, each_change}
-use Rattle.pfair_table.specs.Laws.{RunsAreCounted}
 use Rattle.pfair_table.proofs.TableLaws.{ordered_from}
+use Rattle.pfair_ready.specs.Names.{NameValue as Name}
 
 -- ---- what holds of each member
 

@@ -1,26 +1,10 @@
 -- What a finished run leaves can be taken over by a next run, and finished runs that agree leave the same.
-use Rattle.std.proofs.Common.{ℕ, ◌+◌, ◌≤◌, ◌<◌, ◌≡◌, sym, ap, subst, ◌∙◌, arith, Bool, false, List, length, map}
-use Rattle.std.specs.List.{AllByRecursion}
-use Rattle.pfair_replica.specs.ReplicaRows.{ReplicaRows, replica_of}
-use Rattle.pfair_replica.specs.Replica.{Replica, IsReplica, has_torn, said}
-use Rattle.pfair_replica.proofs.Marks.{same_said}
-use Rattle.pfair_ready.specs.Queue.{Queue}
-use Rattle.std.specs.Prelude.{Result, Ok, Err, IfErr, OnOk}
+use Rattle.std.proofs.Common.{ℕ, ◌+◌, ◌≤◌, ◌<◌, ◌≡◌, sym, ap, subst, ◌∙◌, arith, Bool, false, List, length, map, Result, Ok, Err, IfErr, OnOk}
+use Rattle.pfair_table.proofs.Common.{AllByRecursion, ReplicaRows, replica_of, Replica, IsReplica, has_torn, said, same_said, Queue, carried, CanBeCarried, Roster, Machine, Member, Decided, AreLeftAt, IsCarried, CanBeFollowed, IsFinished, IsNextRunFault, IsResumeFault, LeaveAlike, end_of, left_by, members_left, table_before, places_before, places_in, IsFit, ArePlacesOf, last_or, Dispatch, IsKept, members_after, Settings, Origin, Carried, Table, machine, slot_of, history}
 use Rattle.std.specs.Result.{IsErrAnd}
-use Rattle.pfair_admission.specs.Carried.{carried, CanBeCarried}
 use Rattle.pfair_table.specs.declared.answer.NextRunFault.{NextRunFault}
 use Rattle.pfair_table.specs.declared.answer.NextRunFault.TheVariants.{Torn, Spent, Unfinished, PastLastSlot, CannotCarry, Memory}
-use Rattle.pfair_admission.specs.Roster.{Roster}
 use Rattle.pfair_admission.specs.declared.members.TheConstants.Members.{LAST_SLOT}
-use Rattle.pfair_admission.specs.Admission.{Machine}
-use Rattle.pfair_admission.specs.Member.{Member}
-use Rattle.pfair_table.specs.declared.slot.Decided.{Decided}
-use Rattle.pfair_table.specs.Limits.{AreLeftAt, IsCarried}
-use Rattle.pfair_table.specs.NextRun.{CanBeFollowed, IsFinished, IsNextRunFault, IsResumeFault, LeaveAlike, end_of, left_by, members_left}
-use Rattle.pfair_table.specs.Places.{table_before, places_before, places_in, IsFit, ArePlacesOf}
-use Rattle.pfair_table.specs.Planned.{last_or}
-use Rattle.pfair_table.specs.Refinement.{Dispatch, IsKept, members_after}
-use Rattle.pfair_table.specs.Table.{Settings, Origin, Carried, Table, machine, slot_of, history}
 use Rattle.pfair_table.proofs.Alike.{untorn_right}
 use Rattle.pfair_table.proofs.Keeping.{is_of_held, plan_now, step_now}
 use Rattle.pfair_table.proofs.Left.{all_left}

@@ -1,19 +1,8 @@
 -- The places of one more table, and those of the tables that a dispatcher plans.
-use Rattle.std.proofs.Common.{ℕ, zero, suc, ◌-◌, ◌≡◌, refl, sym, ap, ◌∙◌, subst, arith, List, [], ◌∷◌, ◌++◌, length, map, Some, None}
-use Rattle.std.specs.Prelude.{slice_get}
-use Rattle.std.specs.List.{AllByRecursion}
-use Rattle.pfair_replica.specs.Replica.{Replica, said, numbers_below}
-use Rattle.pfair_weight.proofs.NamesApart.{apart_nil}
-use Rattle.pfair_table.specs.declared.slot.Decided.{Decided}
-use Rattle.pfair_table.specs.declared.slot.Pick.{Pick}
-use Rattle.pfair_table.specs.Table.{Settings, Origin, Table, table}
-use Rattle.pfair_table.specs.Places.{places_after, places_from, places_in, table_before, places_before, IsFit, ArePlacesOf}
-use Rattle.pfair_table.specs.Planned.{last_or}
-use Rattle.pfair_table.specs.Refinement.{IsPlanOf}
-use Rattle.pfair_replica.specs.Among.{all_among, among_map}
+use Rattle.std.proofs.Common.{ℕ, zero, suc, ◌-◌, ◌≡◌, refl, sym, ap, ◌∙◌, subst, arith, List, ◌∷◌, ◌++◌, length, map, Some, None, slice_get, []}
+use Rattle.pfair_table.proofs.Common.{AllByRecursion, Replica, said, numbers_below, apart_nil, Decided, Pick, Settings, Origin, Table, table, places_after, places_from, places_in, table_before, places_before, IsFit, ArePlacesOf, last_or, IsPlanOf, all_among, among_map, IsOrigin}
 use Rattle.pfair_table.proofs.TableLaws.{ordered_from}
 use Rattle.pfair_table.proofs.Members.{named_before}
-use Rattle.pfair_table.specs.Limits.{IsOrigin}
 use Rattle.pfair_table.proofs.Keeping.{tables_listed}
 use Rattle.pfair_table.proofs.PlacesKept.{next_places}
 

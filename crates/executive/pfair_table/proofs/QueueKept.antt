@@ -1,32 +1,15 @@
 -- The queue of the members' next subtasks, through boundaries and quanta.
-use Rattle.std.proofs.Common.{ℕ, ◌+◌, ◌<◌, ◌≡◌, refl, sym, ap, ◌∙◌, subst, Bool, true, false, cond, List, [], ◌∷◌, ◌++◌, length, get_or, drop, Option, Some, None, arith}
-use Rattle.std.specs.Prelude.{◌||◌, find, not, is_some, slice_get, if◌then◌else◌}
+use Rattle.std.proofs.Common.{ℕ, ◌+◌, ◌<◌, ◌≡◌, refl, sym, ap, ◌∙◌, subst, Bool, true, false, cond, List, [], ◌∷◌, ◌++◌, length, get_or, drop, Option, Some, None, arith, ◌||◌, find, not, is_some, slice_get, if◌then◌else◌}
+use Rattle.pfair_table.proofs.Common.{true≢false, or_parts, drop_more, NamesApart, apart_head, apart_tail, AllByRecursion, name_cmp, Key, name_eq, Said, Announcement, name_exact, name_itself, none-some, same_Some, slice_get_within, get_or_from_slice_get, Queue, Machine, is_named, member_named, change, effect, present, is_freed, all_decided, boundary, announcements, Member, is_departing, eligible_from, next_key, queued, IsQueue, IsQueueBesides, IsQueueBut, IsNotifiedOf, is_of_some, is_said, by_effect, apart_present, apart_effect}
 use Rattle.std.specs.Ordering.{eq_by_cmp}
 use Rattle.std.proofs.lemmas.Cmp.{nat_list_cmp_total}
 use Rattle.std.specs.FinMap as finmap
 use Rattle.std.specs.FinMap.{get-empty, get-insert, get-remove, same_map}
 use Rattle.pfair_ready.proofs.Names.{names_exact, tied_names}
-use Rattle.std.proofs.lemmas.Bool.{true≢false, or_parts}
-use Rattle.std.proofs.lemmas.List.{drop_more}
 use Rattle.std.proofs.lemmas.List.Recursion.{found_push_other}
-use Rattle.pfair_weight.specs.Name.{NamesApart}
-use Rattle.pfair_weight.proofs.NamesApart.{apart_head, apart_tail}
-use Rattle.std.specs.List.{AllByRecursion}
-use Rattle.pfair_ready.specs.Names.{NameValue as Name, name_cmp}
-use Rattle.pfair_order.specs.declared.Key.{Key}
-use Rattle.pfair_entry.specs.Same.{name_eq}
+use Rattle.pfair_ready.specs.Names.{NameValue as Name}
 use Rattle.pfair_entry.specs.Names.{name_of}
-use Rattle.pfair_entry.specs.declared.entry.Said.{Said}
-use Rattle.pfair_entry.specs.declared.entry.Announcement.{Announcement}
-use Rattle.pfair_entry.specs.Exact.{name_exact, name_itself}
-use Rattle.std.proofs.lemmas.Option.{none-some, same_Some, slice_get_within, get_or_from_slice_get}
-use Rattle.pfair_ready.specs.Queue.{Queue}
-use Rattle.pfair_admission.specs.Admission.{Machine, is_named, member_named, change, effect, present, is_freed, all_decided, boundary, announcements}
-use Rattle.pfair_admission.specs.Member.{Member, is_departing, eligible_from, next_key}
 use Rattle.pfair_admission.specs.declared.decision.Decision.{Decision}
-use Rattle.pfair_table.specs.Queue.{queued, IsQueue, IsQueueBesides, IsQueueBut, IsNotifiedOf, is_of_some, is_said}
-use Rattle.pfair_admission.proofs.Effects.{by_effect}
-use Rattle.pfair_admission.proofs.NamesKept.{apart_present, apart_effect}
 
 -- ---- what is found
 

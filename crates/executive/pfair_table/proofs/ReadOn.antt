@@ -1,19 +1,10 @@
 -- Readings of sound beginnings: one entry more, and what a replica that holds more makes of them.
-use Rattle.std.proofs.Common.{ℕ, zero, suc, ◌+◌, ◌≤◌, ◌<◌, ◌≡◌, refl, sym, ap, ◌∙◌, ⊎_elim, arith, List, [], ◌∷◌, ◌++◌, length, take, drop, Some, append_assoc}
-use Rattle.std.specs.Prelude.{◌≢◌, ◌⊎◌, flat_map, slice_get, set, sum_by}
-use Rattle.std.proofs.lemmas.List.{take-append-le, length-append, length-set, get_or-set_other}
-use Rattle.std.proofs.lemmas.Bool.{cases_eq}
+use Rattle.std.proofs.Common.{ℕ, zero, suc, ◌+◌, ◌≤◌, ◌<◌, ◌≡◌, refl, sym, ap, ◌∙◌, ⊎_elim, arith, List, [], ◌∷◌, ◌++◌, length, take, drop, Some, append_assoc, ◌≢◌, ◌⊎◌, flat_map, slice_get, set, sum_by}
+use Rattle.pfair_table.proofs.Common.{take-append-le, length-append, length-set, get_or-set_other, cases_eq, get_or_from_slice_get, slice_get-get_or, slice_get_within, take-length, take-suc, One, Torn, Logged, Replica, IsReplica, Below, Untorn, numbers_below, sound_beginning, sound_total, said_in, said_behind, said, some_at, held_within, beginnings_grow, IsReadingOf, AreReadingsOf, AreWhole, entries_read, said_by_all}
 use Rattle.std.proofs.lemmas.Grind.{flat_map-append, get_or-set_at}
 use Rattle.std.proofs.lemmas.List.Sums.{sum_by_push}
-use Rattle.std.proofs.lemmas.Option.{get_or_from_slice_get, slice_get-get_or, slice_get_within}
-use Rattle.std.proofs.Math.Seq.{take-length, take-suc}
-use Rattle.pfair_lattice.specs.declared.join_map.Flat.TheVariants.{One, Torn}
-use Rattle.pfair_entry.specs.Entry.{Logged}
 use Rattle.pfair_replica.specs.Agenda.{said_at}
-use Rattle.pfair_replica.specs.Replica.{Replica, IsReplica, Below, Untorn, numbers_below, sound_beginning, sound_total, said_in, said_behind, said}
-use Rattle.pfair_replica.proofs.SoundEntries.{some_at, held_within, beginnings_grow}
 use Rattle.pfair_table.specs.declared.planner.Reading.{Reading}
-use Rattle.pfair_table.specs.Readings.{IsReadingOf, AreReadingsOf, AreWhole, entries_read, said_by_all}
 
 -- what some entries say and then the others
 said_split : (t k n m : ℕ) (es : List Logged) → said_in t k n (take m es) ++ said_in t k (n + m) (drop m es) ≡ said_in t k n es

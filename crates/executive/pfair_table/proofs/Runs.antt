@@ -1,28 +1,11 @@
 -- Whatever events come, a slot that was planned has the table of a replica that is still held, and every other dispatcher
 -- that agrees has it too.
-use Rattle.pfair_replica.specs.ReplicaRows.{replica_of}
-use Rattle.std.proofs.Common.{ℕ, zero, suc, ◌<◌, ◌≤◌, ◌≡◌, refl, sym, ◌∙◌, subst, arith, inl, inr, Bool, true, false, List, [], ◌∷◌, ◌++◌, length, min, Some}
-use Rattle.std.specs.Prelude.{◌&&◌, not, nat_lt, map, slice_get, if◌then◌else◌}
-use Rattle.std.specs.List.{AllByRecursion}
-use Rattle.std.proofs.lemmas.List.{length-map, map-append, length-append}
-use Rattle.std.proofs.lemmas.Bool.{ltb-true, and_parts, not-true, cases_lt}
-use Rattle.std.proofs.lemmas.Option.{none-some, same_Some}
-use Rattle.pfair_lattice.specs.declared.join_map.Flat.TheVariants.{Torn}
+use Rattle.std.proofs.Common.{ℕ, zero, suc, ◌<◌, ◌≤◌, ◌≡◌, refl, sym, ◌∙◌, subst, arith, inl, inr, Bool, true, false, List, [], ◌∷◌, ◌++◌, length, min, Some, ◌&&◌, not, nat_lt, map, slice_get, if◌then◌else◌}
+use Rattle.pfair_table.proofs.Common.{replica_of, AllByRecursion, length-map, map-append, length-append, ltb-true, and_parts, not-true, cases_lt, none-some, same_Some, Torn, Logged, IsEntry, entry_eq, entry_exact, Replica, IsReplica, Below, Untorn, Agree, frontier, numbers_below, has_torn, said, below_agree, frontier_le, untorn_by_test, Settings, Origin, Table, table, decisions, plan, Decided, taken, absorbed, IsEvent, Course, begin_at, is_plannable, with_next_slot, happens, run, IsOf, IsPrefixOf, OneSchedule, PlanSoFar}
 use Rattle.pfair_lattice.specs.HeldLaws.{join_least, join_first, join_second, below_itself, below_trans}
-use Rattle.pfair_entry.specs.Entry.{Logged, IsEntry}
-use Rattle.pfair_entry.specs.Same.{entry_eq}
-use Rattle.pfair_entry.specs.Exact.{entry_exact}
-use Rattle.pfair_replica.specs.Replica.{Replica, IsReplica, Below, Untorn, Agree, frontier, numbers_below, has_torn, said}
-use Rattle.pfair_replica.proofs.Marks.{below_agree, frontier_le}
 use Rattle.pfair_replica.proofs.OfferedTo.{offered_stays}
-use Rattle.pfair_replica.proofs.TornKeys.{untorn_by_test}
-use Rattle.pfair_table.specs.Table.{Settings, Origin, Table, table, decisions, plan}
-use Rattle.pfair_table.specs.declared.slot.Decided.{Decided}
-use Rattle.pfair_replica.specs.Offered.{taken, absorbed}
 use Rattle.pfair_table.specs.declared.run.Event.{Event}
 use Rattle.pfair_table.specs.declared.run.Event.TheVariants.{Take, Absorb, Plan}
-use Rattle.pfair_table.specs.Events.{IsEvent, Course, begin_at, is_plannable, with_next_slot, happens, run}
-use Rattle.pfair_table.specs.Laws.{IsOf, IsPrefixOf, OneSchedule, PlanSoFar}
 use Rattle.pfair_table.proofs.TableLaws.{one_table, prefix_map}
 
 -- ---- lists

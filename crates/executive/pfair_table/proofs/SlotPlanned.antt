@@ -1,21 +1,10 @@
 -- What plans slots of a replica that is handed in is in step with that.
-use Rattle.std.proofs.Common.{ℕ, suc, min, ◌+◌, ◌≤◌, ◌<◌, ◌≡◌, sym, ap, ◌∙◌, subst, arith, Bool, false, List, [], ◌∷◌, ◌++◌, length}
-use Rattle.std.specs.Prelude.{IsTrue, Some, None, Result, Ok, Err, IfErr}
+use Rattle.std.proofs.Common.{ℕ, suc, min, ◌+◌, ◌≤◌, ◌<◌, ◌≡◌, sym, ap, ◌∙◌, subst, arith, Bool, false, List, [], ◌∷◌, ◌++◌, length, IsTrue, Some, None, Result, Ok, Err, IfErr}
+use Rattle.pfair_table.proofs.Common.{map-append, apart_nil, ReplicaRows, replica_of, Replica, IsReplica, has_torn, frontier, numbers_below, said, Queue, Roster, Decided, is_plannable, Settings, Table, table, decisions, Dispatch, IsInStep, IsKept, IsWholePlan, tables_to, decided_to}
 use Rattle.std.specs.Result.{IsErrAnd}
-use Rattle.std.proofs.lemmas.List.{map-append}
-use Rattle.pfair_weight.proofs.NamesApart.{apart_nil}
-use Rattle.pfair_replica.specs.ReplicaRows.{ReplicaRows, replica_of}
-use Rattle.pfair_replica.specs.Replica.{Replica, IsReplica, has_torn, frontier, numbers_below, said}
-use Rattle.pfair_ready.specs.Queue.{Queue}
-use Rattle.pfair_admission.specs.Roster.{Roster}
-use Rattle.pfair_table.specs.declared.slot.Decided.{Decided}
-use Rattle.pfair_table.specs.Events.{is_plannable}
-use Rattle.pfair_table.specs.Table.{Settings, Table, table, decisions}
 use Rattle.pfair_table.specs.declared.answer.PlanFault.{PlanFault}
 use Rattle.pfair_table.specs.declared.answer.PlanFault.TheVariants.{Memory}
 use Rattle.pfair_table.specs.declared.slot.SlotPlan.{SlotPlan}
-use Rattle.pfair_table.specs.Refinement.{Dispatch, IsInStep, IsKept, IsWholePlan}
-use Rattle.pfair_table.specs.Planned.{tables_to, decided_to}
 use Rattle.pfair_table.specs.SlotPlans.{IsNextPlan, after_plan}
 use Rattle.pfair_table.proofs.Keeping.{plan_now, step_now, kept_next, whole_plan}
 use Rattle.pfair_table.proofs.Kept.{tables_long}

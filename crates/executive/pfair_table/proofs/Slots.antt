@@ -1,27 +1,11 @@
 -- What holds before a slot holds before the next.
-use Rattle.std.proofs.Common.{ℕ, zero, suc, ◌+◌, ◌≤◌, ◌<◌, ◌≡◌, sym, subst, arith, Bool, true, false, List, Some, None}
-use Rattle.std.specs.Prelude.{if◌then◌else◌}
-use Rattle.std.specs.List.{AllByRecursion}
-use Rattle.pfair_entry.specs.declared.entry.Announcement.{Announcement}
-use Rattle.pfair_entry.specs.declared.entry.Said.{Said}
-use Rattle.pfair_ready.specs.Queue.{Queue}
-use Rattle.pfair_weight.specs.Name.{NamesApart}
-use Rattle.pfair_admission.specs.Admission.{Machine, boundary, announcements, with_quantum}
-use Rattle.pfair_admission.specs.Member.{Member}
-use Rattle.pfair_admission.specs.Roster.{Roster}
-use Rattle.pfair_table.specs.declared.slot.Pick.{Pick}
-use Rattle.pfair_table.specs.Table.{Settings, Origin, Table, machine, members_before, slot_of, history, world, table, all_ran, names_task}
-use Rattle.pfair_table.specs.Queue.{IsQueue, IsSteady}
-use Rattle.pfair_table.specs.Limits.{IsOrigin}
+use Rattle.std.proofs.Common.{ℕ, zero, suc, ◌+◌, ◌≤◌, ◌<◌, ◌≡◌, sym, subst, arith, Bool, true, false, List, Some, None, if◌then◌else◌}
+use Rattle.pfair_table.proofs.Common.{AllByRecursion, Announcement, Said, Queue, NamesApart, Machine, boundary, announcements, with_quantum, Member, Roster, Pick, Settings, Origin, Table, machine, members_before, slot_of, history, world, table, all_ran, names_task, IsQueue, IsSteady, IsOrigin, MAX_INDEX, apart_boundary, each, each_map, Replica, said}
 use Rattle.pfair_admission.specs.declared.members.TheConstants.Members.{LAST_SLOT}
-use Rattle.pfair_weight.specs.declared.window.TheConstants.{MAX_INDEX}
 use Rattle.pfair_admission.specs.Restored.{IsLeftAt}
 use Rattle.pfair_admission.proofs.CarriedAgain.{next_fits}
-use Rattle.pfair_admission.proofs.NamesKept.{apart_boundary}
 use Rattle.pfair_table.proofs.TableLaws.{ordered_from}
 use Rattle.pfair_table.proofs.Members.{label, named_before, named_ran}
-use Rattle.pfair_admission.proofs.Each.{each, each_map}
-use Rattle.pfair_replica.specs.Replica.{Replica, said}
 use Rattle.pfair_table.proofs.NextIndexes.{each_boundary, all_ran_is, after_table}
 
 -- ---- next indexes

@@ -1,18 +1,8 @@
 -- What a run can begin with, and what settings a run has that does.
-use Rattle.std.proofs.Common.{ℕ, ◌≡◌, ◌≢◌, ◌≤◌, ◌<◌, ◌==◌, ◌&&◌, ◌||◌, ◌∙◌, refl, sym, subst, arith, Bool, true, false, not, nat_lt, List, [], ◌∷◌, ◌++◌, length}
-use Rattle.std.specs.List.{AllByRecursion}
-use Rattle.std.specs.Cmp.Lexicographic.{nat_list_eq_equiv}
+use Rattle.std.proofs.Common.{ℕ, ◌≡◌, ◌≢◌, ◌≤◌, ◌<◌, ◌==◌, ◌&&◌, ◌||◌, ◌∙◌, refl, sym, subst, arith, Bool, true, false, not, nat_lt, List, ◌∷◌, ◌++◌, length, []}
+use Rattle.pfair_table.proofs.Common.{AllByRecursion, nat_list_eq_equiv, length-append, name_eq, apart_nil, apart_push, Machine, Member, Pick, AreLeftAt, IsCarried, IsSettings, IsState, can_add_row, with_row, AllDiffer, ArePlacesOf, IsFit, is_used, Carried, Settings, Table, names_task}
 use Rattle.std.proofs.SliceLists.{all_by_recursion_push}
-use Rattle.std.proofs.lemmas.List.{length-append}
-use Rattle.pfair_entry.specs.Same.{name_eq}
-use Rattle.pfair_weight.proofs.NamesApart.{apart_nil, apart_push}
-use Rattle.pfair_admission.specs.Admission.{Machine}
-use Rattle.pfair_admission.specs.Member.{Member}
-use Rattle.pfair_table.specs.declared.slot.Pick.{Pick}
 use Rattle.pfair_table.specs.declared.settings.TheConstants.Settings.{MAX_PROCESSORS, MAX_FRAME}
-use Rattle.pfair_table.specs.Limits.{AreLeftAt, IsCarried, IsSettings, IsState, can_add_row, with_row}
-use Rattle.pfair_table.specs.Places.{AllDiffer, ArePlacesOf, IsFit, is_used}
-use Rattle.pfair_table.specs.Table.{Carried, Settings, Table, names_task}
 
 pub none_left : (t : ℕ) (machine : Machine) → AreLeftAt t machine []
 none_left t machine = record { named = apart_nil (λ (m : Member). m.name); room = omega arith; in_frame = tt; left = tt }

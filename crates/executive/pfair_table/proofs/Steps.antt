@@ -1,25 +1,8 @@
 -- A dispatcher's parts from one slot to the next, and from one replica to one that is above it.
-use Rattle.std.proofs.Common.{ℕ, zero, suc, ◌+◌, ◌*◌, ◌≤◌, ◌<◌, ◌≡◌, refl, sym, ◌∙◌, subst, arith, cond, Bool, false, List, [], ◌∷◌, ◌++◌, length, map, Option, Some, None}
-use Rattle.std.specs.Prelude.{flat_map, nat_lt, Result, IfOk, OnOk}
+use Rattle.std.proofs.Common.{ℕ, zero, suc, ◌+◌, ◌*◌, ◌≤◌, ◌<◌, ◌≡◌, refl, sym, ◌∙◌, subst, arith, cond, Bool, false, List, ◌∷◌, ◌++◌, length, map, Option, Some, None, flat_map, nat_lt, Result, IfOk, OnOk, []}
+use Rattle.pfair_table.proofs.Common.{length-append, map-append, Logged, Said, Announcement, said_by, said_in, sound_beginning, Replica, Below, Untorn, said, frontier, numbers_below, same_said, below_agree, frontier_le, read_by_number, first_by_rank, Queue, boundary, announcements, Roster, Decided, Settings, Origin, Table, eligible, pick, slot_of, all_ran, history, world, table, decisions, IsOf, IsSteady, IsPlanOf, IsInStep, IsKept, heard_before, map_same, among_below}
 use Rattle.std.specs.declared.alloc.AllocError.{AllocError}
 use Rattle.pfair_table.specs.declared.slot.SlotPlan.{SlotPlan}
-use Rattle.std.proofs.lemmas.List.{length-append, map-append}
-use Rattle.pfair_entry.specs.Entry.{Logged}
-use Rattle.pfair_entry.specs.declared.entry.Said.{Said}
-use Rattle.pfair_entry.specs.declared.entry.Announcement.{Announcement}
-use Rattle.pfair_replica.specs.Replica.{said_by, said_in, sound_beginning, Replica, Below, Untorn, said, frontier, numbers_below}
-use Rattle.pfair_replica.proofs.Marks.{same_said, below_agree, frontier_le}
-use Rattle.pfair_replica.proofs.SoundEntries.{read_by_number}
-use Rattle.pfair_table.specs.Ranks.{first_by_rank}
-use Rattle.pfair_ready.specs.Queue.{Queue}
-use Rattle.pfair_admission.specs.Admission.{boundary, announcements}
-use Rattle.pfair_admission.specs.Roster.{Roster}
-use Rattle.pfair_table.specs.declared.slot.Decided.{Decided}
-use Rattle.pfair_table.specs.Table.{Settings, Origin, Table, eligible, pick, slot_of, all_ran, history, world, table, decisions}
-use Rattle.pfair_table.specs.Laws.{IsOf}
-use Rattle.pfair_table.specs.Queue.{IsSteady}
-use Rattle.pfair_table.specs.Refinement.{IsPlanOf, IsInStep, IsKept, heard_before}
-use Rattle.pfair_replica.specs.Among.{map_same, among_below}
 use Rattle.pfair_table.proofs.TableLaws.{same_history, one_table}
 use Rattle.pfair_table.proofs.Runs.{below_all, length_numbers}
 

@@ -1,23 +1,9 @@
 -- The proofs of the laws of tables and plans.
-use Rattle.std.proofs.Common.{ℕ, zero, suc, ◌<◌, ◌≤◌, ◌≡◌, refl, sym, ap, ◌∙◌, arith, inl, inr, List, [], ◌∷◌, ◌++◌, min}
-use Rattle.std.specs.Prelude.{map, filter, AllPairs}
+use Rattle.std.proofs.Common.{ℕ, zero, suc, ◌<◌, ◌≤◌, ◌≡◌, refl, sym, ap, ◌∙◌, arith, inl, inr, List, [], ◌∷◌, ◌++◌, min, map, filter, AllPairs}
+use Rattle.pfair_table.proofs.Common.{length-map, map-append, append_assoc, append-nil, cases_order, Key, among_below, map_same, NamesApart, apart_filter, apart_map, said, frontier, numbers_below, same_said, mark_le, frontier_le, below_agree, Member, next_key, first_by_rank, Settings, Origin, eligible, is_eligible, chosen, pick, members_before, slot_of, table, Story, history, world, Pick, IsFit, IsPrefixOf, OneTable, PlansGoOn, OnePlan, TablesAreOrdered}
 use Rattle.pfair_order.specs.Order.{GoesBefore}
-use Rattle.std.proofs.lemmas.List.{length-map, map-append, append_assoc, append-nil}
-use Rattle.std.proofs.lemmas.Bool.{cases_order}
-use Rattle.pfair_order.specs.declared.Key.{Key}
-use Rattle.pfair_replica.specs.Among.{among_below, map_same}
-use Rattle.pfair_weight.specs.Name.{NamesApart}
-use Rattle.pfair_weight.proofs.NamesApart.{apart_filter, apart_map}
 use Rattle.pfair_order.proofs.NamesApart.{first_names}
 use Rattle.pfair_table.proofs.FirstByRank.{length_first, rising_first}
-use Rattle.pfair_replica.specs.Replica.{said, frontier, numbers_below}
-use Rattle.pfair_replica.proofs.Marks.{same_said, mark_le, frontier_le, below_agree}
-use Rattle.pfair_admission.specs.Member.{Member, next_key}
-use Rattle.pfair_table.specs.Ranks.{first_by_rank}
-use Rattle.pfair_table.specs.Table.{Settings, Origin, eligible, is_eligible, chosen, pick, members_before, slot_of, table, Story, history, world}
-use Rattle.pfair_table.specs.declared.slot.Pick.{Pick}
-use Rattle.pfair_table.specs.Places.{IsFit}
-use Rattle.pfair_table.specs.Laws.{IsPrefixOf, OneTable, PlansGoOn, OnePlan, TablesAreOrdered}
 use Rattle.pfair_table.proofs.Members.{label, named_from}
 
 -- ---- one table

@@ -1,14 +1,6 @@
 -- What is said is within the limits of announcements.
-use Rattle.std.proofs.Common.{ℕ, ◌+◌, subst, sym, List, Option}
-use Rattle.std.specs.Prelude.{IfSome}
-use Rattle.std.specs.List.{AllByRecursion}
-use Rattle.pfair_entry.specs.declared.entry.Announcement.{Announcement}
-use Rattle.pfair_entry.specs.declared.entry.Said.{Said}
-use Rattle.pfair_entry.specs.Entry.{IsWithinLimits, IsWeighed}
-use Rattle.pfair_admission.specs.Admission.{announcements}
-use Rattle.pfair_replica.specs.Among.{all_among, among_contains, among_map}
-use Rattle.pfair_replica.specs.Replica.{Replica, IsReplica, said}
-use Rattle.pfair_replica.proofs.SoundEntries.{read_by_number}
+use Rattle.std.proofs.Common.{ℕ, ◌+◌, subst, sym, List, Option, IfSome}
+use Rattle.pfair_table.proofs.Common.{AllByRecursion, Announcement, Said, IsWithinLimits, IsWeighed, announcements, all_among, among_contains, among_map, Replica, IsReplica, said, read_by_number}
 use Rattle.pfair_replica.proofs.SaidListed.{is_said}
 
 abbrev pub AreWithinLimits : List Said → Type 0

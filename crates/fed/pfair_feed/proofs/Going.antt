@@ -1,18 +1,11 @@
 -- Followers that go on, one step after another.
-use Rattle.std.proofs.Common.{ℕ, ◌≡◌, refl, sym, ap, subst, ◌∙◌, arith, List, [], ◌++◌, length, Option, Some, None, Result, Ok, Err}
-use Rattle.std.specs.Prelude.{max}
+use Rattle.std.proofs.Common.{ℕ, ◌≡◌, refl, sym, ap, subst, ◌∙◌, arith, List, [], ◌++◌, length, Option, Some, None, Result, Ok, Err, max}
+use Rattle.pfair_feed.proofs.Common.{Appends, Keeps, append-nil, length-map, lines_text, IsPrefixOf, Dispatch, IsWholePlan, Follow, news, HasGoneOn, IsCaughtUp}
 use Rattle.std.specs.Result.{IsErrAnd}
-use Rattle.std.specs.Io.KnownBytes.{Appends, Keeps}
-use Rattle.std.proofs.lemmas.List.{append-nil, length-map}
 use Rattle.csv.proofs.WriteFacts.{appends-more}
-use Rattle.pfair_text.specs.Rows.{lines_text}
 use Rattle.pfair_text.proofs.RowFacts.{lines_text-append}
-use Rattle.pfair_table.specs.Laws.{IsPrefixOf}
-use Rattle.pfair_table.specs.Refinement.{Dispatch, IsWholePlan}
-use Rattle.pfair_feed.specs.Follow.{Follow, news}
 use Rattle.pfair_feed.proofs.RowsGoOn.{none_behind, rows_go_on}
 use Rattle.pfair_feed.proofs.Plans.{grown_same, longer, prefix_trans}
-use Rattle.pfair_feed.specs.Feeding.{HasGoneOn, IsCaughtUp}
 
 pub even : (d : Dispatch) → IsWholePlan d → length d.tables ≡ length d.decided
 even d whole = grind (arith, length-map)

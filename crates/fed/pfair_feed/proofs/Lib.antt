@@ -1,4 +1,5 @@
 mod Books
+mod Common
 mod Going
 pub mod Lines
 mod OneWay

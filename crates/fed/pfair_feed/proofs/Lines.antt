@@ -1,19 +1,11 @@
 -- Lines that are fed, byte after byte, where only the first bytes of the open line are kept.
-use Rattle.std.proofs.Common.{ℕ, suc, true, false, Bool, ◌+◌, ◌≡◌, ◌≢◌, ◌≤◌, ◌<◌, refl, sym, ap, subst, ◌∙◌, arith, inl, inr, List, [], ◌∷◌, ◌++◌, length, take, drop, drop-cons, get_or, Option, Some, Result, Ok, Err, append_assoc}
-use Rattle.std.specs.Prelude.{◌⊎◌, IfErr, slice_get}
+use Rattle.std.proofs.Common.{ℕ, suc, true, false, Bool, ◌+◌, ◌≡◌, ◌≢◌, ◌≤◌, ◌<◌, refl, sym, ap, subst, ◌∙◌, arith, inl, inr, List, [], ◌∷◌, ◌++◌, length, take, drop, drop-cons, get_or, Option, Some, Result, Ok, Err, append_assoc, ◌⊎◌, IfErr, slice_get}
+use Rattle.pfair_feed.proofs.Common.{AllByRecursion, flat_map, Consumes, IsAtEnd, cases_lt, append-nil, length-append, length-drop, length-take, take_all, take-append-le, SameShape, replica_of, Replica, Follow, IsPlannedOut, AreFedBytes, AreLines, AreTakenFrom, AreWelcome, IsCaughtUp, IsFedLine, IsFedTo, IsLeft, IsOneLine, IsStopped, IsTakenFrom, IsWelcome, ended, question}
 use Rattle.std.specs.Result.{IsErrAnd}
-use Rattle.std.specs.List.{AllByRecursion, flat_map}
-use Rattle.std.specs.Io.KnownBytes.{Consumes, IsAtEnd}
 use Rattle.std.proofs.KnownBytes.{Consumes-nil, Consumes-trans, Keeps-refl}
-use Rattle.std.proofs.lemmas.Bool.{cases_lt}
 use Rattle.std.proofs.lemmas.Grind.{flat_map-append}
-use Rattle.std.proofs.lemmas.List.{append-nil, length-append, length-drop, length-take, take_all, take-append-le}
 use Rattle.pfair_entry_row.specs.Laws.{RowsAreShort}
-use Rattle.pfair_replica.specs.ReplicaRows.{SameShape, replica_of}
-use Rattle.pfair_replica.specs.Replica.{Replica}
-use Rattle.pfair_feed.specs.Follow.{Follow, IsPlannedOut}
 use Rattle.pfair_file.specs.ProgramFaults.{is_refusal}
-use Rattle.pfair_feed.specs.Feeding.{AreFedBytes, AreLines, AreTakenFrom, AreWelcome, IsCaughtUp, IsFedLine, IsFedTo, IsLeft, IsOneLine, IsStopped, IsTakenFrom, IsWelcome, ended, question}
 use Rattle.pfair_file.specs.declared.program_fault.ProgramFault.{ProgramFault}
 use Rattle.pfair_file.specs.declared.program_fault.ProgramFault.TheVariants.{ReadFailed}
 use Rattle.pfair_feed.proofs.Going.{gone_trans, stays}

@@ -1,13 +1,7 @@
 -- The slots of a whole plan.
-use Rattle.std.proofs.Common.{arith, ℕ, ◌≡◌, ap, ◌∙◌, List, None, length, map, min, zero, suc, refl, sym, [], ◌∷◌}
-use Rattle.std.proofs.lemmas.List.{length-map}
-use Rattle.pfair_replica.specs.ReplicaRows.{replica_of}
-use Rattle.pfair_replica.specs.Replica.{frontier, numbers_below, empty_replica, mark, said}
-use Rattle.pfair_table.specs.Refinement.{Dispatch, IsWholePlan, course_of}
-use Rattle.pfair_table.specs.Table.{Origin, table, plan, decisions, Settings, plan_decisions}
+use Rattle.std.proofs.Common.{arith, ℕ, ◌≡◌, ap, ◌∙◌, List, None, length, map, min, zero, suc, refl, sym, [], ◌∷◌, fold}
+use Rattle.pfair_feed.proofs.Common.{length-map, replica_of, frontier, numbers_below, empty_replica, mark, said, Dispatch, IsWholePlan, course_of, Origin, table, plan, decisions, Settings, plan_decisions, Course, begin_at}
 use Rattle.pfair_table.proofs.Runs.{length_numbers}
-use Rattle.std.specs.Prelude.{fold}
-use Rattle.pfair_table.specs.Events.{Course, begin_at}
 
 pub so_many : {A : Type 0} (f : ℕ → A) (n : ℕ) → length (map f (numbers_below n)) ≡ n
 so_many f n = length-map (numbers_below n) f ∙ length_numbers n

@@ -1,9 +1,6 @@
 -- What plans add to what was planned.
 use Rattle.std.proofs.Common.{◌≡◌, ◌≤◌, sym, ap, ◌∙◌, arith, List, [], ◌++◌, length, append_assoc}
-use Rattle.std.proofs.lemmas.List.{append-nil, length-append}
-use Rattle.pfair_table.specs.Laws.{IsPrefixOf}
-use Rattle.pfair_table.specs.Refinement.{Dispatch}
-use Rattle.pfair_feed.specs.Follow.{IsGrown}
+use Rattle.pfair_feed.proofs.Common.{append-nil, length-append, IsPrefixOf, Dispatch, IsGrown}
 
 pub prefix_same : {A : Type 0} (xs ys : List A) → ys ≡ xs → IsPrefixOf xs ys
 prefix_same xs ys e = ([], append-nil xs ∙ sym e)

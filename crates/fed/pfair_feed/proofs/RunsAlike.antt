@@ -1,31 +1,16 @@
 -- Two runs whose followers hold what agrees have written texts of which one begins the other.
-use Rattle.std.proofs.Common.{ℕ, ◌<◌, ◌≡◌, inl, inr, refl, sym, ap, subst, ◌∙◌, arith, List, [], ◌∷◌, ◌++◌, length, map, Some, slice_get, suc, ◌≤◌}
-use Rattle.std.specs.Prelude.{◌⊎◌, max}
-use Rattle.std.specs.List.{AllByRecursion}
-use Rattle.std.proofs.lemmas.Bool.{cases_order}
-use Rattle.pfair_text.specs.Rows.{lines_text}
+use Rattle.std.proofs.Common.{ℕ, ◌<◌, ◌≡◌, inl, inr, refl, sym, ap, subst, ◌∙◌, arith, List, [], ◌∷◌, ◌++◌, length, map, Some, slice_get, suc, ◌≤◌, ◌⊎◌, max}
+use Rattle.pfair_feed.proofs.Common.{AllByRecursion, cases_order, lines_text, replica_of, Replica, empty_replica, frontier, numbers_below, said, Course, IsOf, IsPrefixOf, OneTable, Dispatch, HavePlannedAlike, IsWholePlan, Settings, Origin, Table, decisions, table, Output, Follow, news, HaveWrittenAlike, rows_in, AreTakenFrom, IsBegun, IsPlaced, Placed, same_Some}
 use Rattle.pfair_text.proofs.RowFacts.{lines_text-append}
-use Rattle.pfair_replica.specs.ReplicaRows.{replica_of}
 use Rattle.pfair_replica.specs.Offered.{taken}
-use Rattle.pfair_replica.specs.Replica.{Replica, empty_replica, frontier, numbers_below, said}
 use Rattle.pfair_table.specs.declared.slot.Decided.{Decided}
-use Rattle.pfair_table.specs.Events.{Course}
-use Rattle.pfair_table.specs.Laws.{IsOf, IsPrefixOf, OneTable}
-use Rattle.pfair_table.specs.Refinement.{Dispatch, HavePlannedAlike, IsWholePlan}
-use Rattle.pfair_table.specs.Table.{Settings, Origin, Table, decisions, table}
 use Rattle.pfair_replica.proofs.OfferedTo.{offered_stays}
-use Rattle.pfair_feed.specs.declared.output.Output.{Output}
-use Rattle.pfair_feed.specs.Follow.{Follow, news, HaveWrittenAlike}
-use Rattle.pfair_feed.specs.Rows.{rows_in}
-use Rattle.pfair_feed.specs.Feeding.{AreTakenFrom}
 use Rattle.pfair_feed.specs.Laws.{RunsWriteAlike}
-use Rattle.pfair_feed.specs.RoundTrip.{IsBegun, IsPlaced, Placed}
 use Rattle.pfair_feed.proofs.Going.{even}
 use Rattle.pfair_feed.proofs.OneWay.{heads}
 use Rattle.pfair_feed.proofs.RoundTrip.{held_after}
 use Rattle.pfair_table.proofs.Runs.{get_numbers}
 use Rattle.pfair_feed.proofs.Planned.{so_many}
-use Rattle.std.proofs.lemmas.Option.{same_Some}
 use Rattle.pfair_feed.proofs.RowsGoOn.{rows_go_on}
 
 -- a list whose elements are the first of another

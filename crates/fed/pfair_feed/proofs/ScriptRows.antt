@@ -1,22 +1,12 @@
 -- The entries of logs: their rows, and where they stand.
-use Rattle.std.proofs.Common.{ℕ, zero, suc, ◌+◌, ◌<◌, ◌≤◌, ◌≡◌, inl, inr, refl, sym, ap, subst, ◌∙◌, arith, true, List, [], ◌∷◌, ◌++◌, length, map, Some, None, flat_map, drop, take, slice_get, append_assoc}
-use Rattle.std.specs.Prelude.{◌⊎◌}
-use Rattle.std.specs.List.{AllByRecursion, list_all}
-use Rattle.std.proofs.lemmas.Bool.{and_parts, leb-true}
+use Rattle.std.proofs.Common.{ℕ, zero, suc, ◌+◌, ◌<◌, ◌≤◌, ◌≡◌, inl, inr, refl, sym, ap, subst, ◌∙◌, arith, true, List, [], ◌∷◌, ◌++◌, length, map, Some, None, flat_map, drop, take, slice_get, append_assoc, ◌⊎◌}
+use Rattle.pfair_feed.proofs.Common.{AllByRecursion, list_all, and_parts, leb-true, append-nil, map-append, lines_text, line, Logged, IsLoggable, entries_text, log_rows, numbered_from, AreLines, IsOneLine, ended, IsOneOf, IsPlaced, IsScript, Placed, placed_from, placed_in, row_of, rows_of, same_Some}
 use Rattle.std.proofs.lemmas.Grind.{flat_map-append}
-use Rattle.std.proofs.lemmas.List.{append-nil, map-append}
-use Rattle.pfair_text.specs.Rows.{lines_text, line}
 use Rattle.pfair_text.proofs.RowFacts.{first_left, lines_text-append}
 use Rattle.pfair_lattice.specs.declared.join_map.Flat.TheVariants.{One}
-use Rattle.pfair_entry.specs.Entry.{Logged}
 use Rattle.pfair_entry_row.specs.Laws.{RowsAreLines}
-use Rattle.pfair_entry.specs.Notice.{IsLoggable}
 use Rattle.pfair_output.specs.Slots.{slots_from}
 use Rattle.pfair_table.specs.Script.{LoggedRun, capacity_of, contents_of, entry_of, is_short}
-use Rattle.pfair_feed.specs.Entries.{entries_text, log_rows, numbered_from}
-use Rattle.pfair_feed.specs.Feeding.{AreLines, IsOneLine, ended}
-use Rattle.pfair_feed.specs.RoundTrip.{IsOneOf, IsPlaced, IsScript, Placed, placed_from, placed_in, row_of, rows_of}
-use Rattle.std.proofs.lemmas.Option.{same_Some}
 use Rattle.pfair_entry_row.specs.Row.{entry_fields}
 
 -- ---- their rows

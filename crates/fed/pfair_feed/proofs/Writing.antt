@@ -1,13 +1,9 @@
 -- Texts that are sent piece by piece.
 use Rattle.std.proofs.Common.{ℕ, zero, suc, ◌+◌, ◌≡◌, ◌<◌, inl, inr, sym, ap, subst, ◌∙◌, arith, List, [], ◌∷◌, ◌++◌, append_assoc, flat_map, length, take, Option, Result, Ok, Err, OnErr, OnOk}
-use Rattle.std.specs.Io.KnownBytes.{Appends}
+use Rattle.pfair_feed.proofs.Common.{Appends, cases_lt, length-append, take-append-le, take_all, TakesPrefix, numbers_below}
 use Rattle.std.proofs.Math.Seq.{take-append-add}
-use Rattle.std.proofs.lemmas.Bool.{cases_lt}
 use Rattle.std.proofs.lemmas.Grind.{flat_map-append}
-use Rattle.std.proofs.lemmas.List.{length-append, take-append-le, take_all}
 use Rattle.csv.proofs.WriteFacts.{appends-more}
-use Rattle.pfair_text.specs.Output.{TakesPrefix}
-use Rattle.pfair_replica.specs.Replica.{numbers_below}
 
 -- a prefix of the first part
 pub prefix_first : (old new : Option (List ℕ)) (xs ys : List ℕ) → TakesPrefix old new xs → TakesPrefix old new (xs ++ ys)

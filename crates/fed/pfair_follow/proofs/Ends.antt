@@ -1,7 +1,6 @@
 -- What a follower that was new comes to, by what it holds.
-use Rattle.std.proofs.Common.{ℕ, zero, suc, Bool, false, ◌≡◌, ◌≤◌, ◌<◌, refl, sym, ap, subst, ◌∙◌, arith, inl, inr, List, [], ◌∷◌, ◌++◌, length, append_assoc, Option, None, Some, Result, Ok, Err}
+use Rattle.std.proofs.Common.{ℕ, zero, suc, Bool, false, ◌≡◌, ◌≤◌, ◌<◌, refl, sym, ap, subst, ◌∙◌, arith, inl, inr, List, ◌∷◌, ◌++◌, length, append_assoc, Option, None, Some, Result, Ok, Err, IfErr, IsErrOf, OnOk, []}
 use Rattle.std.specs.List.{list_any}
-use Rattle.std.specs.Prelude.{IfErr, IsErrOf, OnOk}
 use Rattle.std.specs.Io.KnownBytes.{Appends}
 use Rattle.pfair_text.specs.Rows.{line, lines_text}
 use Rattle.pfair_replica.specs.ReplicaRows.{replica_of}

@@ -1,6 +1,5 @@
 -- The state that a run leaves, by what was brought.
-use Rattle.std.proofs.Common.{ℕ, Bool, false, ◌≡◌, ap, subst, ◌∙◌, inl, inr, List, Option, Result, Ok, Err}
-use Rattle.std.specs.Prelude.{IfErr, IfOk, IfSome}
+use Rattle.std.proofs.Common.{ℕ, Bool, false, ◌≡◌, ap, subst, ◌∙◌, inl, inr, List, Option, Result, Ok, Err, IfErr, IfOk, IfSome}
 use Rattle.pfair_replica.specs.ReplicaRows.{replica_of}
 use Rattle.pfair_replica.specs.Replica.{said}
 use Rattle.pfair_table.specs.Events.{Course}

@@ -1,6 +1,5 @@
 -- The notes of a log, one after the other.
-use Rattle.std.proofs.Common.{ℕ, zero, suc, ◌≡◌, ◌+◌, ◌<◌, ◌≤◌, List, [], ◌∷◌, length, get_or, Some, ap, arith}
-use Rattle.std.specs.Prelude.{slice_get, AllPairs}
+use Rattle.std.proofs.Common.{ℕ, zero, suc, ◌≡◌, ◌+◌, ◌<◌, ◌≤◌, List, [], ◌∷◌, length, get_or, Some, ap, arith, slice_get, AllPairs}
 use Rattle.pfair_entry.specs.Entry.{Logged}
 use Rattle.pfair_entry.specs.Writer.{Written, AreNotes, EveryLogRises}
 

@@ -1,6 +1,5 @@
 -- The first fault of a name and of a weight is the one of which their clauses speak, and what a log may have has none.
-use Rattle.std.proofs.Common.{ℕ, zero, suc, add-zero, zero-add, subst, List, [], ◌∷◌, Option, None, Some, Bool, true, false, ◌≡◌, ◌∙◌, ◌+◌, ◌<◌, length, refl, sym, ap, arith}
-use Rattle.std.specs.Prelude.{slice_index, nat_lt, ◌==◌, option_and_then}
+use Rattle.std.proofs.Common.{ℕ, zero, suc, add-zero, zero-add, subst, List, [], ◌∷◌, Option, None, Some, Bool, true, false, ◌≡◌, ◌∙◌, ◌+◌, ◌<◌, length, refl, sym, ap, arith, slice_index, nat_lt, ◌==◌, option_and_then}
 use Rattle.std.proofs.lemmas.Bool.Decides.{nat_tests}
 use Rattle.pfair_weight.specs.Name.{may_stand, IsTaskName}
 use Rattle.pfair_weight.specs.NameFault.{IsFaultOf as IsNameFaultOf}

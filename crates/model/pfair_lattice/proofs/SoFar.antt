@@ -1,6 +1,5 @@
 -- A loop over the entries of one map that joins them into another, or compares them, with `rest` still to come.
-use Rattle.std.proofs.Common.{◌≡◌, sym, ap, subst, false, List, [], ◌∷◌, arith}
-use Rattle.std.specs.Prelude.{Option, None, Some}
+use Rattle.std.proofs.Common.{◌≡◌, sym, ap, subst, false, List, ◌∷◌, arith, Option, None, Some, []}
 use Rattle.std.specs.declared.cmp.Ordering.{Ordering}
 use Rattle.std.specs.Ordering.{is_eq, eq_by_cmp}
 use Rattle.std.specs.Map.{keys_of}

@@ -1,18 +1,9 @@
 -- Keys that stand once can be put in order, so their first by rank are the first.
-use Rattle.std.proofs.Common.{◌≡◌, ℕ, suc, ◌<◌, ◌≤◌, inl, inr, true, false, cond, List, [], ◌∷◌, ◌++◌, length, take, drop, refl, sym, ap, subst, ◌∙◌, arith}
-use Rattle.std.specs.Prelude.{◌⊎◌}
-use Rattle.std.specs.List.{AllByRecursion, Contains}
-use Rattle.std.specs.declared.cmp.Ordering.{Ordering}
-use Rattle.std.specs.declared.cmp.Ordering.TheVariants.{Less}
-use Rattle.std.specs.Ordering.{is_lt, is_eq}
-use Rattle.std.specs.Cmp.{IsTotalOrder}
+use Rattle.std.proofs.Common.{◌≡◌, ℕ, suc, ◌<◌, ◌≤◌, inl, inr, true, false, cond, List, [], ◌∷◌, ◌++◌, length, take, drop, refl, sym, ap, subst, ◌∙◌, arith, ◌⊎◌}
+use Rattle.pfair_order.proofs.Common.{AllByRecursion, Contains, Ordering, Less, is_lt, is_eq, IsTotalOrder, true≢false, All-contains, All-from_recursion, recursion_from_All, same_Some, none-some, first_by_rank, AreFirst, EachOnce}
 use Rattle.std.specs.List.Sorted.{IsPermutation}
 use Rattle.std.proofs.lemmas.List.{take-append-drop, length-take, drop_all}
-use Rattle.std.proofs.lemmas.Bool.{true≢false}
-use Rattle.std.proofs.lemmas.List.Elements.{All-contains, All-from_recursion, recursion_from_All}
 use Rattle.std.proofs.lemmas.List.Sorted.{All-permutation, Contains-permutation, IsPermutation-refl, IsPermutation-sym, IsPermutation-cons, IsPermutation-trans, IsPermutation-middle}
-use Rattle.std.proofs.lemmas.Option.{same_Some, none-some}
-use Rattle.pfair_order.specs.Rank.{first_by_rank, AreFirst, EachOnce}
 use Rattle.pfair_order.proofs.RankLemmas.{all_map, Rising, IsSplit, place_of, at_place, first_of_split, first_unique, first_of_permutation, less_of, is_less, is_eq_back, itself_not_before, apart_from_head, count_of_tail}
 use Rattle.pfair_order.proofs.ByRank.{by_rank_of_split}
 

@@ -1,15 +1,8 @@
 -- The order of keys is strict and total, and only one key ties with a key.
-use Rattle.std.proofs.Common.{rules, ◌≡◌, refl, ap, ◌∙◌, inl, inr, ◌⊎◌}
-use Rattle.std.specs.Prelude.{nat_eq, ◌&&◌}
-use Rattle.std.specs.declared.cmp.Ordering.{Ordering}
-use Rattle.std.specs.declared.cmp.Ordering.TheVariants.{Less, Equal, Greater}
-use Rattle.std.specs.Ordering.{is_eq, ordering_reverse}
-use Rattle.std.specs.Cmp.Lexicographic.{pointwise}
-use Rattle.pfair_order.specs.declared.Key.{Key}
-use Rattle.std.specs.Cmp.{IsTotalOrder, tied_itself}
+use Rattle.std.proofs.Common.{rules, ◌≡◌, refl, ap, ◌∙◌, inl, inr, ◌⊎◌, nat_eq, ◌&&◌}
+use Rattle.pfair_order.proofs.Common.{Ordering, Less, Equal, Greater, is_eq, ordering_reverse, pointwise, Key, IsTotalOrder, tied_itself, pd2_cmp, GoesBefore}
 use Rattle.std.specs.Cmp.Rules.{comparing}
 use Rattle.std.specs.FinMap.{IsAntisymmetric}
-use Rattle.pfair_order.specs.Order.{pd2_cmp, GoesBefore}
 use Rattle.pfair_order.proofs.OrderLemmas.{goes_before, compares_less, same_key}
 
 pub keys_total : IsTotalOrder pd2_cmp

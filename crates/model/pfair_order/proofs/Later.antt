@@ -1,17 +1,8 @@
 -- The order of keys is kept if all times come later by one amount, and so are the first keys.
 use Rattle.std.proofs.lemmas.Grind.{common_steps}
-use Rattle.std.proofs.Common.{◌≡◌, ℕ, zero, suc, ◌+◌, ◌<◌, Bool, List, [], ◌∷◌, map, arith, refl}
-use Rattle.std.specs.Prelude.{filter}
-use Rattle.std.specs.declared.cmp.Ordering.{Ordering}
-use Rattle.std.specs.Cmp.{nat_cmp_is}
-use Rattle.std.specs.Cmp.Lexicographic.{slice_cmp}
-use Rattle.std.specs.Ordering.{nat_cmp}
-use Rattle.std.proofs.lemmas.Bool.{cases_order}
+use Rattle.std.proofs.Common.{◌≡◌, ℕ, zero, suc, ◌+◌, ◌<◌, Bool, List, ◌∷◌, map, arith, refl, filter, []}
+use Rattle.pfair_order.proofs.Common.{Ordering, nat_cmp_is, slice_cmp, nat_cmp, cases_order, filter_agree, Key, tie_group_of, pd2_cmp, of_rank, first_by_rank}
 use Rattle.std.proofs.lemmas.List.{map-append}
-use Rattle.std.proofs.lemmas.List.Elements.{filter_agree}
-use Rattle.pfair_order.specs.declared.Key.{Key}
-use Rattle.pfair_order.specs.Order.{tie_group_of, pd2_cmp}
-use Rattle.pfair_order.specs.Rank.{of_rank, first_by_rank}
 
 -- ---- keys
 

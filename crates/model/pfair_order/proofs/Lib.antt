@@ -1,7 +1,8 @@
-pub mod OrderLemmas
+pub mod ByRank
+mod Common
+pub mod InOrder
 pub mod KeyLaws
 pub mod Later
-pub mod RankLemmas
-pub mod ByRank
-pub mod InOrder
 pub mod NamesApart
+pub mod OrderLemmas
+pub mod RankLemmas

@@ -1,18 +1,9 @@
 -- Keys of different names stand once, and so do the names of the first.
-use Rattle.std.proofs.Common.{◌≡◌, ◌≢◌, ℕ, ◌+◌, ◌<◌, ◌≤◌, true, false, cond, List, [], ◌∷◌, length, refl, sym, ap, ◌∙◌, arith, get_or, Some}
-use Rattle.std.specs.Prelude.{AllPairs}
-use Rattle.std.specs.List.{count_by, slice_get}
-use Rattle.std.specs.Ordering.{is_eq}
-use Rattle.std.proofs.lemmas.Bool.{true≢false, false_from_ne_true}
-use Rattle.std.specs.Cmp.Lexicographic.{bytes_decides}
+use Rattle.std.proofs.Common.{◌≡◌, ◌≢◌, ℕ, ◌+◌, ◌<◌, ◌≤◌, true, false, cond, List, [], ◌∷◌, length, refl, sym, ap, ◌∙◌, arith, get_or, Some, AllPairs}
+use Rattle.pfair_order.proofs.Common.{count_by, slice_get, is_eq, true≢false, false_from_ne_true, bytes_decides, slice_get_within, slice_get-get_or, same_Some, Equal-is, Key, pd2_cmp, rank, first_by_rank, AreFirst, EachOnce}
 use Rattle.std.proofs.lemmas.List.Sums.{sum_by-cons}
-use Rattle.std.proofs.lemmas.Option.{slice_get_within, slice_get-get_or, same_Some}
-use Rattle.std.specs.Cmp.{Equal-is}
 use Rattle.pfair_weight.specs.Name.{name_eq, NamesApart}
 use Rattle.pfair_weight.proofs.NamesApart.{apart_head, apart_tail, pairs_from_apart, apart_from_pairs}
-use Rattle.pfair_order.specs.declared.Key.{Key}
-use Rattle.pfair_order.specs.Order.{pd2_cmp}
-use Rattle.pfair_order.specs.Rank.{rank, first_by_rank, AreFirst, EachOnce}
 use Rattle.pfair_order.proofs.KeyLaws.{keys_total, keys_exact}
 use Rattle.pfair_order.proofs.RankLemmas.{each_place, at_each, none_counted, place_of}
 use Rattle.pfair_order.proofs.InOrder.{by_rank_first}

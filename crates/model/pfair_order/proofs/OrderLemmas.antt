@@ -1,13 +1,8 @@
 -- The composed order of keys is the order by what differs first.
 use Rattle.std.proofs.Common.{◌≡◌, ◌≢◌, ℕ, ◌<◌, List, arith, sym, ◌∙◌, ◌⊎◌}
+use Rattle.pfair_order.proofs.Common.{Ordering, Less, Equal, nat_cmp, ordering_then, slice_cmp, Key, pd2_cmp, tie_group_of, GoesBefore, earlier_deadline, greater_b_bit, later_group, smaller_name, smaller_group}
 use Rattle.std.proofs.lemmas.Bool.Decides.{nat_tests}
-use Rattle.std.specs.declared.cmp.Ordering.{Ordering}
-use Rattle.std.specs.declared.cmp.Ordering.TheVariants.{Less, Equal}
-use Rattle.std.specs.Ordering.{nat_cmp, ordering_then}
-use Rattle.std.specs.Cmp.Lexicographic.{slice_cmp}
 use Rattle.pfair_weight.specs.NameFacts.{tied_names}
-use Rattle.pfair_order.specs.declared.Key.{Key}
-use Rattle.pfair_order.specs.Order.{pd2_cmp, tie_group_of, GoesBefore, earlier_deadline, greater_b_bit, later_group, smaller_name, smaller_group}
 
 nat_equal : (x y : ℕ) → nat_cmp x y ≡ Equal → x ≡ y
 nat_equal x y h = grind (arith, nat_tests)

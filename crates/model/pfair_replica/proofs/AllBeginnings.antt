@@ -1,13 +1,8 @@
 -- What all sound beginnings come to: their least mark, and how many entries they have.
-use Rattle.std.proofs.Common.{ℕ, zero, suc, ◌+◌, ◌≤◌, ◌≡◌, refl, sym, ap, ◌∙◌, arith, min, List, [], ◌∷◌, ◌++◌, length, take, map, Some}
-use Rattle.std.specs.Prelude.{fold, slice_get, replicate}
-use Rattle.std.proofs.lemmas.List.{map-append}
+use Rattle.std.proofs.Common.{ℕ, zero, suc, ◌+◌, ◌≤◌, ◌≡◌, refl, sym, ap, ◌∙◌, arith, min, List, [], ◌∷◌, ◌++◌, length, take, map, Some, fold, slice_get, replicate}
+use Rattle.pfair_replica.proofs.Common.{map-append, get_or_from_slice_get, Beginning, beginning_in, first_mark, least_mark, total_count, Replica, numbers_below, mark, frontier, sound_total}
 use Rattle.std.proofs.lemmas.List.Folds.{fold-map, sum_by-replicate}
-use Rattle.std.proofs.lemmas.Option.{get_or_from_slice_get}
 use Rattle.std.proofs.Math.Seq.{take-length, take-suc}
-use Rattle.pfair_replica.specs.declared.rows.Beginning.{Beginning}
-use Rattle.pfair_replica.specs.Counters.{beginning_in, first_mark, least_mark, total_count}
-use Rattle.pfair_replica.specs.Replica.{Replica, numbers_below, mark, frontier, sound_total}
 use Rattle.pfair_replica.proofs.SoundEntries.{some_at}
 
 -- ---- of empty rows

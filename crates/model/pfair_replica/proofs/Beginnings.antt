@@ -1,17 +1,6 @@
 -- Parts of sound beginnings, and what stays of one when something comes into its row.
-use Rattle.std.proofs.lemmas.Grind.{common_steps}
-use Rattle.std.proofs.Common.{ℕ, zero, suc, ◌+◌, ◌-◌, ◌<◌, ◌≤◌, ◌≡◌, refl, sym, ap, ◌∙◌, subst, arith, inl, inr, ⊎_elim, List, [], ◌∷◌, ◌++◌, length, Some, None}
-use Rattle.std.specs.Prelude.{◌⊎◌, ◌≢◌}
-use Rattle.std.proofs.lemmas.Bool.{cases_eq}
-use Rattle.std.proofs.lemmas.List.{append-nil, length_push}
-use Rattle.pfair_lattice.specs.declared.join_map.Flat.{Flat}
-use Rattle.pfair_lattice.specs.declared.join_map.Flat.TheVariants.{One, Torn}
-use Rattle.pfair_lattice.specs.Held.{Held, HeldBelow}
-use Rattle.pfair_entry.specs.Entry.{Logged}
-use Rattle.pfair_replica.specs.declared.rows.Beginning.{Beginning}
-use Rattle.pfair_replica.specs.Replica.{goes_on, run_from, last_floor}
-use Rattle.pfair_replica.specs.Laws.{IsRun}
-use Rattle.pfair_replica.specs.Counters.{beginning_in, IsPart, IsRunBefore, IsLeftAt}
+use Rattle.std.proofs.Common.{ℕ, zero, suc, ◌+◌, ◌-◌, ◌<◌, ◌≤◌, ◌≡◌, refl, sym, ap, ◌∙◌, subst, arith, inl, inr, ⊎_elim, List, [], ◌∷◌, ◌++◌, length, Some, None, ◌⊎◌, ◌≢◌}
+use Rattle.pfair_replica.proofs.Common.{common_steps, cases_eq, append-nil, length_push, Flat, One, Torn, Held, HeldBelow, Logged, Beginning, goes_on, run_from, last_floor, IsRun, beginning_in, IsPart, IsRunBefore, IsLeftAt}
 use Rattle.pfair_replica.proofs.Runs.{run_is_run, run_ends, run_more, run_begins, last_more}
 
 -- ---- runs

@@ -1,21 +1,11 @@
 -- Rows compared, read cell by cell.
-use Rattle.std.proofs.lemmas.Grind.{common_steps}
-use Rattle.std.proofs.Common.{arith, ◌≡◌, refl, sym, ap, subst, ⊎_elim, inl, inr, ◌∙◌, Bool}
-use Rattle.std.specs.Prelude.{◌↔◌, ◌≢◌, ℕ, Option, None, Some, List, [], ◌∷◌, length, IsTrue, nat_eq, IsSomeAnd}
-use Rattle.std.specs.Option.{option_and_then}
-use Rattle.std.proofs.lemmas.Bool.{eqb-true, eq-eqb, cases_lt}
-use Rattle.std.specs.Ordering.{nat_cmp, is_eq}
+use Rattle.std.proofs.Common.{arith, ◌≡◌, refl, sym, ap, subst, ⊎_elim, inl, inr, ◌∙◌, Bool, ◌↔◌, ◌≢◌, ℕ, Option, None, Some, List, [], ◌∷◌, length, IsTrue, nat_eq, IsSomeAnd}
+use Rattle.pfair_replica.proofs.Common.{common_steps, option_and_then, eqb-true, eq-eqb, cases_lt, nat_cmp, is_eq, get, IsOrdered, MapBelow, MapOutgrows, IsFull, Row, held_in, Held, HeldBelow, Flat, below_itself, none_below, below_held, held_below, Logged}
 use Rattle.std.specs.BTreeMap.{is_at}
 use Rattle.std.specs.Cmp.{nat_cmp_total, tied_itself}
 use Rattle.std.proofs.lemmas.Map.Entries.{lookup_head}
-use Rattle.pfair_lattice.specs.Entries.{get, IsOrdered, MapBelow, MapOutgrows}
 use Rattle.pfair_lattice.specs.Flat.{FlatBelow}
 use Rattle.pfair_lattice.specs.Option.{OptionOutgrows}
-use Rattle.pfair_replica.specs.ReplicaRows.{IsFull, Row, held_in}
-use Rattle.pfair_lattice.specs.Held.{Held, HeldBelow}
-use Rattle.pfair_lattice.specs.declared.join_map.Flat.{Flat}
-use Rattle.pfair_lattice.specs.HeldLaws.{below_itself, none_below, below_held, held_below}
-use Rattle.pfair_entry.specs.Entry.{Logged}
 
 module _ (v w : Row) where
   pub row_below : MapBelow nat_cmp FlatBelow v w → (n : ℕ) → HeldBelow (get nat_cmp v n) (get nat_cmp w n)

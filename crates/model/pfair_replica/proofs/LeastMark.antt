@@ -1,12 +1,8 @@
 -- The frontier is the least of the marks.
-use Rattle.std.proofs.Common.{ℕ, zero, suc, ◌+◌, ◌<◌, ◌≤◌, ◌≡◌, refl, ◌∙◌, subst, arith, inl, inr, ⊎_elim, min}
-use Rattle.std.specs.Prelude.{◌⊎◌, map, fold}
+use Rattle.std.proofs.Common.{ℕ, zero, suc, ◌+◌, ◌<◌, ◌≤◌, ◌≡◌, refl, ◌∙◌, subst, arith, inl, inr, ⊎_elim, min, ◌⊎◌, map, fold}
+use Rattle.pfair_replica.proofs.Common.{cases_eq, cases_lt, map-append, mark, numbers_below, IsLeastMark}
 use Rattle.std.proofs.Math.Numerals.{add-one}
-use Rattle.std.proofs.lemmas.Bool.{cases_eq, cases_lt}
-use Rattle.std.proofs.lemmas.List.{map-append}
 use Rattle.std.proofs.lemmas.List.Sums.{fold-append}
-use Rattle.pfair_replica.specs.Replica.{mark, numbers_below}
-use Rattle.pfair_replica.specs.Laws.{IsLeastMark}
 
 -- one more of the numbers of which the least is sought
 least_more : (f : ℕ → ℕ) (a k : ℕ) → fold min a (map f (numbers_below (k + 1))) ≡ min (fold min a (map f (numbers_below k))) (f k)

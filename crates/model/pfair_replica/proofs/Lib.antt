@@ -1,20 +1,21 @@
-pub mod Marks
-mod Runs
-mod PutEntry
-pub mod Merging
-mod SameRows
-mod EmptyRows
-mod Comparing
-mod Listing
 mod Agreement
-pub mod OfferedTo
-pub mod TornKeys
-mod Beginnings
 mod AllBeginnings
+mod Beginnings
+mod Common
+mod Comparing
+mod EmptyRows
 mod FirstTorn
 mod Following
-pub mod SoundEntries
 mod LeastMark
 mod Listed
-pub mod SaidListed
+mod Listing
+pub mod Marks
+pub mod Merging
+pub mod OfferedTo
+mod PutEntry
+mod Runs
 mod SaidBehind
+pub mod SaidListed
+mod SameRows
+pub mod SoundEntries
+pub mod TornKeys

@@ -1,15 +1,7 @@
 -- What the lists of torn and of fallen keys contain.
-use Rattle.std.proofs.Common.{ℕ, zero, suc, ◌+◌, ◌<◌, ◌≤◌, ◌≡◌, refl, sym, ap, ◌∙◌, subst, arith, inl, true, cond, [], ◌∷◌, length, Some}
-use Rattle.std.specs.Prelude.{filter}
+use Rattle.std.proofs.Common.{ℕ, zero, suc, ◌+◌, ◌<◌, ◌≤◌, ◌≡◌, refl, sym, ap, ◌∙◌, subst, arith, inl, true, cond, [], ◌∷◌, length, Some, filter}
+use Rattle.pfair_replica.proofs.Common.{true≢false, ltb-true, lt-ltb, One, Torn, Held, Logged, EntryKey, Replica, IsReplica, sound_beginning, mark, is_torn, entry_key, numbers_below, numbers_to, torn_in, torn_keys, fallen_at, fallen_in, fallen_keys, IsListed, Among, among_contains, contains_among, among_filter, filter_among, among_map, map_among, among_flat, flat_among, below_among}
 use Rattle.std.specs.List.{Contains}
-use Rattle.std.proofs.lemmas.Bool.{true≢false, ltb-true, lt-ltb}
-use Rattle.pfair_lattice.specs.declared.join_map.Flat.TheVariants.{One, Torn}
-use Rattle.pfair_lattice.specs.Held.{Held}
-use Rattle.pfair_entry.specs.Entry.{Logged}
-use Rattle.pfair_replica.specs.Key.{EntryKey}
-use Rattle.pfair_replica.specs.Replica.{Replica, IsReplica, sound_beginning, mark, is_torn, entry_key, numbers_below, numbers_to, torn_in, torn_keys, fallen_at, fallen_in, fallen_keys}
-use Rattle.pfair_replica.specs.Laws.{IsListed}
-use Rattle.pfair_replica.specs.Among.{Among, among_contains, contains_among, among_filter, filter_among, among_map, map_among, among_flat, flat_among, below_among}
 
 -- ---- torn keys
 

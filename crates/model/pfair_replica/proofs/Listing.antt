@@ -1,11 +1,8 @@
 -- Numbers gone through one after another.
-use Rattle.std.proofs.Common.{ℕ, zero, suc, ◌+◌, ◌-◌, ◌<◌, ◌≤◌, ◌≡◌, sym, ap, ◌∙◌, subst, arith, Bool, true, false, cond, [], ◌∷◌, ◌++◌, Option, Some, None}
-use Rattle.std.specs.Prelude.{find}
+use Rattle.std.proofs.Common.{ℕ, zero, suc, ◌+◌, ◌-◌, ◌<◌, ◌≤◌, ◌≡◌, sym, ap, ◌∙◌, subst, arith, Bool, true, false, cond, [], ◌∷◌, ◌++◌, Option, Some, None, find}
+use Rattle.pfair_replica.proofs.Common.{map-append, option_or, Replica, IsLeastMissing, missing, numbers_below, numbers_to}
 use Rattle.std.proofs.Math.Numerals.{add-one}
-use Rattle.std.proofs.lemmas.List.{map-append}
 use Rattle.std.proofs.lemmas.List.Folds.{find-append}
-use Rattle.std.specs.Option.{option_or}
-use Rattle.pfair_replica.specs.Replica.{Replica, IsLeastMissing, missing, numbers_below, numbers_to}
 
 pub numbers_more : (b : ℕ) → numbers_to (b + 1) ≡ numbers_to b ++ (b + 1) ∷ []
 numbers_more b = ap numbers_to (add-one b) ∙ map-append suc (numbers_below b) (b ∷ []) ∙ ap (λ n. numbers_to b ++ n ∷ []) (sym (add-one b))

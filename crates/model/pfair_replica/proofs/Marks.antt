@@ -1,14 +1,6 @@
 -- Below both frontiers, replicas that agree say the same; and a replica that holds more has marks that are no lower.
-use Rattle.std.proofs.Common.{ℕ, suc, ◌<◌, ◌≤◌, ◌≡◌, refl, sym, ap, ◌∙◌, subst, arith, List, [], ◌∷◌, Some, min}
-use Rattle.std.specs.Prelude.{map, flat_map, fold}
-use Rattle.std.proofs.lemmas.Bool.{ne_eqb}
-use Rattle.pfair_lattice.specs.declared.join_map.Flat.TheVariants.{One}
-use Rattle.pfair_lattice.specs.Held.{Held}
-use Rattle.pfair_entry.specs.Entry.{Logged, IsStamped}
-use Rattle.pfair_entry.specs.Exact.{entry_exact}
-use Rattle.pfair_replica.specs.Among.{Among, map_among, flat_same}
-use Rattle.pfair_replica.specs.Laws.{IsRun}
-use Rattle.pfair_replica.specs.Replica.{Replica, IsReplica, Below, Untorn, Agree, sound_beginning, last_floor, mark, frontier, numbers_below, said_by, said_in, said}
+use Rattle.std.proofs.Common.{ℕ, suc, ◌<◌, ◌≤◌, ◌≡◌, refl, sym, ap, ◌∙◌, subst, arith, List, [], ◌∷◌, Some, min, map, flat_map, fold}
+use Rattle.pfair_replica.proofs.Common.{ne_eqb, One, Held, Logged, IsStamped, entry_exact, Among, map_among, flat_same, IsRun, Replica, IsReplica, Below, Untorn, Agree, sound_beginning, last_floor, mark, frontier, numbers_below, said_by, said_in, said}
 use Rattle.pfair_replica.proofs.Runs.{run_is_run, longer_rises}
 use Rattle.pfair_replica.proofs.SoundEntries.{held_within, beginnings_grow}
 

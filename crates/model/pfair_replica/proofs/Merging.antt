@@ -1,21 +1,8 @@
 -- Rows joined, and what stays true of what they hold.
-use Rattle.std.proofs.Common.{◌≡◌, inr, ⊎_elim, arith}
-use Rattle.std.specs.Prelude.{◌⊎◌, ◌<◌, ◌≤◌, ℕ, Option, Some, List, Result, OnOk, OnErr}
-use Rattle.std.specs.Ordering.{nat_cmp}
-use Rattle.std.specs.Option.{option_and_then}
-use Rattle.std.proofs.lemmas.Bool.{eqb-true}
-use Rattle.pfair_lattice.specs.Entries.{get, MapJoins, MapPartly}
+use Rattle.std.proofs.Common.{◌≡◌, inr, ⊎_elim, arith, ◌⊎◌, ◌<◌, ◌≤◌, ℕ, Option, Some, List, Result, OnOk, OnErr}
+use Rattle.pfair_replica.proofs.Common.{nat_cmp, option_and_then, eqb-true, get, MapJoins, MapPartly, Held, held_join, HeldBelow, Flat, One, joins_held, below_itself, join_first, join_assoc, join_idem, Logged, IsEntry, entry_eq, entry_exact, Contents, Replica, IsReplica, only, Row, held_in, IsFull, IsReplicaRows}
 use Rattle.pfair_lattice.specs.Flat.{FlatJoins}
 use Rattle.pfair_lattice.specs.Option.{OptionJoins, OptionPartly}
-use Rattle.pfair_lattice.specs.Held.{Held, held_join, HeldBelow}
-use Rattle.pfair_lattice.specs.declared.join_map.Flat.{Flat}
-use Rattle.pfair_lattice.specs.declared.join_map.Flat.TheVariants.{One}
-use Rattle.pfair_lattice.specs.HeldLaws.{joins_held, below_itself, join_first, join_assoc, join_idem}
-use Rattle.pfair_entry.specs.Entry.{Logged, IsEntry}
-use Rattle.pfair_entry.specs.Same.{entry_eq}
-use Rattle.pfair_entry.specs.Exact.{entry_exact}
-use Rattle.pfair_replica.specs.Replica.{Contents, Replica, IsReplica, only}
-use Rattle.pfair_replica.specs.ReplicaRows.{Row, held_in, IsFull, IsReplicaRows}
 use Rattle.pfair_replica.specs.Faults.{IsPartlyMerged}
 use Rattle.pfair_replica.specs.HeldAfter.{join_none}
 

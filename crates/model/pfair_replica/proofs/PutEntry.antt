@@ -1,27 +1,14 @@
 -- Rows of entries, one of them changed.
-use Rattle.std.proofs.lemmas.Grind.{common_steps}
-use Rattle.std.proofs.Common.{◌≡◌, refl, sym, ◌∙◌, ap, subst, ⊎_elim, false, cond, arith}
-use Rattle.std.specs.Prelude.{◌≢◌, ◌==◌, ℕ, Option, None, Some, List, [], ◌∷◌, IsSome, Result, OnErr, if◌then◌else◌}
-use Rattle.std.specs.Ordering.{nat_cmp, eq_by_cmp}
+use Rattle.std.proofs.Common.{◌≡◌, refl, sym, ◌∙◌, ap, subst, ⊎_elim, false, cond, arith, ◌≢◌, ◌==◌, ℕ, Option, None, Some, List, [], ◌∷◌, IsSome, Result, OnErr, if◌then◌else◌}
+use Rattle.pfair_replica.proofs.Common.{common_steps, nat_cmp, eq_by_cmp, cases_Bool, cases_eq, eq-eqb, ne_eqb, none-some, get, IsOrdered, MapJoins, held_join, One, joins_held, Logged, entry_eq, entry_exact, only, Row, held_in, IsFull}
 use Rattle.std.specs.Map.{set_value}
 use Rattle.std.specs.BTreeMap.{is_at}
 use Rattle.std.specs.Cmp.{nat_cmp_total, Equal-is, eq_by_cmp_equiv}
-use Rattle.std.proofs.lemmas.Bool.{cases_Bool, cases_eq, eq-eqb, ne_eqb}
 use Rattle.std.proofs.lemmas.Map.{lookup-set_value, keys-set_value}
 use Rattle.std.proofs.lemmas.Map.Steps.{set_value_same}
 use Rattle.std.proofs.lemmas.Map.Lookups.{exact_unsigned}
-use Rattle.std.proofs.lemmas.Option.{none-some}
-use Rattle.pfair_lattice.specs.Entries.{get, IsOrdered, MapJoins}
 use Rattle.pfair_lattice.specs.Flat.{FlatJoins}
-use Rattle.pfair_lattice.specs.Held.{held_join}
-use Rattle.pfair_lattice.specs.declared.join_map.Flat.TheVariants.{One}
-use Rattle.pfair_lattice.specs.HeldLaws.{joins_held}
-use Rattle.pfair_entry.specs.Entry.{Logged}
-use Rattle.pfair_entry.specs.Same.{entry_eq}
-use Rattle.pfair_entry.specs.Exact.{entry_exact}
 use Rattle.pfair_replica.specs.HeldAfter.{join_none}
-use Rattle.pfair_replica.specs.Replica.{only}
-use Rattle.pfair_replica.specs.ReplicaRows.{Row, held_in, IsFull}
 
 pub apart : (p q : ℕ) → q ≢ p → eq_by_cmp nat_cmp p q ≡ false
 apart p q ne = ⊎_elim (λ e. absurd (ne (sym (exact_unsigned p q ((Equal-is (nat_cmp p q)).0 e))))) (λ f. f) (cases_Bool (eq_by_cmp nat_cmp p q))

@@ -1,15 +1,6 @@
 -- The laws of the join; and runs: that a sound beginning is the longest one, and how runs go on.
 use Rattle.std.proofs.Common.{ℕ, zero, suc, ◌+◌, ◌-◌, ◌≤◌, ◌≡◌, refl, ap, ◌∙◌, arith, List, [], ◌∷◌, ◌++◌, length, Some, None}
-use Rattle.std.proofs.lemmas.Bool.{leb-true, le-leb}
-use Rattle.std.proofs.lemmas.Option.{none-some, cond_some}
-use Rattle.pfair_lattice.specs.declared.join_map.Flat.TheVariants.{One}
-use Rattle.pfair_lattice.specs.Held.{Held}
-use Rattle.pfair_lattice.specs.HeldLaws.{below_itself, below_trans, below_antisym, join_first, join_second, join_least, join_comm, join_assoc, join_idem}
-use Rattle.pfair_entry.specs.Entry.{Logged}
-use Rattle.pfair_entry.specs.Same.{entry_eq}
-use Rattle.pfair_entry.specs.Exact.{entry_exact}
-use Rattle.pfair_replica.specs.Replica.{goes_on, run_from, last_floor}
-use Rattle.pfair_replica.specs.Laws.{IsLeastJoin, IsRun, IsLongestRun}
+use Rattle.pfair_replica.proofs.Common.{leb-true, le-leb, none-some, cond_some, One, Held, below_itself, below_trans, below_antisym, join_first, join_second, join_least, join_comm, join_assoc, join_idem, Logged, entry_eq, entry_exact, goes_on, run_from, last_floor, IsLeastJoin, IsRun, IsLongestRun}
 
 pub least_join : IsLeastJoin
 least_join = record {

@@ -1,17 +1,10 @@
 -- What the lists of what is said contain, and in which order the lists stand.
-use Rattle.std.proofs.Common.{ℕ, zero, suc, ◌+◌, ◌≡◌, refl, ap, ◌∙◌, subst, arith, inr, ⊎_elim, Bool, List, [], ◌∷◌, ◌++◌, length, get_or, Some}
-use Rattle.std.specs.Prelude.{map, filter, flat_map, slice_get, Option, AllPairs}
+use Rattle.std.proofs.Common.{ℕ, zero, suc, ◌+◌, ◌≡◌, refl, ap, ◌∙◌, subst, arith, inr, ⊎_elim, Bool, List, [], ◌∷◌, ◌++◌, length, get_or, Some, map, filter, flat_map, slice_get, Option, AllPairs}
+use Rattle.pfair_replica.proofs.Common.{eqb-true, eq-eqb, map-append, Held, Logged, EntryKey, Replica, sound_beginning, numbers_below, numbers_to, said_by, said_in, said, is_torn, entry_key, torn_in, torn_keys, fallen_at, fallen_in, fallen_keys, mark, Among, among_left, among_right, among_append, among_at, among_contains, contains_among, among_filter, among_map, among_flat, flat_among, below_among, among_below}
 use Rattle.std.specs.List.{Contains}
-use Rattle.std.proofs.lemmas.Bool.{eqb-true, eq-eqb}
-use Rattle.std.proofs.lemmas.List.{map-append}
-use Rattle.pfair_lattice.specs.Held.{Held}
 use Rattle.pfair_entry.specs.declared.entry.Announcement.{Announcement}
 use Rattle.pfair_entry.specs.declared.entry.Said.{Said}
-use Rattle.pfair_entry.specs.Entry.{Logged}
-use Rattle.pfair_replica.specs.Key.{EntryKey}
-use Rattle.pfair_replica.specs.Replica.{Replica, sound_beginning, numbers_below, numbers_to, said_by, said_in, said, is_torn, entry_key, torn_in, torn_keys, fallen_at, fallen_in, fallen_keys, mark}
 use Rattle.pfair_replica.specs.SaidAt.{IsSaidAt, ComesBefore, key_of, IsSaid}
-use Rattle.pfair_replica.specs.Among.{Among, among_left, among_right, among_append, among_at, among_contains, contains_among, among_filter, among_map, among_flat, flat_among, below_among, among_below}
 use Rattle.pfair_replica.proofs.TornKeys.{flat_more}
 use Rattle.pfair_replica.proofs.Listed.{fallen_one}
 

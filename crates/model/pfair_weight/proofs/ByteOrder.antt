@@ -1,19 +1,12 @@
 -- The order of names, by the numbers that their bytes spell, the first of them the highest.
-use Rattle.std.proofs.Common.{ℕ, zero, suc, ◌≡◌, ◌+◌, ◌-◌, ◌*◌, ◌/◌, ◌%◌, ◌^◌, ◌<◌, List, [], ◌∷◌, ◌++◌, length, refl, sym, ap, subst, ◌∙◌, arith, length-append}
-use Rattle.std.specs.Prelude.{replicate, slice_index}
-use Rattle.std.specs.Int.{w128, byte_at, byte_worth, bytes_high_first, from_be_bytes, to_be_bytes, sum_through}
-use Rattle.std.specs.Cmp.Lexicographic.{slice_cmp}
-use Rattle.std.specs.Ordering.{nat_cmp, ordering_then, MatchOrdering}
+use Rattle.std.proofs.Common.{ℕ, zero, suc, ◌≡◌, ◌+◌, ◌-◌, ◌*◌, ◌/◌, ◌%◌, ◌^◌, ◌<◌, List, [], ◌∷◌, ◌++◌, length, refl, sym, ap, subst, ◌∙◌, arith, length-append, replicate, slice_index}
+use Rattle.pfair_weight.proofs.Common.{w128, byte_at, byte_worth, bytes_high_first, from_be_bytes, to_be_bytes, sum_through, slice_cmp, nat_cmp, ordering_then, MatchOrdering, pow-suc, div-mul-add, mul-add-lt, IsTaskName, before_zero, with_zeros}
 use Rattle.std.specs.declared.cmp.Ordering.{Ordering}
 use Rattle.std.specs.declared.cmp.Ordering.TheVariants.{Greater}
 use Rattle.std.proofs.lemmas.Bool.Decides.{nat_tests}
 use Rattle.std.proofs.lemmas.Cmp.{ranked}
-use Rattle.std.proofs.Math.Nat.{pow-suc}
-use Rattle.std.proofs.lemmas.Nat.{div-mul-add, mul-add-lt}
 use Rattle.std.proofs.lemmas.List.{length-replicate}
-use Rattle.pfair_weight.specs.Name.{IsTaskName}
 use Rattle.pfair_weight.specs.Number.{number_of, name_of, IsNumber}
-use Rattle.pfair_weight.specs.Padded.{before_zero, with_zeros}
 use Rattle.pfair_weight.proofs.Length.{first_apart}
 use Rattle.pfair_weight.proofs.Padding.{AreBytes, name_bytes, read_back, zeros_order}
 

@@ -1,11 +1,7 @@
 -- How a cascade's fractions grow.
 use Rattle.std.proofs.Common.{◌≡◌, ℕ, ◌+◌, ◌-◌, ◌*◌, ◌<◌, ◌≤◌, ◌^◌, arith, ap, ◌∙◌}
-use Rattle.std.specs.Int.{div_ceil}
-use Rattle.std.proofs.lemmas.Grind.{div_ceil_times}
-use Rattle.std.proofs.lemmas.Nat.{mul-le}
-use Rattle.std.proofs.Math.Nat.{le_refl}
+use Rattle.pfair_weight.proofs.Common.{div_ceil, div_ceil_times, mul-le, le_refl, MAX_CLOSE}
 use Rattle.pfair_weight.specs.Ratio.{Ratio}
-use Rattle.pfair_weight.specs.declared.window.TheConstants.{MAX_CLOSE}
 
 -- from x times p to y times p by what lies between
 pub grown : (x y p : ℕ) → x ≤ y → x * p + (y - x) * p ≡ y * p

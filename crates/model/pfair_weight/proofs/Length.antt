@@ -1,16 +1,10 @@
 -- The length of a name, by the number that its bytes spell, the first of them the lowest, with the zeros after it.
-use Rattle.std.proofs.lemmas.Grind.{common_steps}
-use Rattle.std.proofs.Common.{ℕ, zero, suc, ◌≡◌, ◌+◌, ◌-◌, ◌*◌, ◌/◌, ◌^◌, ◌<◌, ◌≤◌, List, [], ◌∷◌, ◌++◌, length, take, refl, ap, ◌∙◌, ⊎_elim, arith}
-use Rattle.std.specs.Prelude.{replicate, slice_index}
-use Rattle.std.specs.Int.{w128, byte_worth, from_le_bytes, leading_zeros, sum_through}
+use Rattle.std.proofs.Common.{ℕ, zero, suc, ◌≡◌, ◌+◌, ◌-◌, ◌*◌, ◌/◌, ◌^◌, ◌<◌, ◌≤◌, List, [], ◌∷◌, ◌++◌, length, take, refl, ap, ◌∙◌, ⊎_elim, arith, replicate, slice_index}
+use Rattle.pfair_weight.proofs.Common.{common_steps, w128, byte_worth, from_le_bytes, leading_zeros, sum_through, leading_top, pow_pos, pow-suc, IsTaskName, before_zero, IsPadded}
 use Rattle.std.proofs.lemmas.Bool.{cases_lt}
-use Rattle.std.proofs.lemmas.Nat.{leading_top, pow_pos}
-use Rattle.std.proofs.Math.Nat.{pow-suc}
 use Rattle.std.proofs.Math.Pow.{pow-add, pow_mono}
 use Rattle.std.proofs.Math.Seq.{take-append_seam}
 use Rattle.pfair_weight.specs.declared.name.TaskName.TheInside.{Inside}
-use Rattle.pfair_weight.specs.Name.{IsTaskName}
-use Rattle.pfair_weight.specs.Padded.{before_zero, IsPadded}
 use Rattle.pfair_weight.proofs.Padding.{AreBytes, name_bytes}
 
 -- the number that bytes spell, the first of them the lowest

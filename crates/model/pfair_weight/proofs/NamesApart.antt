@@ -1,12 +1,10 @@
 -- Lists in which no two have one name.
-use Rattle.std.proofs.Common.{◌≡◌, ◌≢◌, Bool, true, false, cond, List, [], ◌∷◌, ◌++◌, map, filter, length, ◌<◌, sym, subst, ◌∙◌, arith}
-use Rattle.std.specs.Prelude.{AllPairs}
+use Rattle.std.proofs.Common.{◌≡◌, ◌≢◌, Bool, true, false, cond, List, [], ◌∷◌, ◌++◌, map, filter, length, ◌<◌, sym, subst, ◌∙◌, arith, AllPairs}
+use Rattle.pfair_weight.proofs.Common.{bytes_decides, NameValue, name_eq, NamesApart}
 use Rattle.std.specs.List.{AllByRecursion, IsDistinct}
-use Rattle.std.specs.Cmp.Lexicographic.{bytes_decides}
 use Rattle.std.proofs.SliceLists.{all_by_recursion_push}
 use Rattle.std.proofs.lemmas.List.{get_or-map, length-map, map_push}
 use Rattle.std.proofs.lemmas.Map.Made.{AllPairs-from_IsDistinct, IsDistinct-from_AllPairs}
-use Rattle.pfair_weight.specs.Name.{NameValue, name_eq, NamesApart}
 
 module _ {A : Type 0} (name : A → NameValue) where
   others : (P : NameValue → Type 0) (xs : List A) → AllByRecursion P (map name xs) → AllByRecursion (λ x. P (name x)) xs

@@ -1,15 +1,11 @@
 -- Names, and the bytes that store them.
-use Rattle.std.proofs.Common.{ℕ, zero, suc, ◌≡◌, ◌+◌, ◌-◌, ◌<◌, ◌≤◌, ◌==◌, true, false, List, [], ◌∷◌, ◌++◌, length, get_or, drop, sym, ap, ◌∙◌, subst, arith}
-use Rattle.std.specs.Prelude.{replicate, slice_index}
-use Rattle.std.specs.Cmp.Lexicographic.{slice_cmp}
-use Rattle.std.specs.Ordering.{nat_cmp, ordering_then}
+use Rattle.std.proofs.Common.{ℕ, zero, suc, ◌≡◌, ◌+◌, ◌-◌, ◌<◌, ◌≤◌, ◌==◌, true, false, List, [], ◌∷◌, ◌++◌, length, get_or, drop, sym, ap, ◌∙◌, subst, arith, replicate, slice_index}
+use Rattle.pfair_weight.proofs.Common.{slice_cmp, nat_cmp, ordering_then, may_stand, IsTaskName, before_zero, with_zeros, IsPadded}
 use Rattle.std.specs.declared.cmp.Ordering.TheVariants.{Equal}
 use Rattle.std.proofs.lemmas.Bool.{ne_eqb}
 use Rattle.std.proofs.lemmas.Bool.Decides.{nat_tests}
 use Rattle.std.proofs.lemmas.Cmp.{nat_list_cmp_total, tied_itself}
 use Rattle.std.proofs.lemmas.List.{drop-replicate}
-use Rattle.pfair_weight.specs.Name.{may_stand, IsTaskName}
-use Rattle.pfair_weight.specs.Padded.{before_zero, with_zeros, IsPadded}
 
 -- each of these is a byte, and not 0
 abbrev pub AreBytes : List ℕ → Type 0

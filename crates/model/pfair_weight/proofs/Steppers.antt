@@ -1,13 +1,12 @@
 -- A stepper's next subtask.
 use Rattle.std.proofs.Common.{◌≡◌, ℕ, ◌+◌, ◌-◌, ◌*◌, ◌/◌, ◌<◌, ◌≤◌, arith}
-use Rattle.std.specs.Int.{div_ceil}
+use Rattle.pfair_weight.proofs.Common.{div_ceil, MAX_INDEX}
 use Rattle.pfair_weight.specs.Share.{Share}
 use Rattle.pfair_weight.specs.Ratio.{Ratio}
 use Rattle.pfair_weight.specs.Close.{Close}
 use Rattle.pfair_weight.specs.declared.stepper.Group.{Group}
 use Rattle.pfair_weight.specs.declared.stepper.Group.TheVariants.{Heavy}
 use Rattle.pfair_weight.specs.declared.stepper.Stepper.TheInside.{Inside}
-use Rattle.pfair_weight.specs.declared.window.TheConstants.{MAX_INDEX}
 use Rattle.pfair_weight.specs.Stepped.{IsStepped, IsGroupOf}
 
 -- the kind of a light weight, or of a weight of 1, stays

@@ -1,7 +1,6 @@
 -- What is known of the text of a dispatcher that ran a file's script is known of the output of the file.
-use Rattle.std.proofs.Common.{ℕ, List, Option, Ok, Bool, ◌≡◌, ◌≤◌, ap, ◌∙◌, subst, map}
+use Rattle.std.proofs.Common.{ℕ, List, Option, Ok, Bool, ◌≡◌, ◌≤◌, ap, ◌∙◌, subst, map, IfSome, Vec, None}
 use Rattle.std.proofs.lemmas.Option.{IfSome_then}
-use Rattle.std.specs.Prelude.{IfSome, Vec, None}
 use Rattle.std.specs.declared.alloc.Global.{Global}
 use Rattle.pfair_file.specs.Schedules.{IsRefusalOf}
 use Rattle.pfair_file.specs.declared.program_fault.ProgramFault.{ProgramFault}

@@ -1,14 +1,10 @@
 -- What the parser makes of the words of a program gives what is answered.
 use Rattle.std.proofs.Common.{arith, ◌≡◌, subst, inl, List, Result, Ok, Err}
-use Rattle.clap.specs.Words.{App, Text, subcommand_rows_of}
+use Rattle.pfair_words.proofs.Common.{App, Text, subcommand_rows_of, IsParsed, Named, Matches, ProgramFault, Memory}
 use Rattle.clap.specs.declared.error.kind.ErrorKind.{ErrorKind}
 use Rattle.clap.specs.declared.parser.matches.ArgMatches.{ArgMatches}
 use Rattle.pfair_words.specs.Answers.{ToAny, ToTaken, ToWords}
-use Rattle.pfair_words.specs.Parse.{IsParsed, Named}
 use Rattle.pfair_words.specs.declared.command.Parsed.{Parsed}
-use Rattle.pfair_words.specs.declared.command.Parsed.TheVariants.{Matches}
-use Rattle.pfair_file.specs.declared.program_fault.ProgramFault.{ProgramFault}
-use Rattle.pfair_file.specs.declared.program_fault.ProgramFault.TheVariants.{Memory}
 
 -- the same words, at the line by its name
 pub parsed_at : (words : List Text) (app line : App) (p q : Parsed) → app ≡ line → IsParsed app words p → p ≡ q → IsParsed line words q

@@ -1,24 +1,17 @@
 -- Words that the parser takes begin with the name of the command that they are answered by.
-use Rattle.std.proofs.Common.{rules, nat_eq, ◌≡◌, ◌∙◌, ℕ, zero, suc, Bool, true, false, refl, sym, ap, subst, List, [], ◌∷◌, Option, Some, None, codes, true≢false, is_some, length, inl, inr, Result, Ok, Err}
+use Rattle.std.proofs.Common.{rules, nat_eq, ◌≡◌, ◌∙◌, ℕ, zero, suc, Bool, true, false, refl, sym, ap, subst, List, [], ◌∷◌, Option, Some, None, codes, true≢false, is_some, length, inl, inr, Result, Ok, Err, slice_get}
+use Rattle.pfair_words.proofs.Common.{Kinds, Row, Text, fault_of, subcommand_of, walk_stopped, Named, Begins, IsNamedFirst, ProgramFault, Weight, CommandLine, Memory, line}
 use Rattle.std.proofs.lemmas.Slice.Eq.{bytes_eq-Decides}
-use Rattle.std.specs.Prelude.{slice_get}
 use Rattle.std.specs.Str.{bytes_eq, chars}
 use Rattle.clap.specs.Kinds.{or_else}
 use Rattle.clap.specs.Faults.{flags_fault, bundle_step_fault, long_fault, step_fault, turn_fault, walk_fault}
 use Rattle.clap.specs.Lexer.{long_of, short_of}
 use Rattle.clap.specs.Simple.{Shape, built, entered, names_of}
 use Rattle.clap.specs.Walk.{Held, Outcome, after_flag, arg_by_long, bundle_met, bundle_step, long_met, subcommand_met, Names, idle, nothing_held, plain, rows_after, walk_from}
-use Rattle.clap.specs.Words.{Kinds, Row, Text, fault_of, subcommand_of}
 use Rattle.clap.proofs.OnLiterals.{clap_on_literals}
-use Rattle.clap.proofs.WalkLemmas.{walk_stopped}
-use Rattle.pfair_words.specs.Parse.{Named}
 use Rattle.pfair_words.specs.ScheduleAsked.{IsAnswer, IsAnswerToAny}
-use Rattle.pfair_words.specs.Plain.{Begins, IsNamedFirst}
 use Rattle.pfair_words.specs.declared.schedule.Asked.{Asked}
 use Rattle.pfair_words.specs.declared.schedule.Asked.TheVariants.{Windows, Replay, Decisions, Lags, Help}
-use Rattle.pfair_file.specs.declared.program_fault.ProgramFault.{ProgramFault}
-use Rattle.pfair_file.specs.declared.program_fault.ProgramFault.TheVariants.{Weight, CommandLine, Memory}
-use Rattle.pfair_words.specs.ScheduleLine.{line}
 use Rattle.pfair_words.proofs.LineFacts.{decisions_leaf, lags_leaf, replay_leaf, windows_leaf}
 
 no_more : (a b : Kinds) → or_else a b ≡ [] → a ≡ []

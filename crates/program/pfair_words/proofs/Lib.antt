@@ -1,4 +1,5 @@
 mod Answered
+mod Common
+pub mod FirstWord
 pub mod LineFacts
 pub mod PlainFacts
-pub mod FirstWord

@@ -1,10 +1,9 @@
 -- What the parser makes of words of which none is a flag.
-use Rattle.std.proofs.Common.{◌≡◌, ◌≢◌, ◌∙◌, ℕ, Bool, cond, true, false, refl, sym, ap, ap₂, List, [], ◌∷◌, Some, None, codes, arith, nat_eq}
+use Rattle.std.proofs.Common.{◌≡◌, ◌≢◌, ◌∙◌, ℕ, Bool, cond, true, false, refl, sym, ap, ap₂, List, [], ◌∷◌, Some, None, codes, arith, nat_eq, option_and_then}
+use Rattle.pfair_words.proofs.Common.{App, Kinds, Row, Rule, Text, fault_of, first_of, subcommand_of, line, cost, count, decisions, lags, period, replay, windows, IsPlain}
 use Rattle.std.proofs.lemmas.Bool.Decides.{nat_tests}
-use Rattle.std.specs.Prelude.{option_and_then}
 use Rattle.std.specs.Str.{bytes_eq}
 use Rattle.clap.specs.Lexer.{long_of, long_of_rest, short_of, short_of_rest, strip_byte}
-use Rattle.clap.specs.Words.{App, Kinds, Row, Rule, Text, fault_of, first_of, subcommand_of}
 use Rattle.clap.specs.Walk.{Walk, arg_by_index, finished, idle, nothing_held, one_of, rows_after, settled, to_positional, value, walk_from, walked}
 use Rattle.clap.specs.Simple.{Shape, built_leaf, inherited}
 use Rattle.clap.specs.Kinds.{or_else}
@@ -13,8 +12,6 @@ use Rattle.clap.specs.Facts.{parser_of_value}
 use Rattle.clap.specs.ValueTests.{accepts}
 use Rattle.clap.specs.declared.error.kind.ErrorKind.TheVariants.{DisplayHelp, DisplayVersion, MissingSubcommand, ValueValidation}
 use Rattle.clap.proofs.OnLiterals.{clap_on_literals}
-use Rattle.pfair_words.specs.ScheduleLine.{line, cost, count, decisions, lags, period, replay, windows}
-use Rattle.pfair_words.specs.Plain.{IsPlain}
 
 -- the word is one that the parser of the argument takes
 abbrev pub passes : Rule → Text → Bool

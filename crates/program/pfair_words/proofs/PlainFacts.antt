@@ -1,20 +1,15 @@
 -- What is answered to the forms of the commands.
 use Rattle.std.proofs.Common.{rules, ◌≡◌, ◌⊎◌, ℕ, Bool, inl, inr, true, false, refl, sym, subst, ◌∙◌, ◌≤◌, arith, List, [], ◌∷◌, Option, Some, None, IfOk, Result, Ok, Err, codes}
-use Rattle.clap.specs.Words.{IsAmong, Row, Text, fault_of, first_of, subcommand_of}
+use Rattle.pfair_words.proofs.Common.{IsAmong, Row, Text, fault_of, first_of, subcommand_of, IsFlag, Named, Spells, line, AskNumbers, HasCount, IsDecisionsAnswer, IsLagsAnswer, IsPlain, IsPlainAnswer, IsRefusal, IsReplayAnswer, IsTextAnswer, IsWindowsAnswer, ProgramFault, Weight, CommandLine, Memory}
 use Rattle.clap.specs.Walk.{one_of}
 use Rattle.clap.specs.declared.error.kind.ErrorKind.{ErrorKind}
 use Rattle.clap.specs.declared.error.kind.ErrorKind.TheVariants.{DisplayHelp, DisplayVersion, MissingSubcommand, ValueValidation}
 use Rattle.clap.specs.ValueTests.{accepts}
 use Rattle.clap.specs.declared.builder.value_parser.ValueParser.TheVariants.{Unsigned}
 use Rattle.clap.proofs.ValueTestLemmas.{Accepts-accepts}
-use Rattle.pfair_words.specs.Parse.{IsFlag, Named, Spells}
 use Rattle.pfair_words.specs.ScheduleAsked.{AskWindows, IsAnswer, IsAnswerTo, IsAnswerToAny, IsAnswerToKind, IsAnswerToTaken, IsAnswerToUntaken}
-use Rattle.pfair_words.specs.ScheduleLine.{line}
-use Rattle.pfair_words.specs.Plain.{AskNumbers, HasCount, IsDecisionsAnswer, IsLagsAnswer, IsPlain, IsPlainAnswer, IsRefusal, IsReplayAnswer, IsTextAnswer, IsWindowsAnswer}
 use Rattle.pfair_words.specs.declared.schedule.Asked.{Asked}
 use Rattle.pfair_words.specs.declared.schedule.Asked.TheVariants.{Windows, Replay, Decisions, Lags, Help}
-use Rattle.pfair_file.specs.declared.program_fault.ProgramFault.{ProgramFault}
-use Rattle.pfair_file.specs.declared.program_fault.ProgramFault.TheVariants.{Weight, CommandLine, Memory}
 use Rattle.pfair_words.specs.declared.schedule.TheConstants.{MAX_COUNT}
 use Rattle.pfair_words.proofs.FirstWord.{first_answer}
 use Rattle.pfair_words.proofs.LineFacts as line

@@ -1,14 +1,9 @@
 -- How long rows are.
 use Rattle.std.proofs.lemmas.Grind.{common_steps}
 use Rattle.std.proofs.Common.{ℕ, Bool, true, false, List, [], ◌∷◌, ◌<◌, ◌≤◌, ◌+◌, ◌^◌, arith, length, length-append, Option, None, Some}
-use Rattle.std.specs.List.{join_with_byte}
-use Rattle.std.specs.Fmt.{decimal}
+use Rattle.pfair_entry_row.proofs.Common.{join_with_byte, decimal, Announcement, Arrive, Depart, Late, IsNamed, IsWellSaid, truth, announced_fields, said_fields, IsSpelled, IsSpelledOut}
 use Rattle.std.proofs.lemmas.Fmt.{length-decimal-le}
-use Rattle.pfair_entry.specs.declared.entry.Announcement.{Announcement}
-use Rattle.pfair_entry.specs.declared.entry.Announcement.TheVariants.{Arrive, Depart, Late}
 use Rattle.pfair_entry_row.specs.Laws.{RowsAreShort}
-use Rattle.pfair_entry.specs.Notice.{IsNamed, IsWellSaid}
-use Rattle.pfair_entry_row.specs.Row.{truth, announced_fields, said_fields, IsSpelled, IsSpelledOut}
 use Rattle.pfair_entry_row.proofs.Refused.{sayable}
 
 -- the bytes of fields, each with a comma

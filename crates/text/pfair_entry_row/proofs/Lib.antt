@@ -1,4 +1,5 @@
 pub mod Commas
+mod Common
 mod Lengths
 pub mod Lines
 pub mod Names

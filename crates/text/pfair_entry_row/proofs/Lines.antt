@@ -1,17 +1,9 @@
 -- Rows as lines of a text.
-use Rattle.std.proofs.Common.{ℕ, Bool, true, false, List, [], ◌∷◌, ◌++◌, ◌≡◌, ◌≢◌, ◌==◌, refl, zero, suc, arith, length, Option, None, Some, append_assoc}
-use Rattle.std.specs.Prelude.{not}
-use Rattle.std.specs.List.{All, AllByRecursion, join_with_byte, list_all, list_any}
+use Rattle.std.proofs.Common.{ℕ, Bool, true, false, List, [], ◌∷◌, ◌++◌, ◌≡◌, ◌≢◌, ◌==◌, refl, zero, suc, arith, length, Option, None, Some, append_assoc, not}
+use Rattle.pfair_entry_row.proofs.Common.{All, AllByRecursion, join_with_byte, list_all, list_any, slice_split_at, Logged, Announcement, Arrive, Depart, Late, is_plain-decimal, IsNamed, IsWellSaid, truth, announced_fields, said_fields, entry_fields, IsEntryAt, IsSpelled, IsSpelledOut}
 use Rattle.std.proofs.lemmas.Bool.{and_from, and_parts, eqb-false, ne_eqb, not-true, or_parts}
-use Rattle.std.proofs.lemmas.List.Splits.{slice_split_at}
-use Rattle.pfair_entry.specs.Entry.{Logged}
-use Rattle.pfair_entry.specs.declared.entry.Announcement.{Announcement}
-use Rattle.pfair_entry.specs.declared.entry.Announcement.TheVariants.{Arrive, Depart, Late}
 use Rattle.pfair_text.specs.Rows.{is_mark, is_plain}
-use Rattle.pfair_text.proofs.RowFacts.{is_plain-decimal}
 use Rattle.pfair_entry_row.specs.Laws.{RowsAreLines, TextsAreRows}
-use Rattle.pfair_entry.specs.Notice.{IsNamed, IsWellSaid}
-use Rattle.pfair_entry_row.specs.Row.{truth, announced_fields, said_fields, entry_fields, IsEntryAt, IsSpelled, IsSpelledOut}
 use Rattle.pfair_text.proofs.NameFacts.{is_plain-name}
 use Rattle.pfair_entry_row.proofs.Refused.{sayable}
 

@@ -1,11 +1,9 @@
 -- What stands in a field as it is has no comma: numbers and words.
 use Rattle.std.proofs.Common.{arith, ℕ, ◌≡◌, ◌<◌, ◌^◌, true, List}
-use Rattle.std.specs.Fmt.{decimal}
+use Rattle.pfair_entry_row.proofs.Common.{decimal, is_plain-decimal, HasNoComma}
 use Rattle.std.proofs.lemmas.Bool.{both_ways}
 use Rattle.std.proofs.lemmas.List.Folds.{list_any_at}
 use Rattle.pfair_text.specs.Rows.{is_plain}
-use Rattle.pfair_text.proofs.RowFacts.{is_plain-decimal}
-use Rattle.pfair_entry_row.specs.Row.{HasNoComma}
 
 -- what is plain has no comma
 pub no_comma-plain : (bytes : List ℕ) → is_plain bytes ≡ true → HasNoComma bytes

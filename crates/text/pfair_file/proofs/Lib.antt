@@ -1,5 +1,6 @@
 pub mod CommandFacts
-mod TableFacts
+mod Common
+mod FirstFaults
 mod LogFacts
 mod OrderFacts
-mod FirstFaults
+mod TableFacts

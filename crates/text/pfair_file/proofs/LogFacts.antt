@@ -1,13 +1,10 @@
 -- The lengths of logs.
-use Rattle.std.proofs.Common.{ℕ, List, [], ◌∷◌, true, Vec, Global, ◌≡◌, ◌≤◌, length, length-append, refl, arith, vec_len}
-use Rattle.std.specs.Prelude.{All}
+use Rattle.std.proofs.Common.{ℕ, List, [], ◌∷◌, true, Vec, Global, ◌≡◌, ◌≤◌, length, length-append, refl, arith, vec_len, All}
+use Rattle.pfair_file.proofs.Common.{Logged, is_short, lists_of, close_all, closed}
 use Rattle.std.specs.List.{list_all}
 use Rattle.std.proofs.lemmas.Bool.{and_from}
 use Rattle.std.proofs.lemmas.List.Elements.{All-head, All-tail}
 use Rattle.std.proofs.lemmas.Bool.Decides.{nat_tests}
-use Rattle.pfair_entry.specs.Entry.{Logged}
-use Rattle.pfair_table.specs.Script.{is_short, lists_of}
-use Rattle.pfair_file.specs.Documents.{close_all, closed}
 
 -- a log that is closed has at most one entry more
 closed-short : (slots : ℕ) (log : List Logged) → length log ≤ 4095 → is_short (closed slots log) ≡ true

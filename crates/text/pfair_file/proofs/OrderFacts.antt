@@ -1,16 +1,11 @@
 -- What each table adds to the logs.
 use Rattle.std.proofs.Common.{ℕ, List, [], ◌∷◌, ◌++◌, Result, Ok, Err, ◌≡◌, ◌∙◌, ◌+◌, ◌<◌, length, get_or, append_assoc, append-nil, refl, sym, ap, subst, arith}
+use Rattle.pfair_file.proofs.Common.{length-set, get_or-set_same, get_or-set_other, Members, Logged, empty_logs, Logs, logs_after, with_entries, with_entry, longer_log, FileFault}
 use Rattle.std.proofs.lemmas.Grind.{common_steps}
-use Rattle.std.proofs.lemmas.List.{length-set, get_or-set_same, get_or-set_other}
-use Rattle.toml.specs.Data.{Members}
-use Rattle.pfair_entry.specs.Entry.{Logged}
 use Rattle.pfair_entry.specs.declared.notice.NoticeFault.{NoticeFault}
-use Rattle.pfair_file.specs.Documents.{empty_logs}
-use Rattle.pfair_file.specs.Entries.{Logs, logs_after, with_entries, with_entry, longer_log}
 use Rattle.pfair_file.specs.FileOrder.{LogsAreInFileOrder, entries_for, entry_for, entry_list}
 use Rattle.pfair_file.specs.Tables.{made_at}
 use Rattle.pfair_file.specs.declared.tables.Made.{Made}
-use Rattle.pfair_file.specs.declared.fault.FileFault.{FileFault}
 
 -- a longer log has the entry at its end
 longer-is : (p : ℕ) (log new : List Logged) (made : Result Logged NoticeFault) → longer_log p log made ≡ Ok new → new ≡ log ++ entry_list made

@@ -1,11 +1,8 @@
 -- The tables of an array, one after the other.
 use Rattle.std.proofs.Common.{arith, ℕ, List, ◌∷◌, Some, Err, ◌≡◌, ◌+◌, ◌<◌, length, drop, get_or}
-use Rattle.toml.specs.Data.{Data, Items, Members, as_table, item}
-use Rattle.toml.specs.View.{items_view, view}
+use Rattle.pfair_file.proofs.Common.{Data, Items, Members, as_table, item, items_view, view, Logs, tables_of, with_entries, with_entry, with_items, FileFault}
 use Rattle.toml.specs.declared.value.Value.{Value}
 use Rattle.toml.proofs.Views.{items_view-drop}
-use Rattle.pfair_file.specs.Entries.{Logs, tables_of, with_entries, with_entry, with_items}
-use Rattle.pfair_file.specs.declared.fault.FileFault.{FileFault}
 
 -- what is left to do at the i-th value, if all are tables
 pub record IsLeft (version : ℕ) (start now : Logs) (items : List Value) (i : ℕ) : Type 0 where

@@ -1,13 +1,7 @@
 -- The book before a run's first slot.
-use Rattle.std.proofs.Common.{ℕ, zero, suc, ◌<◌, ◌+◌, ◌≡◌, refl, sym, ap, ◌∙◌, arith, List, [], ◌∷◌, length, take, Option, None, Some}
-use Rattle.std.specs.Prelude.{slice_get}
-use Rattle.std.specs.Option.{option_map}
-use Rattle.std.proofs.lemmas.Option.{none-some, same_Some}
+use Rattle.std.proofs.Common.{ℕ, zero, suc, ◌<◌, ◌+◌, ◌≡◌, refl, sym, ap, ◌∙◌, arith, List, [], ◌∷◌, length, take, Option, None, Some, slice_get}
+use Rattle.pfair_output.proofs.Common.{option_map, none-some, same_Some, Book, empty_book, Origin, first_left, all_entered, entered_again, first_book}
 use Rattle.pfair_admission.specs.Member.{Member}
-use Rattle.pfair_lag.specs.Book.{Book, empty_book}
-use Rattle.pfair_table.specs.Table.{Origin}
-use Rattle.pfair_text.proofs.RowFacts.{first_left}
-use Rattle.pfair_output.specs.Booked.{all_entered, entered_again, first_book}
 use Rattle.pfair_output.proofs.WorldFacts.{entered_time}
 
 entered_more : (slot : ℕ) (ms : List Member) (place : ℕ) (m : Member) (b : Book) → slice_get ms place ≡ Some m

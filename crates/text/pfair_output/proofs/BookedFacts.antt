@@ -1,21 +1,13 @@
 -- The rows of a book that is notified of one slot after another.
-use Rattle.std.proofs.Common.{ℕ, suc, ◌+◌, ◌-◌, ◌<◌, ◌≤◌, ◌≡◌, refl, sym, ap, ◌∙◌, arith, true, false, cond, List, [], ◌∷◌, ◌++◌, Some, map, length, min, take, drop, append_assoc}
-use Rattle.std.specs.Prelude.{slice_get, is_some, ℤ}
-use Rattle.std.specs.Option.{option_map}
-use Rattle.std.proofs.lemmas.List.{append-nil, drop_all, length-drop, length-take}
-use Rattle.std.proofs.lemmas.Option.{same_Some}
+use Rattle.std.proofs.Common.{ℕ, suc, ◌+◌, ◌-◌, ◌<◌, ◌≤◌, ◌≡◌, refl, sym, ap, ◌∙◌, arith, true, false, cond, List, [], ◌∷◌, ◌++◌, Some, map, length, min, take, drop, append_assoc, slice_get, is_some, ℤ}
+use Rattle.pfair_output.proofs.Common.{option_map, append-nil, drop_all, length-drop, length-take, same_Some, line, lines_text, first_left, lines_text-append, Table, Tally, Book, tally_of, lag_of, entered_with, left, is_admitted, is_leave, booked, all_booked, slot_booked, all_slots_booked, tally_row, book_rows, rows_booked}
 use Rattle.std.specs.Fmt.{decimal, signed_decimal}
-use Rattle.pfair_text.specs.Rows.{line, lines_text}
-use Rattle.pfair_text.proofs.RowFacts.{first_left, lines_text-append}
 use Rattle.pfair_weight.specs.Share.{Share}
 use Rattle.pfair_entry.specs.declared.entry.Announcement.{Announcement}
 use Rattle.pfair_entry.specs.declared.entry.Announcement.TheVariants.{Arrive, Depart, Late}
 use Rattle.pfair_admission.specs.declared.decision.Decision.{Decision}
 use Rattle.pfair_table.specs.declared.slot.Decided.{Decided}
-use Rattle.pfair_table.specs.Table.{Table}
 use Rattle.pfair_weight.specs.Name.{NameValue}
-use Rattle.pfair_lag.specs.Book.{Tally, Book, tally_of, lag_of, entered_with, left}
-use Rattle.pfair_output.specs.Booked.{is_admitted, is_leave, booked, all_booked, slot_booked, all_slots_booked, tally_row, book_rows, rows_booked}
 
 -- ---- time
 

@@ -1,7 +1,8 @@
 pub mod BookFacts
+pub mod BookedFacts
+mod Common
 mod PlacedFacts
 pub mod RunFacts
 mod SignedFacts
 pub mod SlotFacts
-pub mod BookedFacts
 pub mod WorldFacts

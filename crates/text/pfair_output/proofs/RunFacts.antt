@@ -1,19 +1,8 @@
 -- What one slot of a script's run adds.
 use Rattle.std.proofs.Common.{ℕ, suc, ◌+◌, ◌≤◌, ◌≡◌, min, sym, ap, ◌∙◌, arith, List, [], ◌∷◌, ◌++◌, length, append_assoc, None}
-use Rattle.std.specs.List.{flat_map}
-use Rattle.std.proofs.lemmas.List.{append-nil, length-map, map-append}
-use Rattle.std.proofs.lemmas.Grind.{flat_map-append}
-use Rattle.pfair_text.specs.Rows.{lines_text}
-use Rattle.pfair_text.proofs.RowFacts.{lines_text-append}
-use Rattle.pfair_lag.specs.Book.{Book}
-use Rattle.pfair_replica.specs.Replica.{Replica, frontier, numbers_below, said}
+use Rattle.pfair_output.proofs.Common.{flat_map, append-nil, length-map, map-append, flat_map-append, lines_text, lines_text-append, Book, Replica, frontier, numbers_below, said, Settings, table, decisions, decided_rows, lag_rows, slots_from, book_rows, slot_booked}
 use Rattle.pfair_table.specs.declared.slot.Decided.{Decided}
-use Rattle.pfair_table.specs.Table.{Settings, table, decisions}
-use Rattle.pfair_output.specs.Decisions.{decided_rows}
-use Rattle.pfair_output.specs.Lags.{lag_rows}
 use Rattle.pfair_output.specs.Runs.{decided_below}
-use Rattle.pfair_output.specs.Slots.{slots_from}
-use Rattle.pfair_output.specs.Booked.{book_rows, slot_booked}
 use Rattle.pfair_table.proofs.Runs.{length_numbers}
 use Rattle.pfair_output.proofs.WorldFacts.{book_after, rows_after}
 

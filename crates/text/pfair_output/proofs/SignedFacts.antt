@@ -1,12 +1,9 @@
 -- A signed decimal number stands in a line as it is.
-use Rattle.std.proofs.Common.{ℕ, ◌≡◌, suc, true, List, ◌∷◌, length, arith}
-use Rattle.std.specs.Prelude.{ℤ, pos, negsuc, ◌==◌, not, FitsSigned}
+use Rattle.std.proofs.Common.{ℕ, ◌≡◌, suc, true, List, ◌∷◌, length, arith, ℤ, pos, negsuc, ◌==◌, not, FitsSigned}
+use Rattle.pfair_output.proofs.Common.{list_any, is_mark, is_plain, is_plain-decimal}
 use Rattle.std.specs.Int.{w64}
-use Rattle.std.specs.List.{list_any}
 use Rattle.std.specs.Fmt.{decimal, signed_decimal}
 use Rattle.std.proofs.lemmas.Bool.{and_parts, ne_eqb}
-use Rattle.pfair_text.specs.Rows.{is_mark, is_plain}
-use Rattle.pfair_text.proofs.RowFacts.{is_plain-decimal}
 
 -- a minus sign before a plain field
 after_minus : (field : List ℕ) → is_plain field ≡ true → is_plain (45 ∷ field) ≡ true

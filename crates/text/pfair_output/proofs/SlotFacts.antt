@@ -1,9 +1,6 @@
 -- Texts that grow by the rows of one slot after another.
 use Rattle.std.proofs.Common.{ℕ, suc, ◌+◌, ◌<◌, ◌≤◌, ◌≡◌, sym, ap, ◌∙◌, arith, List, ◌++◌, Some, length, drop, slice_get, append_assoc}
-use Rattle.std.proofs.lemmas.List.{append-nil, drop_all}
-use Rattle.pfair_text.specs.Rows.{IsOpen, TextWriter, lines_text, text_so_far}
-use Rattle.pfair_text.proofs.RowFacts.{first_left, lines_text-append}
-use Rattle.pfair_output.specs.Slots.{slots_from}
+use Rattle.pfair_output.proofs.Common.{append-nil, drop_all, IsOpen, TextWriter, lines_text, text_so_far, first_left, lines_text-append, slots_from}
 
 module _ {A : Type 0} (rows : ℕ → A → List (List (List ℕ))) where
   -- the rows of one slot more

@@ -1,19 +1,14 @@
 -- A book that is notified of a run's slots has the members that stay, with their lags.
-use Rattle.std.proofs.Common.{ℕ, zero, suc, ◌+◌, ◌-◌, ◌≤◌, ◌≡◌, refl, sym, ap, ◌∙◌, arith, subst, Bool, true, false, cond, not, ◌||◌, List, [], ◌∷◌, ◌++◌, Option, Some, None, map, length, append_assoc}
-use Rattle.std.specs.Prelude.{is_some, filter, min, nat_le, if◌then◌else◌}
-use Rattle.std.specs.List.{AllByRecursion, flat_map}
+use Rattle.std.proofs.Common.{ℕ, zero, suc, ◌+◌, ◌-◌, ◌≤◌, ◌≡◌, refl, sym, ap, ◌∙◌, arith, subst, Bool, true, false, cond, not, ◌||◌, List, [], ◌∷◌, ◌++◌, Option, Some, None, map, length, append_assoc, is_some, filter, min, nat_le, if◌then◌else◌}
+use Rattle.pfair_output.proofs.Common.{AllByRecursion, flat_map, map-append, append-nil, flat_map-append, Replica, frontier, said, numbers_below, replica_of, Settings, Origin, Story, Table, machine, members_before, names_task, slot_of, history, world, table, decisions, with_decisions, plan, Tally, Book, empty_book, tally_of, has_run, entered_after, entered_with, slot_more, is_staying, lag_row, lag_rows, booked, all_booked, slot_booked, all_slots_booked, tally_row, book_rows, rows_booked, all_entered, entered_again, first_book}
 use Rattle.std.specs.Cmp.Lexicographic.{nat_list_eq_equiv}
 use Rattle.std.specs.Map.{lookup}
-use Rattle.std.proofs.lemmas.List.{map-append, append-nil}
-use Rattle.std.proofs.lemmas.Grind.{flat_map-append}
 use Rattle.pfair_weight.specs.Name.{NameValue, NamesApart, name_eq}
 use Rattle.pfair_weight.specs.Share.{Share}
 use Rattle.pfair_weight.proofs.NamesApart.{apart_head, apart_nil, apart_tail}
 use Rattle.pfair_entry.specs.declared.entry.Announcement.{Announcement}
 use Rattle.pfair_entry.specs.declared.entry.Announcement.TheVariants.{Arrive, Depart, Late}
 use Rattle.pfair_entry.specs.declared.entry.Said.{Said}
-use Rattle.pfair_replica.specs.Replica.{Replica, frontier, said, numbers_below}
-use Rattle.pfair_replica.specs.ReplicaRows.{replica_of}
 use Rattle.pfair_table.specs.Refinement.{Dispatch, IsWholePlan}
 use Rattle.pfair_admission.specs.declared.decision.Decision.{Decision}
 use Rattle.pfair_admission.specs.declared.decision.Decision.TheVariants.{Admitted, Departing, Delayed, Refused}
@@ -21,10 +16,6 @@ use Rattle.pfair_admission.specs.Member.{Member, is_departing}
 use Rattle.pfair_admission.specs.Admission.{Machine, member_named, decision, newcomer, with_freeing, with_delay, with_quantum, change, effect, is_freed, present, all_decided, all_decisions, announcements}
 use Rattle.pfair_table.specs.declared.slot.Pick.{Pick}
 use Rattle.pfair_table.specs.declared.slot.Decided.{Decided}
-use Rattle.pfair_table.specs.Table.{Settings, Origin, Story, Table, machine, members_before, names_task, slot_of, history, world, table, decisions, with_decisions, plan}
-use Rattle.pfair_lag.specs.Book.{Tally, Book, empty_book, tally_of, has_run, entered_after, entered_with, slot_more}
-use Rattle.pfair_output.specs.Lags.{is_staying, lag_row, lag_rows}
-use Rattle.pfair_output.specs.Booked.{booked, all_booked, slot_booked, all_slots_booked, tally_row, book_rows, rows_booked, all_entered, entered_again, first_book}
 use Rattle.pfair_admission.proofs.Deciding.{admitted_new}
 use Rattle.pfair_admission.proofs.Each.{each_map}
 use Rattle.pfair_table.proofs.Members.{label, named_from}

@@ -1,13 +1,10 @@
 -- The members that a run can leave: none, and one more.
-use Rattle.std.proofs.Common.{ℕ, ◌≡◌, [], ◌∷◌, ◌++◌, List, arith, sym, subst}
-use Rattle.std.specs.Prelude.{Result, Ok, Err, OnOk}
+use Rattle.std.proofs.Common.{ℕ, ◌≡◌, [], ◌∷◌, ◌++◌, List, arith, sym, subst, Result, Ok, Err, OnOk}
+use Rattle.pfair_state.proofs.Common.{Roster, Member, AreLeftAt}
 use Rattle.pfair_weight.proofs.NamesApart.{apart_nil}
 use Rattle.pfair_admission.specs.Admission.{Machine}
-use Rattle.pfair_admission.specs.Roster.{Roster}
-use Rattle.pfair_admission.specs.Member.{Member}
 use Rattle.pfair_admission.specs.Restored.{CanBeRestored}
 use Rattle.pfair_admission.proofs.RestoredRuns.{in_frame_more, left_more, named_more, room_more}
-use Rattle.pfair_table.specs.Limits.{AreLeftAt}
 
 pub none_left : (slot : ℕ) (machine : Machine) → AreLeftAt slot machine []
 none_left slot machine = record { named = apart_nil (λ (m : Member). m.name); room = omega arith; in_frame = tt; left = tt }

@@ -1,14 +1,8 @@
 -- The late releases of a task, read row after row.
-use Rattle.std.proofs.Common.{ℕ, ◌+◌, ◌≡◌, ◌≢◌, refl, sym, ap, ◌∙◌, arith, subst, Bool, true, List, [], ◌∷◌, ◌++◌, Some, None, length, map, drop, slice_get, append_assoc}
-use Rattle.std.specs.Prelude.{not}
+use Rattle.std.proofs.Common.{ℕ, ◌+◌, ◌≡◌, ◌≢◌, refl, sym, ap, ◌∙◌, arith, subst, Bool, true, List, [], ◌∷◌, ◌++◌, Some, None, length, map, drop, slice_get, append_assoc, not}
+use Rattle.pfair_state.proofs.Common.{name_eq, append-nil, length-append, Delay, as_late, late_said, Row, Late}
 use Rattle.std.specs.Cmp.Lexicographic.{nat_list_eq_equiv}
-use Rattle.pfair_weight.specs.Name.{name_eq}
-use Rattle.std.proofs.lemmas.List.{append-nil, length-append}
-use Rattle.pfair_admission.specs.declared.delay.Delay.{Delay}
-use Rattle.pfair_state.specs.Reading.{as_late, late_said}
 use Rattle.pfair_state.specs.declared.rows.LateRow.{LateRow}
-use Rattle.pfair_state.specs.declared.rows.Row.{Row}
-use Rattle.pfair_state.specs.declared.rows.Row.TheVariants.{Late}
 use Rattle.pfair_state.proofs.Behind.{first_at, next_behind}
 
 module _ (rows : List Row) (from : ℕ) (name : List ℕ) where

@@ -1,5 +1,6 @@
 mod Behind
 mod Carried
+mod Common
 mod DelaysRead
 mod MembersRead
 mod OneText

@@ -1,19 +1,10 @@
 -- The members of a state, restored row after row.
 use Rattle.std.proofs.Common.{ℕ, ◌+◌, ◌%◌, ◌≡◌, refl, sym, ap, subst, ◌∙◌, List, [], ◌∷◌, ◌++◌, Some, None, length, map, drop, slice_get, append_assoc}
-use Rattle.std.specs.List.{AllByRecursion, flat_map}
-use Rattle.std.proofs.lemmas.List.{append-nil, length-map}
-use Rattle.pfair_weight.specs.Name.{NamesApart}
+use Rattle.pfair_state.proofs.Common.{AllByRecursion, flat_map, append-nil, length-map, NamesApart, Member, Roster, Delay, AreLeftAt, IsBehindMembers, as_late, late_said, member_of, as_member, member_said, own_said, MemberRow, Row}
 use Rattle.pfair_admission.specs.Admission.{Machine}
 use Rattle.pfair_admission.specs.Laws.{HaveRoom}
-use Rattle.pfair_admission.specs.Member.{Member}
 use Rattle.pfair_admission.specs.Restored.{CanBeRestored, IsLeftAt}
-use Rattle.pfair_admission.specs.Roster.{Roster}
-use Rattle.pfair_admission.specs.declared.delay.Delay.{Delay}
 use Rattle.pfair_admission.proofs.RestoredRuns.{in_turn}
-use Rattle.pfair_table.specs.Limits.{AreLeftAt}
-use Rattle.pfair_state.specs.Reading.{IsBehindMembers, as_late, late_said, member_of, as_member, member_said, own_said}
-use Rattle.pfair_state.specs.declared.rows.MemberRow.{MemberRow}
-use Rattle.pfair_state.specs.declared.rows.Row.{Row}
 use Rattle.pfair_state.specs.declared.rows.Row.TheVariants.{Member as MemberIn}
 use Rattle.pfair_state.proofs.Behind.{behind_some, first_at, next_behind}
 

@@ -1,23 +1,11 @@
 -- A state follows from its text: rows from lines, and the state from rows.
-use Rattle.std.proofs.Common.{ℕ, ◌<◌, ◌≡◌, ◌^◌, refl, sym, ap, ◌∙◌, arith, List, [], ◌∷◌, ◌++◌, Option, Some, None, length, map, slice_get, append_assoc}
-use Rattle.std.specs.Prelude.{IfSome}
-use Rattle.std.specs.Fmt.{decimal}
-use Rattle.std.specs.List.{flat_map}
-use Rattle.std.proofs.lemmas.Fmt.{decimal_injective}
-use Rattle.std.proofs.lemmas.List.{append_cancel_right}
+use Rattle.std.proofs.Common.{ℕ, ◌<◌, ◌≡◌, ◌^◌, refl, sym, ap, ◌∙◌, arith, List, [], ◌∷◌, ◌++◌, Option, Some, None, length, map, slice_get, append_assoc, IfSome}
+use Rattle.pfair_state.proofs.Common.{decimal, flat_map, decimal_injective, append_cancel_right, Delay, IsState, Carried, Table, lines_text, AreSpelled, IsSpelled, StatesHaveOneText, as_late, fields_of, late_said, line_of, member_of, member_said, ran_said, said_of, slot_field, MemberRow, Row, First, Late, Ran, End}
 use Rattle.pfair_weight.specs.Share.{Share, IsWeight}
 use Rattle.pfair_admission.specs.Member.{Member as MemberOf}
-use Rattle.pfair_admission.specs.declared.delay.Delay.{Delay}
-use Rattle.pfair_table.specs.Limits.{IsState}
-use Rattle.pfair_table.specs.Table.{Carried, Table}
-use Rattle.pfair_text.specs.Rows.{lines_text}
 use Rattle.pfair_entry_row.specs.Fields.{parts, parts_at}
-use Rattle.pfair_state.specs.Reading.{AreSpelled, IsSpelled, StatesHaveOneText, as_late, fields_of, late_said, line_of, member_of, member_said, ran_said, said_of}
-use Rattle.pfair_state.specs.Rows.{slot_field}
 use Rattle.pfair_state.specs.declared.rows.LateRow.{LateRow}
-use Rattle.pfair_state.specs.declared.rows.MemberRow.{MemberRow}
-use Rattle.pfair_state.specs.declared.rows.Row.{Row}
-use Rattle.pfair_state.specs.declared.rows.Row.TheVariants.{First, Member, Late, Ran, End}
+use Rattle.pfair_state.specs.declared.rows.Row.TheVariants.{Member}
 use Rattle.pfair_state.proofs.RowsSaid.{rows_say}
 use Rattle.pfair_state.proofs.Spelled.{dash_is_no_number, parts_of_line, parts_of_text, same_member}
 use Rattle.pfair_state.proofs.StateRead.{behind_members, ends_members, last_of}

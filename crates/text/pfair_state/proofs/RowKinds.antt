@@ -1,11 +1,9 @@
 -- What a row is: a member's, a late release, a quantum, or the last one.
 use Rattle.std.proofs.Common.{ℕ, ◌≡◌, Option, Some, None}
+use Rattle.pfair_state.proofs.Common.{as_end, as_late, as_member, as_quantum, MemberRow, Row, First, Late, Ran, End}
 use Rattle.pfair_table.specs.declared.slot.Pick.{Pick}
-use Rattle.pfair_state.specs.Reading.{as_end, as_late, as_member, as_quantum}
 use Rattle.pfair_state.specs.declared.rows.LateRow.{LateRow}
-use Rattle.pfair_state.specs.declared.rows.MemberRow.{MemberRow}
-use Rattle.pfair_state.specs.declared.rows.Row.{Row}
-use Rattle.pfair_state.specs.declared.rows.Row.TheVariants.{First, Member, Late, Ran, End}
+use Rattle.pfair_state.specs.declared.rows.Row.TheVariants.{Member}
 
 pub late_is : (o : Option Row) (l : LateRow) → as_late o ≡ Some l → o ≡ Some (Late l)
 late_is None l is = absurd (cc)

@@ -1,12 +1,8 @@
 -- Texts that grow by the rows of one thing after another, and how many rows these are.
 use Rattle.std.proofs.Common.{ℕ, zero, suc, ◌+◌, ◌<◌, ◌≡◌, refl, sym, ap, ◌∙◌, arith, List, [], ◌∷◌, ◌++◌, Some, length, drop, slice_get, append_assoc}
-use Rattle.std.specs.List.{flat_map}
-use Rattle.std.proofs.lemmas.List.{length-append}
-use Rattle.pfair_text.specs.Rows.{line, lines_text}
-use Rattle.pfair_text.proofs.RowFacts.{first_left, lines_text-append}
+use Rattle.pfair_state.proofs.Common.{flat_map, length-append, line, lines_text, first_left, lines_text-append, Table, ran_row, ran_rows}
 use Rattle.pfair_table.specs.declared.slot.Pick.{Pick}
-use Rattle.pfair_table.specs.Table.{Table}
-use Rattle.pfair_state.specs.Rows.{Row, ran_row, ran_rows}
+use Rattle.pfair_state.specs.Rows.{Row}
 
 module _ {A : Type 0} (rows : A → List Row) where
   -- the rows of what is left are those of its first and of the others

@@ -1,16 +1,6 @@
 -- The rows of a state say what the state has.
-use Rattle.std.proofs.Common.{ℕ, ◌+◌, ◌≡◌, arith, refl, sym, ap, ◌∙◌, min, List, [], ◌∷◌, ◌++◌, length, map}
-use Rattle.std.specs.Prelude.{codes}
-use Rattle.std.specs.Fmt.{decimal}
-use Rattle.std.specs.List.{flat_map}
-use Rattle.std.proofs.lemmas.Fmt.{decimal_digit}
-use Rattle.std.proofs.lemmas.List.{length-map, map-append}
-use Rattle.pfair_admission.specs.Member.{Member}
-use Rattle.pfair_admission.specs.declared.delay.Delay.{Delay}
-use Rattle.pfair_table.specs.Table.{Carried, Table}
-use Rattle.pfair_state.specs.Reading.{fields_of, first_said, late_said, member_said, ran_said, said_before_end, said_of}
-use Rattle.pfair_state.specs.Rows.{first_row, end_row, late_row, member_row, member_rows, ran_row, ran_rows, rows_before_end, state_rows}
-use Rattle.pfair_state.specs.declared.rows.Row.TheVariants.{End}
+use Rattle.std.proofs.Common.{ℕ, ◌+◌, ◌≡◌, arith, refl, sym, ap, ◌∙◌, min, List, [], ◌∷◌, ◌++◌, length, map, codes}
+use Rattle.pfair_state.proofs.Common.{decimal, flat_map, decimal_digit, length-map, map-append, Member, Delay, Carried, Table, fields_of, first_said, late_said, member_said, ran_said, said_before_end, said_of, first_row, end_row, late_row, member_row, member_rows, ran_row, ran_rows, rows_before_end, state_rows, End}
 
 delays_say : (name : List ℕ) (delays : List Delay) → map fields_of (map (late_said name) delays) ≡ map (late_row name) delays
 delays_say name [] = refl

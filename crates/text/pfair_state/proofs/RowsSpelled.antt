@@ -1,16 +1,8 @@
 -- The rows that are written of a state are spelled.
 use Rattle.std.proofs.Common.{ℕ, ◌+◌, ◌<◌, ◌≡◌, ◌∙◌, ◌^◌, ap, arith, subst, sym, List, [], ◌∷◌, ◌++◌, min, length, slice_get, take, Some, Result, Ok, Err, OnOk}
-use Rattle.std.specs.List.{AllByRecursion, flat_map}
+use Rattle.pfair_state.proofs.Common.{AllByRecursion, flat_map, take_more, get_or_from_slice_get, Member, Delay, IsState, Carried, Table, AreSpelled, IsSpelled, IsSpelledQuantum, IsWritable, first_said, late_said, member_said, own_said, ran_said, said_before_end, End}
 use Rattle.std.proofs.SliceLists.{all_by_recursion_push}
-use Rattle.std.proofs.lemmas.List.{take_more}
-use Rattle.std.proofs.lemmas.Option.{get_or_from_slice_get}
-use Rattle.pfair_admission.specs.Member.{Member}
-use Rattle.pfair_admission.specs.declared.delay.Delay.{Delay}
 use Rattle.pfair_admission.proofs.Each.{each, each_map}
-use Rattle.pfair_table.specs.Limits.{IsState}
-use Rattle.pfair_table.specs.Table.{Carried, Table}
-use Rattle.pfair_state.specs.Reading.{AreSpelled, IsSpelled, IsSpelledQuantum, IsWritable, first_said, late_said, member_said, own_said, ran_said, said_before_end}
-use Rattle.pfair_state.specs.declared.rows.Row.TheVariants.{End}
 
 pub on_ok : {A E P : Type 0} (r : Result A E) → P → OnOk r P
 on_ok (Ok x) h = h

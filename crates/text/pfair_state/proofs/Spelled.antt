@@ -1,13 +1,9 @@
 -- Rows that are spelled stand in a text as they are: no field has a comma, and no row a line break.
-use Rattle.std.proofs.Common.{ℕ, Bool, true, false, List, [], ◌∷◌, ◌++◌, ◌≡◌, ◌≢◌, ◌+◌, ◌%◌, ◌<◌, ◌^◌, ◌∙◌, arith, refl, sym, ap, length, map, Option, None, Some, append_assoc}
-use Rattle.std.specs.Prelude.{IfSome, ◌==◌}
-use Rattle.std.specs.Fmt.{decimal}
-use Rattle.std.specs.List.{AllByRecursion, join_with_byte, list_all, list_any}
+use Rattle.std.proofs.Common.{ℕ, Bool, true, false, List, [], ◌∷◌, ◌++◌, ◌≡◌, ◌≢◌, ◌+◌, ◌%◌, ◌<◌, ◌^◌, ◌∙◌, arith, refl, sym, ap, length, map, Option, None, Some, append_assoc, IfSome, ◌==◌}
+use Rattle.pfair_state.proofs.Common.{decimal, AllByRecursion, join_with_byte, list_all, list_any, decimal_by_steps, decimal_injective, IsTaskName, is_plain, lines_text, is_plain-decimal, is_plain-name, IsSpelled, fields_of, line_of, slot_field, MemberRow, Row, First, Late, Ran, End}
 use Rattle.std.proofs.lemmas.Bool.{and_from, and_parts, ne_eqb}
-use Rattle.std.proofs.lemmas.Fmt.{decimal_by_steps, decimal_injective}
 use Rattle.std.proofs.lemmas.List.Folds.{list_any-append}
 use Rattle.std.proofs.lemmas.List.Splits.{join_with_byte-slice_split, slice_split_at}
-use Rattle.pfair_weight.specs.Name.{IsTaskName}
 use Rattle.pfair_weight.specs.Share.{IsWeight}
 use Rattle.pfair_weight.specs.NameFault.{IsFaultOf as IsNameFaultOf}
 use Rattle.pfair_weight.specs.WeightFault.{IsFaultOf as IsWeightFaultOf}
@@ -15,19 +11,12 @@ use Rattle.pfair_weight.specs.declared.name.NameFault.{NameFault}
 use Rattle.pfair_weight.specs.declared.name.NameFault.TheVariants.{Empty, TooLong, BadByte}
 use Rattle.pfair_weight.specs.declared.weight.WeightFault.{WeightFault}
 use Rattle.pfair_weight.specs.declared.weight.WeightFault.TheVariants.{ZeroCost, CostOverPeriod, PeriodTooLong}
-use Rattle.pfair_text.specs.Rows.{is_plain, lines_text}
-use Rattle.pfair_text.proofs.RowFacts.{is_plain-decimal}
-use Rattle.pfair_text.proofs.NameFacts.{is_plain-name}
 use Rattle.pfair_entry_row.specs.Fields.{parts, parts_at}
 use Rattle.pfair_entry_row.specs.Row.{dash, truth, HasNone}
 use Rattle.pfair_entry_row.proofs.Commas.{HaveNoCommas, parts-join}
 use Rattle.pfair_entry_row.proofs.Lines.{at_each, joined, truth_is_plain}
 use Rattle.pfair_entry_row.proofs.Names.{no_comma-plain}
-use Rattle.pfair_state.specs.Reading.{IsSpelled, fields_of, line_of}
-use Rattle.pfair_state.specs.Rows.{slot_field}
-use Rattle.pfair_state.specs.declared.rows.MemberRow.{MemberRow}
-use Rattle.pfair_state.specs.declared.rows.Row.{Row}
-use Rattle.pfair_state.specs.declared.rows.Row.TheVariants.{First, Member, Late, Ran, End}
+use Rattle.pfair_state.specs.declared.rows.Row.TheVariants.{Member}
 
 -- ---- what is right has no fault
 

@@ -1,19 +1,11 @@
 -- The state of rows, from the first to the end.
 use Rattle.std.proofs.Common.{ℕ, ◌+◌, ◌<◌, ◌≤◌, ◌≡◌, refl, sym, ap, subst, ◌∙◌, arith, List, [], ◌∷◌, ◌++◌, Option, Some, None, Result, Err, MatchResult, length, min, drop, slice_get, append_assoc}
-use Rattle.std.specs.List.{flat_map}
-use Rattle.std.proofs.lemmas.List.{length-append, length-drop}
+use Rattle.pfair_state.proofs.Common.{flat_map, length-append, length-drop, Member, Roster, AreLeftAt, Carried, Table, IsBehindMembers, IsWritable, as_first, as_end, member_said, as_quantum, ran_said, said_before_end, said_of, Row, End}
 use Rattle.pfair_admission.specs.Admission.{Machine}
-use Rattle.pfair_admission.specs.Member.{Member}
-use Rattle.pfair_admission.specs.Roster.{Roster}
-use Rattle.pfair_table.specs.Limits.{AreLeftAt}
 use Rattle.pfair_table.specs.Places.{ArePlacesOf, IsFit}
-use Rattle.pfair_table.specs.Table.{Carried, Table}
-use Rattle.pfair_state.specs.Reading.{IsBehindMembers, IsWritable, as_first, as_end, member_said, as_quantum, ran_said, said_before_end, said_of}
 use Rattle.pfair_state.specs.declared.fault.ReadFault.{ReadFault}
 use Rattle.pfair_state.specs.declared.fault.ReadFault.TheVariants.{Memory}
 use Rattle.pfair_state.specs.declared.rows.FirstRow.{FirstRow}
-use Rattle.pfair_state.specs.declared.rows.Row.{Row}
-use Rattle.pfair_state.specs.declared.rows.Row.TheVariants.{End}
 use Rattle.pfair_state.proofs.Behind.{first_at}
 
 -- the number of all rows, as the last one says it

@@ -1,6 +1,5 @@
 -- A task's name stands in a line as it is.
-use Rattle.std.proofs.Common.{ℕ, ◌≡◌, inl, inr, refl, true, false, List, arith, slice_index}
-use Rattle.std.specs.Prelude.{◌||◌, ◌&&◌, ◌==◌, nat_le}
+use Rattle.std.proofs.Common.{ℕ, ◌≡◌, inl, inr, refl, true, false, List, arith, slice_index, ◌||◌, ◌&&◌, ◌==◌, nat_le}
 use Rattle.std.proofs.lemmas.Bool.{and_parts, or_cases, ne_eqb, leb-true, eqb-true}
 use Rattle.pfair_weight.specs.Name.{is_letter, is_digit, may_stand, IsTaskName}
 use Rattle.pfair_text.specs.Rows.{is_mark, is_plain}

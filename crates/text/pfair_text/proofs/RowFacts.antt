@@ -1,6 +1,5 @@
 -- Fields without marks stand in a CSV row as they are, and decimal numbers are such fields.
-use Rattle.std.proofs.Common.{ℕ, List, [], ◌∷◌, ◌++◌, ◌≡◌, ◌∙◌, ◌+◌, ◌%◌, ◌<◌, ◌^◌, Bool, true, false, Some, length, drop, refl, ap, arith, zero, suc, slice_get, slice_index}
-use Rattle.std.specs.Prelude.{◌||◌, ◌==◌, not}
+use Rattle.std.proofs.Common.{ℕ, List, [], ◌∷◌, ◌++◌, ◌≡◌, ◌∙◌, ◌+◌, ◌%◌, ◌<◌, ◌^◌, Bool, true, false, Some, length, drop, refl, ap, arith, zero, suc, slice_get, slice_index, ◌||◌, ◌==◌, not}
 use Rattle.std.specs.Fmt.{decimal}
 use Rattle.std.specs.List.{join_with_byte, list_all, list_any}
 use Rattle.std.proofs.lemmas.Bool.{and_parts, ne_eqb}

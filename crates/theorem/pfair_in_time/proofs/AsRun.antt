@@ -1,26 +1,11 @@
 -- The executive as a run: who is which task, and with which offsets in the end.
-use Rattle.std.proofs.Common.{◌≡◌, ℕ, zero, suc, ◌<◌, ◌≤◌, Bool, true, false, cond, List, [], ◌∷◌, Option, Some, None, arith, ap, refl, sym, ◌∙◌, subst, inl, inr, ⊎_elim}
-use Rattle.std.specs.Prelude.{◌⊎◌, not, ◌&&◌, map, ◌↔◌}
-use Rattle.std.specs.List.{find, list_any}
-use Rattle.std.proofs.lemmas.Bool.{true≢false, false≢true, cases_lt, cases_eq, cases_Bool, or_left, or_right}
-use Rattle.std.proofs.lemmas.Option.{same_Some}
-use Rattle.pfair_weight.specs.Share.{Share}
-use Rattle.pfair_weight.specs.Name.{NamesApart}
-use Rattle.pfair_weight.specs.Window.{release_of}
-use Rattle.pfair_weight.proofs.NamesApart.{apart_head, apart_tail}
-use Rattle.pfair_entry.specs.Exact.{name_itself}
-use Rattle.pfair_entry.specs.Same.{name_eq}
-use Rattle.pfair_order.specs.declared.Key.{Key}
+use Rattle.std.proofs.Common.{◌≡◌, ℕ, zero, suc, ◌<◌, ◌≤◌, Bool, true, false, cond, List, [], ◌∷◌, Option, Some, None, arith, ap, refl, sym, ◌∙◌, subst, inl, inr, ⊎_elim, ◌⊎◌, not, ◌&&◌, map, ◌↔◌}
+use Rattle.pfair_in_time.proofs.Common.{find, list_any, true≢false, false≢true, cases_lt, cases_eq, cases_Bool, or_left, or_right, same_Some, Share, NamesApart, release_of, apart_head, apart_tail, name_itself, name_eq, Key, Among, among_map, map_among, among_all, Member, theta, is_departing, next_key, member_named, Settings, eligible, Story, world, named_world}
 use Rattle.pfair_order.proofs.NamesApart.{first_names}
-use Rattle.pfair_replica.specs.Among.{Among, among_map, map_among, among_all}
-use Rattle.pfair_admission.specs.Member.{Member, theta, is_departing, next_key}
-use Rattle.pfair_admission.specs.Admission.{member_named}
-use Rattle.pfair_table.specs.Table.{Settings, eligible, Story, world}
 use Rattle.pfair_optimal.specs.Schedule.{Task, Subtask, Schedule, is_among, NoneTwice, same_task, same_subtask, is_row, has_run}
 use Rattle.pfair_optimal.proofs.Lists.{among_here, among_more, among_cases}
 use Rattle.pfair_optimal.proofs.Past.{task_exact, subtask_exact, ran_at}
 use Rattle.pfair_in_time.proofs.Boundaries.{named_is}
-use Rattle.pfair_table.proofs.Members.{named_world}
 use Rattle.pfair_in_time.proofs.Worlds.{runs, on, on_next, keys_at, keys_apart, same_member, chosen_member, runs_chosen, chosen_runs, next_new, here, came_from, HaveWeights}
 use Rattle.pfair_in_time.proofs.Lines.{IsLine, line_of}
 

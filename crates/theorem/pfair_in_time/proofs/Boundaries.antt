@@ -1,25 +1,14 @@
 -- What boundaries make of members.
-use Rattle.std.proofs.Common.{◌≡◌, ℕ, ◌+◌, ◌-◌, ◌*◌, ◌%◌, ◌<◌, ◌≤◌, Bool, true, false, List, [], ◌∷◌, ◌++◌, Option, Some, None, arith, ap, refl, sym, ◌∙◌, subst, inl, inr, ⊎_elim, max}
-use Rattle.std.specs.Prelude.{◌⊎◌, not, nat_lt, ◌==◌, ◌||◌, is_some, if◌then◌else◌}
-use Rattle.std.proofs.lemmas.Bool.{true≢false, false≢true, cases_lt, cases_Bool, or_parts, ltb-false, leb-true, eqb-true, not_from_false}
-use Rattle.std.proofs.lemmas.Option.{same_Some}
-use Rattle.pfair_weight.specs.Name.{NamesApart}
-use Rattle.pfair_weight.specs.Share.{Share, IsWeight, units_of}
-use Rattle.pfair_weight.specs.Window.{release_of}
-use Rattle.pfair_entry.specs.Exact.{name_exact}
+use Rattle.std.proofs.Common.{◌≡◌, ℕ, ◌+◌, ◌-◌, ◌*◌, ◌%◌, ◌<◌, ◌≤◌, Bool, true, false, List, [], ◌∷◌, ◌++◌, Option, Some, None, arith, ap, refl, sym, ◌∙◌, subst, inl, inr, ⊎_elim, max, ◌⊎◌, not, nat_lt, ◌==◌, ◌||◌, is_some, if◌then◌else◌}
+use Rattle.pfair_in_time.proofs.Common.{true≢false, false≢true, cases_lt, cases_Bool, or_parts, ltb-false, leb-true, eqb-true, not_from_false, same_Some, NamesApart, Share, IsWeight, units_of, release_of, name_exact, Among, among_left, among_append, among_filter, filter_among, among_map, map_among, Member, theta, is_departing, busy_until, freeing_slot, Machine, is_named, member_named, claimed, arrival, departure, late_release, decision, newcomer, with_freeing, with_delay, change, effect, is_freed, present, decided, all_decided, boundary, Descends, IsSound, IsNew, theta_earlier}
 use Rattle.pfair_entry.specs.declared.entry.Announcement.{Announcement}
 use Rattle.pfair_entry.specs.Entry.{IsWeighed}
-use Rattle.pfair_replica.specs.Among.{Among, among_left, among_append, among_filter, filter_among, among_map, map_among}
 use Rattle.pfair_admission.specs.declared.decision.Decision.TheVariants.{Admitted, Departing, Delayed, Refused}
 use Rattle.pfair_admission.specs.declared.decision.Refusal.TheVariants.{NameTaken, PeriodOutsideFrame, NoRoom, AlreadyDeparting, AlreadyReleased}
-use Rattle.pfair_admission.specs.Member.{Member, theta, is_departing, busy_until, freeing_slot}
-use Rattle.pfair_admission.specs.Admission.{Machine, is_named, member_named, claimed, arrival, departure, late_release, decision, newcomer, with_freeing, with_delay, change, effect, is_freed, present, decided, all_decided, boundary}
 use Rattle.pfair_admission.proofs.Effects.{by_effect}
 use Rattle.pfair_admission.proofs.NamesKept.{apart_effect, apart_present}
 use Rattle.pfair_table.proofs.FirstSubtasks.{found_own}
-use Rattle.pfair_in_time.specs.Descent.{Descends, IsSound, IsNew}
 use Rattle.pfair_in_time.specs.Laws.{AllSound, AllHaveWeights, IsFreed, BoundariesKeepMembers}
-use Rattle.pfair_admission.proofs.Keeping.{theta_earlier}
 use Rattle.pfair_in_time.proofs.Offsets.{release_rises, delayed_rises}
 
 -- ---- one member

@@ -1,21 +1,11 @@
 -- No admitted task misses.
-use Rattle.std.proofs.Common.{◌≡◌, ℕ, suc, ◌-◌, ◌<◌, ◌≤◌, true, false, cond, Option, Some, None, arith, ap, refl, sym, ◌∙◌, subst, inl, inr}
-use Rattle.std.specs.Prelude.{not, ◌||◌, nat_le, if◌then◌else◌}
-use Rattle.std.specs.List.{find}
-use Rattle.std.proofs.lemmas.Bool.{cases_lt, cases_eq, cases_Bool, and_parts, leb-true}
-use Rattle.pfair_weight.specs.Window.{release_of, deadline_of, starts_job_of}
-use Rattle.pfair_entry.specs.Exact.{name_itself}
-use Rattle.pfair_replica.specs.Among.{Among, among_map}
-use Rattle.pfair_admission.specs.Member.{Member, theta, is_departing, is_delayed_at, eligible_from, next_key}
-use Rattle.pfair_table.specs.declared.slot.Pick.{Pick}
-use Rattle.pfair_admission.proofs.Keeping.{eligible_at_job}
-use Rattle.pfair_table.specs.Table.{Settings, pick, index_of, Story, world, table}
+use Rattle.std.proofs.Common.{◌≡◌, ℕ, suc, ◌-◌, ◌<◌, ◌≤◌, true, false, cond, Option, Some, None, arith, ap, refl, sym, ◌∙◌, subst, inl, inr, not, ◌||◌, nat_le, if◌then◌else◌}
+use Rattle.pfair_in_time.proofs.Common.{find, cases_lt, cases_eq, cases_Bool, and_parts, leb-true, release_of, deadline_of, starts_job_of, name_itself, Among, among_map, Member, theta, is_departing, is_delayed_at, eligible_from, next_key, Pick, eligible_at_job, Settings, pick, index_of, Story, world, table, named_world}
 use Rattle.pfair_optimal.specs.Schedule.{Task, Subtask, deadline, is_row, has_run, IsNext}
 use Rattle.pfair_optimal.proofs.Beginnings.{beginning_none_misses, beginning_in_time}
 use Rattle.pfair_optimal.proofs.Past.{task_exact, ran_at, ran_by, ran_more}
 use Rattle.pfair_in_time.specs.InTime.{IsInTime}
 use Rattle.pfair_in_time.proofs.Boundaries.{named_is}
-use Rattle.pfair_table.proofs.Members.{named_world}
 use Rattle.pfair_in_time.proofs.Worlds.{same_member, runs, keys_at, chosen_member, chosen_runs, runs_chosen, on_next, here, HaveWeights, index_after}
 use Rattle.pfair_in_time.proofs.AsRun.{task_of, subtask_of, is_task, last_of, or_else, offset_in, weight_in, as_run, row_member, member_row, found_some, found_none, next_counted, all_before_ran, none_after_ran}
 use Rattle.pfair_in_time.proofs.Executive.{is_run, member_active}

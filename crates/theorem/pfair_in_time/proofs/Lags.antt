@@ -1,26 +1,14 @@
 -- The lags of members stay within one.
-use Rattle.std.proofs.Common.{◌≡◌, ℕ, suc, ◌+◌, ◌-◌, ◌*◌, ◌<◌, Bool, true, false, cond, List, [], ◌∷◌, length, map, arith, ap, refl, sym, ◌∙◌, subst, inl, inr}
-use Rattle.std.specs.Prelude.{ℤ, pos, neg_ℤ, ◌-ℤ◌, ◌<ℤ◌, filter, nat_lt, count_by, is_some, None}
-use Rattle.std.proofs.lemmas.Bool.{lt-ltb}
-use Rattle.std.proofs.lemmas.List.Sums.{sum_by-cons}
-use Rattle.std.proofs.Math.Nat.{le_refl}
-use Rattle.pfair_weight.specs.Share.{Share}
+use Rattle.std.proofs.Common.{◌≡◌, ℕ, suc, ◌+◌, ◌-◌, ◌*◌, ◌<◌, Bool, true, false, cond, List, [], ◌∷◌, length, map, arith, ap, refl, sym, ◌∙◌, subst, inl, inr, ℤ, pos, neg_ℤ, ◌-ℤ◌, ◌<ℤ◌, filter, nat_lt, count_by, is_some, None}
+use Rattle.pfair_in_time.proofs.Common.{lt-ltb, sum_by-cons, le_refl, Share, Among, among_filter, among_below, among_map, numbers_below, said, Member, is_departing, lag_at, HasBegun, IsBegun, Settings, Story, counted_one, history, members_before, quanta, slot_of, world, counted_on, slot_more, origin_after}
 use Rattle.pfair_lag.specs.Book.{Book}
 use Rattle.pfair_lag.specs.Lag.{quanta_before, lag_numerator}
 use Rattle.pfair_lag.specs.Laws.{LagsKeepWindows, LagsKeepDeadlines}
-use Rattle.pfair_replica.specs.Among.{Among, among_filter, among_below, among_map}
-use Rattle.pfair_replica.specs.Replica.{numbers_below, said}
-use Rattle.pfair_admission.specs.Member.{Member, is_departing, lag_at}
 use Rattle.pfair_admission.proofs.Each.{each}
 use Rattle.pfair_output.specs.Lags.{is_staying}
 use Rattle.pfair_output.specs.Booked.{first_book}
 use Rattle.pfair_output.proofs.WorldFacts.{HasJoined, after_all, begins_after, over_slots, shown}
-use Rattle.pfair_table.specs.RunsOn.{HasBegun, IsBegun}
-use Rattle.pfair_table.specs.Table.{Settings, Story, counted_one, history, members_before, quanta, slot_of, world}
-use Rattle.pfair_table.proofs.NextIndexes.{counted_on}
-use Rattle.pfair_table.proofs.RunsOn.{slot_more}
 use Rattle.pfair_in_time.specs.Lags.{BooksShowLags, IsWithinOne, LagsStayWithinOne, lag_shown, member_lag}
-use Rattle.pfair_in_time.specs.Runs.{origin_after}
 use Rattle.pfair_in_time.specs.Windows.{slots_since}
 use Rattle.pfair_in_time.proofs.LongRun.{HasLater, IsLater, history_long, itself, long_story, long_weights}
 use Rattle.pfair_in_time.proofs.NextRuns.{begun_after, each_weight, origin_of_stories}

@@ -1,13 +1,6 @@
 -- One incarnation over many slots.
-use Rattle.std.proofs.Common.{◌≡◌, ℕ, zero, suc, ◌<◌, ◌≤◌, true, cond, Some, arith, ap, refl, sym, ◌∙◌, subst, inl, inr}
-use Rattle.std.specs.Prelude.{◌⊎◌, None}
-use Rattle.std.proofs.lemmas.Bool.{cases_eq}
-use Rattle.pfair_weight.specs.Share.{Share}
-use Rattle.pfair_weight.specs.Window.{release_of}
-use Rattle.pfair_replica.specs.Among.{Among}
-use Rattle.pfair_admission.specs.Member.{Member, theta, is_departing}
-use Rattle.pfair_table.specs.Table.{Settings, Story, world}
-use Rattle.pfair_in_time.specs.Descent.{Descends, IsSound}
+use Rattle.std.proofs.Common.{◌≡◌, ℕ, zero, suc, ◌<◌, ◌≤◌, true, cond, Some, arith, ap, refl, sym, ◌∙◌, subst, inl, inr, ◌⊎◌, None}
+use Rattle.pfair_in_time.proofs.Common.{cases_eq, Share, release_of, Among, Member, theta, is_departing, Settings, Story, world, Descends, IsSound}
 use Rattle.pfair_in_time.proofs.Worlds.{runs, IsHere, on, on_next, same_member, here, came_from, goes_to, HaveWeights}
 
 -- n in slot t, or after what is decided for slot t, is the incarnation that m is in slot u

@@ -1,17 +1,8 @@
 -- Runs that follow one another, beside the one long run.
-use Rattle.std.proofs.Common.{◌≡◌, ℕ, ◌+◌, ◌-◌, ◌*◌, ◌<◌, ◌≤◌, List, [], ◌∷◌, None, arith, refl, ap, sym, ◌∙◌, subst, inl, inr}
-use Rattle.std.specs.Prelude.{◌||◌, nat_lt, if◌then◌else◌}
-use Rattle.std.specs.List.{list_any}
-use Rattle.std.proofs.lemmas.Bool.{cases_lt, lt-ltb, le-ltb}
-use Rattle.pfair_weight.specs.Share.{Share}
-use Rattle.pfair_entry.specs.Same.{name_eq}
+use Rattle.std.proofs.Common.{◌≡◌, ℕ, ◌+◌, ◌-◌, ◌*◌, ◌<◌, ◌≤◌, List, [], ◌∷◌, None, arith, refl, ap, sym, ◌∙◌, subst, inl, inr, ◌||◌, nat_lt, if◌then◌else◌}
+use Rattle.pfair_in_time.proofs.Common.{list_any, cases_lt, lt-ltb, le-ltb, Share, name_eq, Among, among_all, among_map, map_among, Member, theta, lag_at, HasBegun, IsWeighedStory, both_stories, Settings, Origin, Story, Table, names_task, slot_of, history, world, table, begun_over, long_early, members_paired, names_of, names_same, slot_on, world_at}
 use Rattle.pfair_ready.specs.Names.{NameValue as Name}
-use Rattle.pfair_replica.specs.Among.{Among, among_all, among_map, map_among}
-use Rattle.pfair_admission.specs.Member.{Member, theta, lag_at}
 use Rattle.pfair_admission.proofs.Beside.{ArePaired, Pair, lag_same, long_of, short_of}
-use Rattle.pfair_table.specs.RunsOn.{HasBegun, IsWeighedStory, both_stories}
-use Rattle.pfair_table.specs.Table.{Settings, Origin, Story, Table, names_task, slot_of, history, world, table}
-use Rattle.pfair_table.proofs.RunsOn.{begun_over, long_early, members_paired, names_of, names_same, slot_on, world_at}
 use Rattle.pfair_table.proofs.TableLaws.{same_history}
 use Rattle.pfair_in_time.proofs.NextRuns.{PastStory, AreWeighedStories, begun_after, both_weights, each_weight, origin_of_stories}
 use Rattle.pfair_in_time.proofs.Worlds.{here}

@@ -1,31 +1,13 @@
 -- No admitted task misses in any run.
-use Rattle.std.proofs.Common.{◌≡◌, ℕ, suc, ◌+◌, ◌-◌, ◌<◌, Bool, true, false, List, [], ◌∷◌, map, Option, Some, None, arith, ap, sym, ◌∙◌, subst}
-use Rattle.std.specs.Prelude.{not, nat_le, nat_lt, is_some, if◌then◌else◌}
-use Rattle.std.specs.List.{AllByRecursion}
-use Rattle.std.proofs.lemmas.Bool.{and_parts, leb-true}
-use Rattle.pfair_weight.specs.Window.{deadline_of}
-use Rattle.pfair_entry.specs.Exact.{name_itself}
-use Rattle.pfair_entry.specs.Same.{name_eq}
+use Rattle.std.proofs.Common.{◌≡◌, ℕ, suc, ◌+◌, ◌-◌, ◌<◌, Bool, true, false, List, [], ◌∷◌, map, Option, Some, None, arith, ap, sym, ◌∙◌, subst, not, nat_le, nat_lt, is_some, if◌then◌else◌}
+use Rattle.pfair_in_time.proofs.Common.{AllByRecursion, and_parts, leb-true, deadline_of, name_itself, name_eq, Key, Among, among_all, among_map, map_among, Member, theta, is_departing, eligible_from, Machine, announcements, decided, member_named, present, eligible_not_early, apart_nil, Pick, IsWeighedStory, IsBegun, IsSlotOf, both_stories, left_over, key_and_freeing, Settings, Origin, Story, machine, slot_of, chosen, index_of, pick, counted_one, history, world, table, label, named_from, counted_on, left_begun, ran_eligible, slot_on, slot_same, IsServed}
 use Rattle.pfair_entry.specs.declared.entry.Said.{Said}
 use Rattle.pfair_entry.specs.declared.entry.Announcement.{Announcement}
 use Rattle.pfair_entry.specs.declared.entry.Announcement.TheVariants.{Arrive, Depart, Late}
 use Rattle.pfair_entry.specs.Entry.{IsWeighed}
-use Rattle.pfair_order.specs.declared.Key.{Key}
-use Rattle.pfair_replica.specs.Among.{Among, among_all, among_map, map_among}
-use Rattle.pfair_admission.specs.Member.{Member, theta, is_departing, eligible_from}
-use Rattle.pfair_admission.specs.Admission.{Machine, announcements, decided, member_named, present}
 use Rattle.pfair_admission.specs.Carried.{all_raised, raised, taken_off}
-use Rattle.pfair_admission.proofs.Keeping.{eligible_not_early}
-use Rattle.pfair_weight.proofs.NamesApart.{apart_nil}
-use Rattle.pfair_table.specs.declared.slot.Pick.{Pick}
-use Rattle.pfair_table.specs.RunsOn.{IsWeighedStory, IsBegun, IsSlotOf, both_stories, left_over, key_and_freeing}
-use Rattle.pfair_table.specs.Table.{Settings, Origin, Story, machine, slot_of, chosen, index_of, pick, counted_one, history, world, table}
 use Rattle.pfair_table.proofs.FirstSubtasks.{found_own}
-use Rattle.pfair_table.proofs.Members.{label, named_from}
-use Rattle.pfair_table.proofs.NextIndexes.{counted_on}
-use Rattle.pfair_table.proofs.RunsOn.{left_begun, ran_eligible, slot_on, slot_same}
 use Rattle.pfair_in_time.specs.InTime.{IsInTime}
-use Rattle.pfair_in_time.specs.Runs.{IsServed}
 use Rattle.pfair_in_time.proofs.InTime.{none, rows}
 use Rattle.pfair_in_time.proofs.Worlds.{HaveWeights, any_from_among, tables_before}
 

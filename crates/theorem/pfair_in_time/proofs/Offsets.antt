@@ -1,14 +1,8 @@
 -- Offsets of a member, before and after a delay.
 use Rattle.std.proofs.Common.{ℕ, ◌-◌, ◌*◌, ◌/◌, ◌<◌, ◌≤◌, arith, inl, inr}
-use Rattle.std.proofs.lemmas.Bool.{cases_lt}
+use Rattle.pfair_in_time.proofs.Common.{cases_lt, le_refl, release_of, Member, theta, with_delay, theta_rises, theta_earlier, theta_later}
 use Rattle.std.proofs.lemmas.Nat.{mul-le}
-use Rattle.std.proofs.Math.Nat.{le_refl}
 use Rattle.pfair_weight.specs.Rounding.{le_div, mul_le_of_div}
-use Rattle.pfair_weight.specs.Window.{release_of}
-use Rattle.pfair_admission.specs.Member.{Member, theta}
-use Rattle.pfair_admission.specs.Admission.{with_delay}
-use Rattle.pfair_admission.proofs.Delays.{theta_rises}
-use Rattle.pfair_admission.proofs.Keeping.{theta_earlier, theta_later}
 
 -- releases rise with the index
 pub release_rises : (m : Member) (i j : ℕ) → 0 < m.weight.cost → i ≤ j → release_of m.weight i (theta m i) ≤ release_of m.weight j (theta m j)

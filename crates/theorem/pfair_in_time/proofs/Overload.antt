@@ -1,21 +1,8 @@
 -- More than there is can't be served: by the end of a frame as many quanta are due as the tasks want.
-use Rattle.std.proofs.Common.{◌≡◌, ℕ, zero, suc, ◌+◌, ◌*◌, ◌/◌, ◌%◌, ◌<◌, ◌≤◌, Bool, true, false, cond, List, [], ◌∷◌, length, arith, ap, refl, sym, ◌∙◌, subst, inl, inr}
-use Rattle.std.specs.Prelude.{◌||◌, sum_by}
+use Rattle.std.proofs.Common.{◌≡◌, ℕ, zero, suc, ◌+◌, ◌*◌, ◌/◌, ◌%◌, ◌<◌, ◌≤◌, Bool, true, false, cond, List, [], ◌∷◌, length, arith, ap, refl, sym, ◌∙◌, subst, inl, inr, ◌||◌, sum_by}
+use Rattle.pfair_in_time.proofs.Common.{true≢false, cases_lt, cases_Bool, sum_by-cons, sum_by_push, mod-eq-sub-div-mul, div-mul-le_self, mul-suc, mul_assoc, mul_comm, NamesApart, Share, IsWeight, units_of, deadline_of, apart_head, apart_tail, name_exact, name_itself, name_eq, Among, among_all, numbers_below, Pick, Table, names_task}
 use Rattle.std.specs.Int.{div_ceil}
-use Rattle.std.proofs.lemmas.Bool.{true≢false, cases_lt, cases_Bool}
-use Rattle.std.proofs.lemmas.List.Sums.{sum_by-cons, sum_by_push}
-use Rattle.std.proofs.Math.Nat.{mod-eq-sub-div-mul, div-mul-le_self, mul-suc, mul_assoc, mul_comm}
-use Rattle.pfair_weight.specs.Name.{NamesApart}
-use Rattle.pfair_weight.specs.Share.{Share, IsWeight, units_of}
-use Rattle.pfair_weight.specs.Window.{deadline_of}
 use Rattle.pfair_weight.specs.Rounding.{div_ceil_of_multiple}
-use Rattle.pfair_weight.proofs.NamesApart.{apart_head, apart_tail}
-use Rattle.pfair_entry.specs.Exact.{name_exact, name_itself}
-use Rattle.pfair_entry.specs.Same.{name_eq}
-use Rattle.pfair_replica.specs.Among.{Among, among_all}
-use Rattle.pfair_replica.specs.Replica.{numbers_below}
-use Rattle.pfair_table.specs.declared.slot.Pick.{Pick}
-use Rattle.pfair_table.specs.Table.{Table, names_task}
 use Rattle.pfair_in_time.specs.Schedules.{Arrival, quanta_before, NoneServesMore}
 
 -- ---- sums

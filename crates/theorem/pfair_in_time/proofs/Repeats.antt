@@ -1,32 +1,15 @@
 -- A static schedule repeats after a common multiple of the periods.
-use Rattle.std.proofs.Common.{◌≡◌, ℕ, zero, suc, ◌+◌, ◌-◌, ◌*◌, ◌/◌, ◌%◌, ◌<◌, ◌≤◌, Bool, true, false, cond, List, [], ◌∷◌, map, Option, Some, None, arith, ap, refl, sym, ◌∙◌, subst, inl, inr, ⊎_elim}
-use Rattle.std.specs.Prelude.{◌||◌, not, nat_le, filter, option_map, if◌then◌else◌}
-use Rattle.std.specs.List.{AllByRecursion, find, list_any}
-use Rattle.std.proofs.lemmas.Bool.{cases_lt, cases_eq, cases_Bool, and_parts, leb-true}
+use Rattle.std.proofs.Common.{◌≡◌, ℕ, zero, suc, ◌+◌, ◌-◌, ◌*◌, ◌/◌, ◌%◌, ◌<◌, ◌≤◌, Bool, true, false, cond, List, [], ◌∷◌, map, Option, Some, None, arith, ap, refl, sym, ◌∙◌, subst, inl, inr, ⊎_elim, ◌||◌, not, nat_le, filter, option_map, if◌then◌else◌}
+use Rattle.pfair_in_time.proofs.Common.{AllByRecursion, find, list_any, cases_lt, cases_eq, cases_Bool, and_parts, leb-true, map-id, le_refl, mod-eq-sub-div-mul, div-mul-le_self, mul-mod_left, mul_comm, Share, IsWeight, units_of, release_of, deadline_of, group_deadline_of, starts_job_of, deadline_rises, window_not_empty, name_eq, Key, Among, among_append, among_filter, among_map, map_among, map_same, Replica, said, Member, theta, is_departing, eligible_from, next_key, Machine, is_named, member_named, arrival, newcomer, effect, is_freed, present, decided, all_decided, announcements, eligible_at_job, Pick, Settings, machine, names_task, next_index, counted_one, counted, is_eligible, eligible, index_of, pick, chosen, table_of, world, table, world_counted}
 use Rattle.std.proofs.lemmas.Bool.Decides.{nat_tests}
-use Rattle.std.proofs.lemmas.List.{map-id}
 use Rattle.std.proofs.lemmas.Nat.{div-add-mod'}
 use Rattle.std.proofs.lemmas.Simd.{map-map}
-use Rattle.std.proofs.Math.Nat.{le_refl, mod-eq-sub-div-mul, div-mul-le_self, mul-mod_left, mul_comm}
-use Rattle.pfair_weight.specs.Share.{Share, IsWeight, units_of}
-use Rattle.pfair_weight.specs.Window.{release_of, deadline_of, group_deadline_of, starts_job_of}
-use Rattle.pfair_weight.specs.WindowFacts.{deadline_rises, window_not_empty}
 use Rattle.pfair_weight.specs.GroupFacts.{group_deadline_light, group_deadline_not_before}
 use Rattle.pfair_weight.specs.JobFacts.{starts_after_jobs, job_released, job_due, release_repeats, deadline_repeats, b_bit_repeats, group_deadline_repeats, starts_job_repeats}
-use Rattle.pfair_entry.specs.Same.{name_eq}
-use Rattle.pfair_order.specs.declared.Key.{Key}
 use Rattle.pfair_order.proofs.Later.{group_later, key_later, filter_mapped, first_later}
-use Rattle.pfair_replica.specs.Among.{Among, among_append, among_filter, among_map, map_among, map_same}
-use Rattle.pfair_replica.specs.Replica.{Replica, said}
 use Rattle.pfair_admission.specs.declared.decision.Decision.{Decision}
 use Rattle.pfair_admission.specs.declared.decision.Decision.TheVariants.{Admitted, Departing, Delayed, Refused}
-use Rattle.pfair_admission.specs.Member.{Member, theta, is_departing, eligible_from, next_key}
-use Rattle.pfair_admission.specs.Admission.{Machine, is_named, member_named, arrival, newcomer, effect, is_freed, present, decided, all_decided, announcements}
-use Rattle.pfair_admission.proofs.Keeping.{eligible_at_job}
-use Rattle.pfair_table.specs.declared.slot.Pick.{Pick}
 use Rattle.pfair_table.specs.Ranks.{first_by_rank}
-use Rattle.pfair_table.specs.Table.{Settings, machine, names_task, next_index, counted_one, counted, is_eligible, eligible, index_of, pick, chosen, table_of, world, table}
-use Rattle.pfair_table.proofs.NextIndexes.{world_counted}
 use Rattle.pfair_in_time.specs.Schedules.{Arrival, announced, SaysOnly}
 use Rattle.pfair_in_time.specs.Repeats.{IsCommonMultiple, quanta_in, later_row, TablesRepeat, RepeatsByPeriods}
 use Rattle.pfair_in_time.proofs.InTime.{none}

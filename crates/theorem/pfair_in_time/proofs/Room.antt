@@ -1,14 +1,7 @@
 -- The weights of the members have room in every slot.
-use Rattle.std.proofs.Common.{◌≡◌, ℕ, zero, suc, List, [], ◌∷◌, arith, ap, refl, subst, sym}
-use Rattle.std.specs.Prelude.{map, None}
-use Rattle.std.proofs.lemmas.List.Sums.{sum_by-cons}
-use Rattle.pfair_weight.specs.Share.{Share, units_of}
+use Rattle.std.proofs.Common.{◌≡◌, ℕ, zero, suc, List, [], ◌∷◌, arith, ap, refl, subst, sym, map, None}
+use Rattle.pfair_in_time.proofs.Common.{sum_by-cons, Share, units_of, Member, claimed, announcements, room_boundary, Settings, machine, counted, counted_one, Story, history, world, world_counted}
 use Rattle.pfair_admission.specs.Laws.{HaveRoom}
-use Rattle.pfair_admission.specs.Member.{Member}
-use Rattle.pfair_admission.specs.Admission.{claimed, announcements}
-use Rattle.pfair_admission.proofs.Keeping.{room_boundary}
-use Rattle.pfair_table.specs.Table.{Settings, machine, counted, counted_one, Story, history, world}
-use Rattle.pfair_table.proofs.NextIndexes.{world_counted}
 
 same_claim : (frame : ℕ) (f : Member → Member) → ((m : Member) → (f m).weight ≡ m.weight) → (ms : List Member) → claimed frame (map f ms) ≡ claimed frame ms
 same_claim frame f keeps [] = refl

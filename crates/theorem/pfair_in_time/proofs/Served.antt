@@ -1,32 +1,14 @@
 -- Tasks that join at slot 0 are all admitted exactly if there is room for them, and then all are served.
-use Rattle.std.proofs.Common.{◌≡◌, ℕ, zero, suc, ◌+◌, ◌-◌, ◌*◌, ◌%◌, ◌<◌, ◌≤◌, true, false, cond, List, [], ◌∷◌, ◌++◌, length, map, Option, Some, None, arith, ap, refl, sym, ◌∙◌, subst, inl, inr, ⊎_elim}
-use Rattle.std.specs.Prelude.{◌↔◌, not, nat_lt, ◌==◌, is_some, if◌then◌else◌}
-use Rattle.std.specs.List.{AllByRecursion, find}
-use Rattle.std.proofs.lemmas.Bool.{true≢false, cases_lt, cases_eq, cases_Bool, le-ltb, eq-eqb}
-use Rattle.std.proofs.lemmas.List.{length-map, append-nil, append_assoc}
-use Rattle.std.proofs.lemmas.List.Sums.{sum_by-cons}
-use Rattle.pfair_weight.specs.Name.{NamesApart}
-use Rattle.pfair_weight.specs.Share.{Share, IsWeight, units_of}
-use Rattle.pfair_weight.specs.Window.{deadline_of}
-use Rattle.pfair_weight.specs.WindowFacts.{deadline_rises, window_not_empty}
-use Rattle.pfair_weight.proofs.NamesApart.{apart_head, apart_tail}
-use Rattle.pfair_entry.specs.Exact.{name_exact, name_itself}
+use Rattle.std.proofs.Common.{◌≡◌, ℕ, zero, suc, ◌+◌, ◌-◌, ◌*◌, ◌%◌, ◌<◌, ◌≤◌, true, false, cond, List, [], ◌∷◌, ◌++◌, length, map, Option, Some, None, arith, ap, refl, sym, ◌∙◌, subst, inl, inr, ⊎_elim, ◌↔◌, not, nat_lt, ◌==◌, is_some, if◌then◌else◌}
+use Rattle.pfair_in_time.proofs.Common.{AllByRecursion, find, true≢false, cases_lt, cases_eq, cases_Bool, le-ltb, eq-eqb, length-map, append-nil, append_assoc, sum_by-cons, NamesApart, Share, IsWeight, units_of, deadline_of, deadline_rises, window_not_empty, apart_head, apart_tail, name_exact, name_itself, name_eq, Among, among_append, among_all, filter_among, among_map, map_among, Replica, said, Member, Machine, is_named, member_named, claimed, arrival, newcomer, effect, is_freed, present, decided, all_decided, all_decisions, announcements, Settings, machine, quanta, counted_one, history, world, table, with_decisions, decisions, world_counted, one_each}
 use Rattle.pfair_entry.specs.declared.entry.Said.{Said}
-use Rattle.pfair_entry.specs.Same.{name_eq}
 use Rattle.pfair_entry.specs.Entry.{IsWeighed}
-use Rattle.pfair_replica.specs.Among.{Among, among_append, among_all, filter_among, among_map, map_among}
-use Rattle.pfair_replica.specs.Replica.{Replica, said}
 use Rattle.pfair_admission.specs.declared.decision.Decision.{Decision}
 use Rattle.pfair_admission.specs.declared.decision.Decision.TheVariants.{Admitted, Refused}
 use Rattle.pfair_admission.specs.declared.decision.Refusal.TheVariants.{NameTaken, PeriodOutsideFrame, NoRoom}
-use Rattle.pfair_admission.specs.Member.{Member}
-use Rattle.pfair_admission.specs.Admission.{Machine, is_named, member_named, claimed, arrival, newcomer, effect, is_freed, present, decided, all_decided, all_decisions, announcements}
 use Rattle.pfair_table.specs.declared.slot.Decided.{Decided}
-use Rattle.pfair_table.specs.Table.{Settings, machine, quanta, counted_one, history, world, table, with_decisions, decisions}
-use Rattle.pfair_table.proofs.NextIndexes.{world_counted}
 use Rattle.pfair_in_time.specs.Schedules.{Arrival, announced, AreArrivals, SaysOnly, units_wanted, quanta_before, IsServed, ServedWhereThereIsRoom}
 use Rattle.pfair_admission.proofs.Deciding.{admitted_room, claimed_arrived}
-use Rattle.pfair_admission.proofs.Keeping.{one_each}
 use Rattle.pfair_in_time.proofs.InTime.{none}
 use Rattle.pfair_in_time.proofs.Overload.{quanta_more}
 use Rattle.pfair_in_time.proofs.Windows.{no_offset}

@@ -1,22 +1,11 @@
 -- The slots of all runs in which a member runs are in its windows.
-use Rattle.std.proofs.Common.{◌≡◌, ℕ, zero, suc, ◌+◌, ◌-◌, ◌*◌, ◌<◌, ◌≤◌, Bool, true, false, cond, List, [], ◌∷◌, length, get_or, max, map, Some, None, arith, refl, ap, sym, ◌∙◌, subst, inl, inr}
-use Rattle.std.specs.Prelude.{is_some, nat_lt, if◌then◌else◌}
-use Rattle.std.specs.List.{AllByRecursion}
-use Rattle.std.proofs.lemmas.Bool.{cases_lt, cases_eq, cases_Bool, true≢false}
+use Rattle.std.proofs.Common.{◌≡◌, ℕ, zero, suc, ◌+◌, ◌-◌, ◌*◌, ◌<◌, ◌≤◌, Bool, true, false, cond, List, [], ◌∷◌, length, get_or, max, map, Some, None, arith, refl, ap, sym, ◌∙◌, subst, inl, inr, is_some, nat_lt, if◌then◌else◌}
+use Rattle.pfair_in_time.proofs.Common.{AllByRecursion, cases_lt, cases_eq, cases_Bool, true≢false, Share, IsWeight, release_of, deadline_of, starts_job_of, Among, Replica, IsReplica, said, Member, theta, is_departing, theta_rises, left_over, Settings, Story, names_task, slot_of, world, table, Past, origin_after, table_through, IsRunAfter, IsServed, NoneMisses}
 use Rattle.std.proofs.lemmas.Nat.{mul-le}
 use Rattle.pfair_weight.specs.JobFacts.{deadline_repeats, job_due, job_released, release_repeats, starts_after_jobs}
-use Rattle.pfair_weight.specs.Share.{Share, IsWeight}
-use Rattle.pfair_weight.specs.Window.{release_of, deadline_of, starts_job_of}
 use Rattle.pfair_lag.specs.Picks.{InWindows, MeetsDeadlines}
-use Rattle.pfair_replica.specs.Among.{Among}
-use Rattle.pfair_replica.specs.Replica.{Replica, IsReplica, said}
-use Rattle.pfair_admission.specs.Member.{Member, theta, is_departing}
-use Rattle.pfair_admission.proofs.Delays.{theta_rises}
 use Rattle.pfair_ready.specs.Names.{NameValue as Name}
-use Rattle.pfair_table.specs.RunsOn.{left_over}
-use Rattle.pfair_table.specs.Table.{Settings, Story, names_task, slot_of, world, table}
 use Rattle.pfair_table.proofs.Within.{said_weighed}
-use Rattle.pfair_in_time.specs.Runs.{Past, origin_after, table_through, IsRunAfter, IsServed, NoneMisses}
 use Rattle.pfair_in_time.specs.Windows.{slots_since, slots_run, KeepsDeadlines, KeepsWindows, DeadlinesAreKept, WindowsAreKept}
 use Rattle.pfair_in_time.proofs.Lines.{IsLine, back_to}
 use Rattle.pfair_in_time.proofs.LongRun.{HasLater, IsLater, long_story, long_weights, runs_long, through_stories, world_long}

@@ -1,14 +1,7 @@
 -- The slots in which a member runs are in its windows.
-use Rattle.std.proofs.Common.{◌≡◌, ℕ, zero, suc, ◌+◌, ◌<◌, ◌≤◌, Bool, true, false, List, [], length, drop, arith, ap, sym, ◌∙◌, inl, inr}
-use Rattle.std.specs.Prelude.{nat_le, filter, sum_by, count_by, None}
-use Rattle.std.proofs.lemmas.Bool.{cases_lt}
-use Rattle.pfair_weight.specs.Share.{Share}
-use Rattle.pfair_weight.specs.Window.{release_of, deadline_of, starts_job_of}
-use Rattle.pfair_weight.specs.WindowFacts.{deadline_rises}
-use Rattle.pfair_replica.specs.Among.{Among}
-use Rattle.pfair_admission.specs.Member.{Member, theta, is_departing}
+use Rattle.std.proofs.Common.{◌≡◌, ℕ, zero, suc, ◌+◌, ◌<◌, ◌≤◌, Bool, true, false, List, [], length, drop, arith, ap, sym, ◌∙◌, inl, inr, nat_le, filter, sum_by, count_by, None}
+use Rattle.pfair_in_time.proofs.Common.{cases_lt, Share, release_of, deadline_of, starts_job_of, deadline_rises, Among, Member, theta, is_departing, Settings, names_task, quanta, next_index, Story, world, table}
 use Rattle.pfair_admission.specs.declared.delay.Delay.{Delay}
-use Rattle.pfair_table.specs.Table.{Settings, names_task, quanta, next_index, Story, world, table}
 use Rattle.pfair_in_time.specs.Windows.{slots_since}
 use Rattle.pfair_in_time.proofs.Worlds.{tables_before, runs, next_more, next_new, here, HaveWeights, index_after}
 use Rattle.pfair_in_time.proofs.Lines.{IsLine}

@@ -1,32 +1,13 @@
 -- The members from one slot to the next.
-use Rattle.std.proofs.Common.{◌≡◌, ℕ, zero, suc, ◌+◌, ◌-◌, ◌≤◌, Bool, true, false, cond, List, [], ◌∷◌, Some, drop, arith, ap, refl, sym, ◌∙◌, subst, inl, inr, ⊎_elim}
-use Rattle.std.specs.Prelude.{◌⊎◌, not, ◌||◌, is_some, filter, nat_le, count_by, None}
-use Rattle.std.specs.List.{list_any}
-use Rattle.std.proofs.lemmas.Bool.{true≢false, false≢true, cases_Bool, and_parts, not-true}
-use Rattle.std.proofs.lemmas.List.{drop_all, drop-append-le}
-use Rattle.std.proofs.lemmas.List.Sums.{sum_by_push}
-use Rattle.std.proofs.lemmas.Option.{same_Some}
-use Rattle.pfair_weight.specs.Name.{NamesApart}
-use Rattle.pfair_weight.proofs.NamesApart.{apart_nil, apart_map, apart_filter}
-use Rattle.pfair_entry.specs.Same.{name_eq}
-use Rattle.pfair_entry.specs.Exact.{name_exact, name_itself}
-use Rattle.pfair_order.specs.declared.Key.{Key}
+use Rattle.std.proofs.Common.{◌≡◌, ℕ, zero, suc, ◌+◌, ◌-◌, ◌≤◌, Bool, true, false, cond, List, [], ◌∷◌, Some, drop, arith, ap, refl, sym, ◌∙◌, subst, inl, inr, ⊎_elim, ◌⊎◌, not, ◌||◌, is_some, filter, nat_le, count_by, None}
+use Rattle.pfair_in_time.proofs.Common.{list_any, true≢false, false≢true, cases_Bool, and_parts, not-true, drop_all, drop-append-le, sum_by_push, same_Some, NamesApart, apart_nil, apart_map, apart_filter, name_eq, name_exact, name_itself, Key, Among, among_all, among_filter, among_map, map_among, among_contains, contains_among, Member, is_departing, busy_until, eligible_from, next_key, announcements, Settings, Table, machine, names_task, quanta, next_index, counted_one, counted, is_eligible, eligible, pick, chosen, Story, history, world, table, Pick, Descends, IsSound, IsNew, named_world, IsCounted, counted_world, long_history, world_counted, any_among}
 use Rattle.pfair_order.specs.Order.{pd2_cmp}
 use Rattle.pfair_order.specs.Rank.{AreFirst}
 use Rattle.pfair_order.proofs.KeyLaws.{keys_total}
 use Rattle.pfair_order.proofs.InOrder.{by_rank_first}
 use Rattle.pfair_order.proofs.RankLemmas.{place_of}
 use Rattle.pfair_order.proofs.NamesApart.{once_from_names}
-use Rattle.pfair_replica.specs.Among.{Among, among_all, among_filter, among_map, map_among, among_contains, contains_among}
-use Rattle.pfair_admission.specs.Member.{Member, is_departing, busy_until, eligible_from, next_key}
-use Rattle.pfair_admission.specs.Admission.{announcements}
-use Rattle.pfair_table.specs.Table.{Settings, Table, machine, names_task, quanta, next_index, counted_one, counted, is_eligible, eligible, pick, chosen, Story, history, world, table}
-use Rattle.pfair_table.specs.declared.slot.Pick.{Pick}
-use Rattle.pfair_in_time.specs.Descent.{Descends, IsSound, IsNew}
 use Rattle.pfair_in_time.specs.Laws.{AllSound, AllHaveWeights, IsFreed}
-use Rattle.pfair_table.proofs.Members.{named_world}
-use Rattle.pfair_table.proofs.NextIndexes.{IsCounted, counted_world, long_history, world_counted}
-use Rattle.pfair_table.proofs.RunsOn.{any_among}
 use Rattle.pfair_in_time.proofs.Boundaries.{named_is, boundaries_keep_members}
 
 -- each arrival that is said has a weight

@@ -1,10 +1,7 @@
 -- The formula of the group deadline is the least time at which a cascade ends.
 use Rattle.std.proofs.Common.{◌≡◌, ℕ, ◌+◌, ◌-◌, ◌*◌, ◌<◌, ◌≤◌, arith, ap, sym, ◌∙◌, inl, inr}
+use Rattle.pfair_optimal.proofs.Common.{cases_lt, cases_eq, cases_order, Share, IsWeight, IsHeavy, lt_of_mul, div_ceil_of_multiple, one_less, release_of, deadline_of, b_bit_of, group_deadline_of, cascade_end}
 use Rattle.std.specs.Int.{div_ceil}
-use Rattle.std.proofs.lemmas.Bool.{cases_lt, cases_eq, cases_order}
-use Rattle.pfair_weight.specs.Share.{Share, IsWeight, IsHeavy}
-use Rattle.pfair_weight.specs.Rounding.{lt_of_mul, div_ceil_of_multiple, one_less}
-use Rattle.pfair_weight.specs.Window.{release_of, deadline_of, b_bit_of, group_deadline_of, cascade_end}
 use Rattle.pfair_weight.specs.WindowFacts.{release_rises, deadline_rises_strictly, windows_overlap, b_bit_at_most_one}
 use Rattle.pfair_weight.specs.GroupFacts.{group_deadline_heavy}
 use Rattle.pfair_optimal.specs.Laws.{EndsCascade, gap, three_slots, GroupDeadlinesAreLeast}

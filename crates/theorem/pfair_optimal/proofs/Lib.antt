@@ -2,6 +2,7 @@ pub mod Beginnings
 mod Blocks
 mod BusyBounds
 mod Cascades
+mod Common
 mod Counting
 mod Ends
 mod Fluids

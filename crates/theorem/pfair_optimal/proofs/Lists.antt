@@ -1,11 +1,9 @@
 -- What is among lists, by a test of being the same.
-use Rattle.std.proofs.Common.{◌≡◌, Bool, true, List, [], ◌∷◌, ◌++◌, ap, refl, sym, ◌∙◌, inl, inr, ⊎_elim, arith}
-use Rattle.std.specs.Prelude.{◌↔◌, ◌⊎◌, ◌&&◌, filter}
+use Rattle.std.proofs.Common.{◌≡◌, Bool, true, List, [], ◌∷◌, ◌++◌, ap, refl, sym, ◌∙◌, inl, inr, ⊎_elim, arith, ◌↔◌, ◌⊎◌, ◌&&◌, filter}
+use Rattle.pfair_optimal.proofs.Common.{and_parts, and_from, false_from_ne_true, false≢true, or_cases, or_left, or_right, is_among, NoneTwice}
 use Rattle.std.specs.List.{list_any}
 use Rattle.std.proofs.lemmas.List.Folds.{list_any-append}
 use Rattle.std.proofs.lemmas.Map.Views.{any-filter_same}
-use Rattle.std.proofs.lemmas.Bool.{and_parts, and_from, false_from_ne_true, false≢true, or_cases, or_left, or_right}
-use Rattle.pfair_optimal.specs.Schedule.{is_among, NoneTwice}
 
 module _ {A : Type 0} (same : A → A → Bool) (exact : (a b : A) → (same a b ≡ true) ↔ (a ≡ b)) where
   pub among_here : (xs : List A) (x : A) → is_among same (x ∷ xs) x ≡ true

@@ -1,9 +1,7 @@
 -- Subtasks that are the same, and those that ran before a time.
-use Rattle.std.proofs.Common.{◌≡◌, ℕ, zero, suc, ◌+◌, ◌-◌, ◌<◌, ◌≤◌, true, false, arith}
-use Rattle.std.specs.Prelude.{◌↔◌}
+use Rattle.std.proofs.Common.{◌≡◌, ℕ, zero, suc, ◌+◌, ◌-◌, ◌<◌, ◌≤◌, true, false, arith, ◌↔◌}
+use Rattle.pfair_optimal.proofs.Common.{false≢true, and_parts, and_from, eqb-true, eq-eqb, Task, Subtask, same_task, same_subtask, next_of, previous_of, Schedule, is_row, has_run, IsRun}
 use Rattle.std.specs.Cmp.Lexicographic.{bytes_decides}
-use Rattle.std.proofs.lemmas.Bool.{false≢true, and_parts, and_from, eqb-true, eq-eqb}
-use Rattle.pfair_optimal.specs.Schedule.{Task, Subtask, same_task, same_subtask, next_of, previous_of, Schedule, is_row, has_run, IsRun}
 
 pub task_exact : (a b : Task) → (same_task a b ≡ true) ↔ (a ≡ b)
 task_exact a b = grind (arith, and_parts, bytes_decides, eqb-true, and_from, eq-eqb)

@@ -1,9 +1,7 @@
 -- Sums over lists.
-use Rattle.std.proofs.Common.{◌≡◌, ℕ, ◌+◌, ◌*◌, ◌<◌, ◌≤◌, Bool, true, false, cond, not, List, [], ◌∷◌, length, arith, ap, refl, sym, ◌∙◌, subst, inl, inr}
-use Rattle.std.specs.Prelude.{◌↔◌, ◌⊎◌, filter, sum_by}
+use Rattle.std.proofs.Common.{◌≡◌, ℕ, ◌+◌, ◌*◌, ◌<◌, ◌≤◌, Bool, true, false, cond, not, List, [], ◌∷◌, length, arith, ap, refl, sym, ◌∙◌, subst, inl, inr, ◌↔◌, ◌⊎◌, filter, sum_by}
+use Rattle.pfair_optimal.proofs.Common.{true≢false, false≢true, cases_lt, cases_Bool, not_from_false, is_among, NoneTwice}
 use Rattle.std.proofs.lemmas.List.Sums.{sum_by-cons}
-use Rattle.std.proofs.lemmas.Bool.{true≢false, false≢true, cases_lt, cases_Bool, not_from_false}
-use Rattle.pfair_optimal.specs.Schedule.{is_among, NoneTwice}
 use Rattle.pfair_optimal.proofs.Lists.{among_here, among_more, among_cases, filter_among}
 
 abbrev pub total : {A : Type 0} → (A → ℕ) → List A → ℕ

@@ -1,3 +1,4 @@
+mod Common
 mod FirstFaults
 mod Following
 pub mod Rows

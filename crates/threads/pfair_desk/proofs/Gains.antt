@@ -1,16 +1,11 @@
 -- How many keys are newly held.
 use Rattle.std.proofs.Common.{◌≡◌, ℕ, zero, suc, ◌+◌, ◌-◌, ◌<◌, ◌≤◌, Bool, true, false, not, cond, ◌&&◌, is_some, is_none, Some, None, IsSome, length, inl, inr, refl, sym, ap, ◌∙◌, subst, arith}
+use Rattle.pfair_desk.proofs.Common.{One, Logged, Replica, sound_beginning, held, replica_of, DeskView, DeskState, state_of, learned, is_gained, gained_in_row, gained_in_rows, SameDesk, NoGapInRow}
 use Rattle.std.proofs.lemmas.Option.{slice_get_cases}
 use Rattle.pfair_lattice.specs.declared.join_map.Flat.{Flat}
-use Rattle.pfair_lattice.specs.declared.join_map.Flat.TheVariants.{One}
 use Rattle.pfair_lattice.specs.Held.{Held}
-use Rattle.pfair_entry.specs.Entry.{Logged}
-use Rattle.pfair_replica.specs.Replica.{Replica, sound_beginning}
 use Rattle.pfair_replica.specs.Laws.{IsReadByNumber}
-use Rattle.pfair_replica.specs.ReplicaRows.{held, replica_of}
 use Rattle.pfair_replica.specs.HeldAfter.{held_after}
-use Rattle.pfair_desk.specs.Desks.{DeskView, DeskState, state_of, learned}
-use Rattle.pfair_desk.specs.Gained.{is_gained, gained_in_row, gained_in_rows, SameDesk, NoGapInRow}
 
 none_gained : (f g : Held Logged) → f ≡ g → (not (is_some f) && is_some g) ≡ false
 none_gained None g is = rw (← is) refl

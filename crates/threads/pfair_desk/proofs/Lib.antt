@@ -1,3 +1,4 @@
+mod Common
 mod Following
 mod Gains
 mod NoteLists

@@ -1,13 +1,9 @@
 -- A list seen through a function of its elements, after a push or a write.
 use Rattle.std.proofs.Common.{◌≡◌, ℕ, ◌+◌, ◌<◌, List, [], ◌∷◌, ◌++◌, length, map, take, Option, Some, None, slice_index_or, slice_set, replicate, sym, ap, ◌∙◌, arith, IfSome}
-use Rattle.std.proofs.lemmas.List.{map-append, take_more, replicate_more, get_or-map, length-map, map-set}
+use Rattle.pfair_desk.proofs.Common.{map-append, take_more, replicate_more, get_or-map, length-map, map-set, Logged, Agrees, Knowledge, knowing, shared, KnowMore}
 use Rattle.std.proofs.Math.Seq.{map-set_same}
 use Rattle.std.proofs.Math.ListN.{get_or-map as seen_or}
 use Rattle.once_cell.specs.declared.race.note.Note.{Note}
-use Rattle.pfair_entry.specs.Entry.{Logged}
-use Rattle.once_cell.specs.Once.{Agrees}
-use Rattle.pfair_desk.specs.Knowledge.{Knowledge, knowing, shared}
-use Rattle.pfair_desk.specs.Noted.{KnowMore}
 use Rattle.pfair_desk.proofs.NotedLemmas.{more_refl, more_learned, learned_at}
 
 abbrev pub says : List (Note Logged) → Knowledge

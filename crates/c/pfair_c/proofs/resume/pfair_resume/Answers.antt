@@ -1,5 +1,4 @@
-use Rattle.std.proofs.Common.{◌≡◌, ◌∙◌, sym, subst, refl, arith, rules, false, ℕ, ◌≤◌, length}
-use Rattle.std.specs.Prelude.{Ok}
+use Rattle.std.proofs.Common.{◌≡◌, ◌∙◌, sym, subst, refl, arith, rules, false, ℕ, ◌≤◌, length, Ok}
 use Rattle.pfair_file.specs.declared.input.TheConstants.{LONGEST_FILE}
 use Rattle.pfair_handle.specs.Kept.{is_kept}
 use Rattle.pfair_c.specs.State.{IsResumeAnswer, IsRunnable}

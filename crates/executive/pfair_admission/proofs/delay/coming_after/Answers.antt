@@ -1,7 +1,5 @@
 use Rattle.std.proofs.Common.{◌<◌, ◌++◌, ◌∷◌, [], ap, subst, sym, length, take, get_or, arith}
-use Rattle.std.specs.Prelude.{unwrap_or}
-use Rattle.std.proofs.lemmas.List.{take_more}
-use Rattle.pfair_admission.specs.declared.delay.Delay.{Delay}
+use Rattle.pfair_admission.proofs.Common.{unwrap_or, take_more, Delay}
 use Rattle.pfair_admission.proofs.Coming.{AreComing, coming_earlier, coming_later, own_fits_one}
 use Rattle.pfair_admission.proofs.delay.coming_after.Goals as goal
 use Rattle.pfair_admission.proofs.delay.coming_after.Goals.{then-delay-next+in_ok-add_at, else-delay-next}

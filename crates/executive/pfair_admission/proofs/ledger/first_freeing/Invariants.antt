@@ -1,6 +1,5 @@
 use Rattle.std.proofs.Common.{take}
-use Rattle.std.specs.Map.{values_of}
-use Rattle.pfair_admission.specs.Removal.{NoneFreedBefore}
+use Rattle.pfair_admission.proofs.Common.{values_of, NoneFreedBefore}
 use Rattle.pfair_admission.proofs.ledger.first_freeing.Given as goal
 
 abbrev pub invariant-loop-place : goal.invariant-loop-place

@@ -1,6 +1,5 @@
 use Rattle.std.proofs.Common.{ap, ◌∙◌, arith}
-use Rattle.std.specs.Map.{values_of}
-use Rattle.pfair_weight.specs.Share.{Share, units_of}
+use Rattle.pfair_admission.proofs.Common.{values_of, Share, units_of}
 use Rattle.pfair_admission.proofs.MemberLists.{claimed_more, claimed_part}
 use Rattle.pfair_admission.proofs.ledger.units.Goals as goal
 

@@ -1,6 +1,5 @@
 use Rattle.std.proofs.Common.{◌≡◌, take}
-use Rattle.std.specs.Map.{values_of}
-use Rattle.pfair_admission.specs.Admission.{claimed}
+use Rattle.pfair_admission.proofs.Common.{values_of, claimed}
 use Rattle.pfair_admission.proofs.ledger.units.Given as goal
 
 abbrev pub invariant-loop-place : goal.invariant-loop-place

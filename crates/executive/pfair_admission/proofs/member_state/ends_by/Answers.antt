@@ -1,9 +1,5 @@
-use Rattle.std.proofs.Common.{ℕ, ◌≡◌, ◌+◌, ◌<◌, false, arith}
-use Rattle.std.specs.Prelude.{nat_le}
-use Rattle.std.specs.List.{sum_by}
-use Rattle.std.proofs.lemmas.Bool.Decides.{nat_tests}
-use Rattle.std.proofs.lemmas.List.Sums.{sum_by_more_le}
-use Rattle.pfair_admission.specs.declared.delay.Delay.{Delay}
+use Rattle.std.proofs.Common.{ℕ, ◌≡◌, ◌+◌, ◌<◌, false, arith, nat_le}
+use Rattle.pfair_admission.proofs.Common.{sum_by, nat_tests, sum_by_more_le, Delay}
 use Rattle.pfair_admission.proofs.member_state.ends_by.Goals as goal
 
 above : (n last : ℕ) → last < n → false ≡ nat_le n last

@@ -1,5 +1,5 @@
 use Rattle.std.proofs.Common.{◌≡◌, map, take}
-use Rattle.pfair_lag.specs.Accounts.{with_quanta}
+use Rattle.pfair_lag.proofs.Common.{with_quanta}
 use Rattle.pfair_lag.proofs.book.count_quanta.Given as goal
 
 abbrev pub invariant-loop-pick : goal.invariant-loop-pick

@@ -1,6 +1,5 @@
 use Rattle.std.proofs.Common.{ℕ, ◌≤◌, ◌<◌}
-use Rattle.pfair_weight.specs.Window.{deadline_of}
-use Rattle.pfair_lag.specs.Picks.{pick_of}
+use Rattle.pfair_lag.proofs.Common.{deadline_of, pick_of}
 use Rattle.pfair_lag.proofs.deadlines.first_late.Given as goal
 
 abbrev pub invariant-loop-place : goal.invariant-loop-place

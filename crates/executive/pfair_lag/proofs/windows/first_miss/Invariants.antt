@@ -1,6 +1,5 @@
 use Rattle.std.proofs.Common.{ℕ, ◌≤◌, ◌<◌}
-use Rattle.pfair_weight.specs.Window.{release_of, deadline_of}
-use Rattle.pfair_lag.specs.Picks.{pick_of}
+use Rattle.pfair_lag.proofs.Common.{release_of, deadline_of, pick_of}
 use Rattle.pfair_lag.proofs.windows.first_miss.Given as goal
 
 abbrev pub invariant-loop-place : goal.invariant-loop-place

@@ -1,12 +1,6 @@
 use Rattle.std.proofs.Common.{◌≡◌, ◌≤◌, ◌∷◌, ◌++◌, [], OnErr, Ok, Err, List, length, map, refl, take, sym, ap, ◌∙◌, arith}
-use Rattle.std.proofs.lemmas.List.{length-map, length-take, take_all, take_more}
-use Rattle.pfair_order.specs.declared.Key.{Key}
-use Rattle.pfair_order.specs.Order.{pd2_cmp}
-use Rattle.pfair_order.specs.Rank.{first_by_rank}
-use Rattle.pfair_order.proofs.KeyLaws.{keys_total}
-use Rattle.pfair_order.proofs.RankLemmas.{first_within}
+use Rattle.pfair_ready.proofs.Common.{length-map, length-take, take_all, take_more, Key, pd2_cmp, first_by_rank, keys_total, first_within, Queue, released, without}
 use Rattle.pfair_order.proofs.InOrder.{by_rank_first}
-use Rattle.pfair_ready.specs.Queue.{Queue, released, without}
 use Rattle.pfair_ready.proofs.Released.{without_none}
 use Rattle.pfair_ready.proofs.Taking.{one_more}
 use Rattle.pfair_ready.proofs.Ready.take_seated.Given.{Over}

@@ -1,6 +1,5 @@
-use Rattle.std.proofs.Common.{◌+◌, ◌∙◌, List, ap}
-use Rattle.std.specs.Prelude.{slice_index_or}
-use Rattle.pfair_ready.specs.declared.calendar.Date.{Date}
+use Rattle.std.proofs.Common.{◌+◌, ◌∙◌, List, ap, slice_index_or}
+use Rattle.pfair_ready.proofs.Common.{Date}
 use Rattle.pfair_ready.proofs.CalendarLemmas.{IsFrom, from_next}
 use Rattle.pfair_ready.proofs.DateLemmas.{moves_more}
 use Rattle.pfair_ready.proofs.calendar.release_all.Goals as goal

@@ -1,6 +1,5 @@
-use Rattle.std.proofs.Common.{◌≤◌}
-use Rattle.std.specs.Prelude.{Contains}
-use Rattle.pfair_ready.specs.Calendar.{Moves}
+use Rattle.std.proofs.Common.{◌≤◌, Contains}
+use Rattle.pfair_ready.proofs.Common.{Moves}
 use Rattle.pfair_ready.proofs.CalendarLemmas.{IsFrom}
 use Rattle.pfair_ready.proofs.calendar.release_all.Given as goal
 

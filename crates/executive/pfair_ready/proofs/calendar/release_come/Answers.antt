@@ -1,9 +1,5 @@
 use Rattle.std.proofs.Common.{◌<◌, refl}
-use Rattle.std.specs.declared.cmp.Reverse.{Reverse}
-use Rattle.std.proofs.lemmas.List.Elements.{All-map}
-use Rattle.pfair_ready.specs.declared.calendar.Date.{Date}
-use Rattle.std.specs.BinaryHeap.{heap_items}
-use Rattle.pfair_ready.specs.Calendar.{dates_of, IsAmong}
+use Rattle.pfair_ready.proofs.Common.{Reverse, All-map, Date, heap_items, dates_of, IsAmong}
 use Rattle.pfair_ready.proofs.DateLemmas.{moves_kept, moves_more, popped_order}
 use Rattle.pfair_ready.proofs.HeapLemmas.{popped, taken, top_or_stays}
 use Rattle.pfair_ready.proofs.calendar.release_come.Goals as goal

@@ -1,6 +1,5 @@
 use Rattle.std.proofs.Common.{length}
-use Rattle.std.specs.BinaryHeap.{heap_items, IsHeap}
-use Rattle.pfair_ready.specs.Calendar.{dates_of, later_cmp, IsAmong, Moves}
+use Rattle.pfair_ready.proofs.Common.{heap_items, IsHeap, dates_of, later_cmp, IsAmong, Moves}
 use Rattle.pfair_ready.proofs.calendar.release_come.Given as goal
 
 abbrev pub invariant-loop-date : goal.invariant-loop-date

@@ -1,7 +1,5 @@
-use Rattle.std.proofs.Common.{◌≡◌, Some, rules, sym, subst, ◌∙◌}
-use Rattle.std.specs.Prelude.{slice_get}
-use Rattle.std.specs.Cmp.Lexicographic.{bytes_decides}
-use Rattle.pfair_ready.specs.Waiting.{IsEntryOf}
+use Rattle.std.proofs.Common.{◌≡◌, Some, rules, sym, subst, ◌∙◌, slice_get}
+use Rattle.pfair_ready.proofs.Common.{bytes_decides, IsEntryOf}
 use Rattle.pfair_ready.proofs.WaitingLemmas.{each_entry}
 use Rattle.pfair_ready.proofs.waiting.find.Goals as goal
 

@@ -1,8 +1,5 @@
-use Rattle.std.proofs.Common.{◌≡◌, Some, rules, sym, subst, ◌∙◌}
-use Rattle.std.specs.Prelude.{IfSome, slice_get}
-use Rattle.std.specs.Cmp.Lexicographic.{bytes_decides}
-use Rattle.pfair_ready.specs.Names.{NameValue}
-use Rattle.pfair_ready.specs.Waiting.{IsEntryOf}
+use Rattle.std.proofs.Common.{◌≡◌, Some, rules, sym, subst, ◌∙◌, IfSome, slice_get}
+use Rattle.pfair_ready.proofs.Common.{bytes_decides, NameValue, IsEntryOf}
 use Rattle.pfair_ready.proofs.WaitingLemmas.{each_entry}
 use Rattle.pfair_ready.proofs.waiting.find_turn.Goals as goal
 

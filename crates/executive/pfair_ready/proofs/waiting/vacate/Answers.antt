@@ -1,12 +1,7 @@
-use Rattle.std.proofs.Common.{◌≡◌, ℕ, None, Some, Option, refl, rules, sym, ap, ◌∙◌}
-use Rattle.std.specs.Prelude.{is_some, slice_get}
+use Rattle.std.proofs.Common.{◌≡◌, ℕ, None, Some, Option, refl, rules, sym, ap, ◌∙◌, is_some, slice_get}
+use Rattle.pfair_ready.proofs.Common.{same_Some, Key, HeldKey, NameValue, held_under, is_due, key_under, queue_in}
 use Rattle.std.specs.FinMap as finmap
-use Rattle.std.proofs.lemmas.Option.{same_Some}
-use Rattle.pfair_order.specs.declared.Key.{Key}
 use Rattle.pfair_ready.specs.declared.waiting.Entry.{Entry}
-use Rattle.pfair_ready.specs.declared.waiting.HeldKey.{HeldKey}
-use Rattle.pfair_ready.specs.Names.{NameValue}
-use Rattle.pfair_ready.specs.Waiting.{held_under, is_due, key_under, queue_in}
 use Rattle.pfair_ready.proofs.Taking.{due_held}
 use Rattle.pfair_ready.proofs.WaitingLemmas.{entry_read, entry_kept, entry_vacated}
 use Rattle.pfair_ready.proofs.waiting.vacate.Goals as goal

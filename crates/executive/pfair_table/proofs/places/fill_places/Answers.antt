@@ -1,6 +1,5 @@
 use Rattle.std.proofs.Common.{ℕ, ◌+◌, ◌++◌, ◌∙◌, sym, ap, subst, arith, drop, List, [], ◌∷◌, Option, Some, None}
-use Rattle.std.proofs.lemmas.List.{drop_more, drop_all, append-nil}
-use Rattle.pfair_table.specs.Places.{all_kept, filled}
+use Rattle.pfair_table.proofs.Common.{drop_more, drop_all, append-nil, all_kept, filled}
 use Rattle.pfair_table.proofs.PlacesKept.{kept_count}
 use Rattle.pfair_table.proofs.Filling.{AreFilledSoFar, filled_kept, filled_free, room_left, not_full}
 use Rattle.pfair_table.proofs.places.fill_places.Goals.{in-Some, in-None}

@@ -1,11 +1,7 @@
-use Rattle.std.proofs.Common.{ℕ, ◌≡◌, refl, sym, ap, ◌∙◌, arith, inl, inr, List, [], ◌∷◌, length, Some, None, Iter}
-use Rattle.std.specs.Prelude.{if◌then◌else◌}
+use Rattle.std.proofs.Common.{ℕ, ◌≡◌, refl, sym, ap, ◌∙◌, arith, inl, inr, List, [], ◌∷◌, length, Some, None, Iter, if◌then◌else◌}
+use Rattle.pfair_table.proofs.Common.{nil_from_length, Pick, Table, place_of}
 use Rattle.std.specs.declared.iter.Zip.{Zip}
-use Rattle.std.proofs.lemmas.List.{nil_from_length}
-use Rattle.pfair_table.specs.declared.slot.Pick.{Pick}
-use Rattle.pfair_table.specs.Table.{Table}
 use Rattle.pfair_ready.specs.Names.{NameValue as Name}
-use Rattle.pfair_table.specs.Places.{place_of}
 use Rattle.pfair_table.proofs.places.find_place.Goals as goal
 
 -- without places a table has none for a task

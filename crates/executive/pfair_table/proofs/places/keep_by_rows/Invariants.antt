@@ -1,5 +1,5 @@
 use Rattle.std.proofs.Common.{◌≡◌, take}
-use Rattle.pfair_table.specs.Places.{kept_places}
+use Rattle.pfair_table.proofs.Common.{kept_places}
 use Rattle.pfair_table.proofs.places.keep_by_rows.Given as goal
 
 abbrev pub invariant-loop-pick : goal.invariant-loop-pick

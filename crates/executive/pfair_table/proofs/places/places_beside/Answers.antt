@@ -1,7 +1,5 @@
 use Rattle.std.proofs.Common.{ℕ, ◌≡◌, ◌<◌, ◌∙◌, sym, ap, subst, arith, List, Option, length, IfOk}
-use Rattle.std.specs.List.{AllByRecursion}
-use Rattle.pfair_table.specs.Places.{kept_places, all_kept, filled}
-use Rattle.pfair_replica.specs.Among.{all_among, among_all}
+use Rattle.pfair_table.proofs.Common.{AllByRecursion, kept_places, all_kept, filled, all_among, among_all}
 use Rattle.pfair_table.proofs.PlacesKept.{kept_among, kept_long}
 use Rattle.pfair_table.proofs.places.places_beside.Goals as goal
 

@@ -1,14 +1,5 @@
 use Rattle.std.proofs.Common.{ℕ, ◌<◌, ◌≤◌, ◌∙◌, ◌∷◌, [], ◌++◌, sym, ap, subst, arith, length, List, map}
-use Rattle.std.specs.List.{AllByRecursion}
-use Rattle.pfair_replica.specs.ReplicaRows.{replica_of}
-use Rattle.pfair_replica.specs.Replica.{Replica, said, numbers_below}
-use Rattle.pfair_table.specs.declared.slot.Decided.{Decided}
-use Rattle.pfair_table.specs.Places.{places_after, places_in, table_before, places_before, IsFit}
-use Rattle.pfair_table.specs.Limits.{IsOrigin}
-use Rattle.pfair_table.specs.Planned.{PlannedSlots, IsNext, last_or}
-use Rattle.pfair_table.specs.Refinement.{IsPlanOf}
-use Rattle.pfair_table.specs.Table.{Settings, Origin, Table, table, decisions, history}
-use Rattle.pfair_admission.proofs.Each.{each}
+use Rattle.pfair_table.proofs.Common.{AllByRecursion, replica_of, Replica, said, numbers_below, Decided, places_after, places_in, table_before, places_before, IsFit, IsOrigin, PlannedSlots, IsNext, last_or, IsPlanOf, Settings, Origin, Table, table, decisions, history, each}
 use Rattle.pfair_table.proofs.PlacesOn.{fit_before, fit_plan, last_fit, last_places, next_are}
 use Rattle.pfair_table.proofs.PlacesKept.{places_before_are}
 use Rattle.pfair_table.proofs.TableLaws.{ordered_from}

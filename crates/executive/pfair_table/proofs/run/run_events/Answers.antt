@@ -1,9 +1,6 @@
 use Rattle.std.proofs.Common.{◌≡◌, ◌+◌, ◌∙◌, sym, ap, subst, drop, List}
-use Rattle.std.specs.List.{AllByRecursion}
+use Rattle.pfair_table.proofs.Common.{AllByRecursion, Settings, IsEvent, Course, happens, run, course_of}
 use Rattle.pfair_table.specs.declared.run.Event.{Event}
-use Rattle.pfair_table.specs.Table.{Settings}
-use Rattle.pfair_table.specs.Events.{IsEvent, Course, happens, run}
-use Rattle.pfair_table.specs.Refinement.{course_of}
 use Rattle.pfair_table.proofs.QueueKept.{drop_item}
 use Rattle.pfair_table.proofs.run.run_events.Goals as goal
 

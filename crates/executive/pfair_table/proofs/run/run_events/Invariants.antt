@@ -1,7 +1,5 @@
 use Rattle.std.proofs.Common.{◌≡◌, drop, false}
-use Rattle.std.specs.List.{AllByRecursion}
-use Rattle.pfair_table.specs.Events.{IsEvent, run, run_of}
-use Rattle.pfair_table.specs.Refinement.{course_of}
+use Rattle.pfair_table.proofs.Common.{AllByRecursion, IsEvent, run, run_of, course_of}
 use Rattle.pfair_table.proofs.run.run_events.Given as goal
 
 abbrev pub invariant-loop-event : goal.invariant-loop-event

@@ -1,5 +1,5 @@
 use Rattle.std.proofs.Common.{arith}
-use Rattle.pfair_table.specs.Script.{lists_of}
+use Rattle.pfair_table.proofs.Common.{lists_of}
 use Rattle.pfair_table.proofs.Scripts.{capacity_some}
 use Rattle.pfair_table.proofs.script.longest.Goals as goal
 

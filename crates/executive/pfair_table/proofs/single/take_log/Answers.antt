@@ -1,7 +1,5 @@
 use Rattle.std.proofs.Common.{refl, ◌<◌, ◌≡◌, ◌∙◌, ap, arith, Some, slice_get, length, take, [], ◌∷◌, ◌++◌, ◌+◌}
-use Rattle.std.proofs.lemmas.Option.{slice_get_read}
-use Rattle.pfair_replica.specs.Offered.{taken}
-use Rattle.pfair_table.specs.Script.{held_of}
+use Rattle.pfair_table.proofs.Common.{slice_get_read, taken, held_of}
 use Rattle.pfair_table.proofs.Scripts.{log_begun, taken_next, log_taken}
 use Rattle.pfair_table.proofs.single.take_log.Goals as goal
 

@@ -1,7 +1,5 @@
 use Rattle.std.proofs.Common.{◌≡◌, List, [], ◌∷◌, ◌++◌, take, Some, slice_get}
-use Rattle.pfair_entry.specs.Entry.{Logged}
-use Rattle.pfair_replica.specs.ReplicaRows.{replica_of}
-use Rattle.pfair_table.specs.Script.{held_of}
+use Rattle.pfair_table.proofs.Common.{Logged, replica_of, held_of}
 use Rattle.pfair_table.proofs.single.take_log.Given as goal
 
 abbrev pub invariant-loop-index : goal.invariant-loop-index

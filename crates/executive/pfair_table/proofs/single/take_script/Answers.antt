@@ -1,10 +1,5 @@
 use Rattle.std.proofs.Common.{◌≡◌, ◌∙◌, sym, ap, arith, length, take}
-use Rattle.std.proofs.Math.Seq.{take-length}
-use Rattle.pfair_replica.specs.Replica.{empty_replica}
-use Rattle.pfair_table.specs.Table.{Settings}
-use Rattle.pfair_table.specs.Events.{Course}
-use Rattle.pfair_table.specs.Refinement.{Dispatch}
-use Rattle.pfair_table.specs.Script.{held_of}
+use Rattle.pfair_table.proofs.Common.{take-length, empty_replica, Settings, Course, Dispatch, held_of}
 use Rattle.pfair_table.proofs.Scripts.{log_is_short}
 use Rattle.pfair_table.proofs.single.take_script.Goals as goal
 

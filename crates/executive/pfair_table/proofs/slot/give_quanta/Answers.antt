@@ -1,9 +1,6 @@
 use Rattle.std.proofs.Common.{◌≡◌, ◌∙◌, sym, ap, subst, map, List, IfOk}
-use Rattle.pfair_order.specs.declared.Key.{Key}
+use Rattle.pfair_table.proofs.Common.{Key, without, pick, IsQueueWithout, keys_of}
 use Rattle.pfair_ready.specs.declared.Seated.{Seated}
-use Rattle.pfair_ready.specs.Queue.{without}
-use Rattle.pfair_table.specs.Table.{pick}
-use Rattle.pfair_table.specs.Queue.{IsQueueWithout, keys_of}
 use Rattle.pfair_table.proofs.FirstSubtasks.{first_of_queue, first_apart, first_may_run, queue_without}
 use Rattle.pfair_table.proofs.slot.give_quanta.Goals as goal
 

@@ -1,7 +1,5 @@
 use Rattle.std.proofs.Common.{◌≡◌, sym, ap, ◌∙◌, None}
-use Rattle.std.specs.Option.{option_copied}
-use Rattle.pfair_admission.specs.Admission.{member_named}
-use Rattle.pfair_table.specs.Queue.{queued}
+use Rattle.pfair_table.proofs.Common.{option_copied, member_named, queued}
 use Rattle.pfair_table.proofs.QueueKept.{notified_gone, notified_next, queued_departing}
 use Rattle.pfair_table.proofs.slot.notify_of.Goals as goal
 

@@ -1,10 +1,7 @@
 use Rattle.std.proofs.Common.{◌∙◌, ◌≡◌, sym, ap, arith, Bor}
-use Rattle.std.proofs.lemmas.Option.{none-some, same_Some}
-use Rattle.pfair_replica.proofs.SoundEntries.{some_at}
+use Rattle.pfair_table.proofs.Common.{none-some, same_Some, some_at, option_map, Member}
 use Rattle.pfair_weight.specs.declared.name.TaskName.{TaskName}
-use Rattle.std.specs.Option.{option_map}
 use Rattle.std.specs.FinMap as finmap
-use Rattle.pfair_admission.specs.Member.{Member}
 use Rattle.pfair_table.proofs.QueueKept.{besides_all, besides_at}
 use Rattle.pfair_table.proofs.slot.ready_of.Goals.{in-Some+in_ok-notify_of, in_default}
 use Rattle.pfair_table.proofs.slot.ready_of.Goals as goal

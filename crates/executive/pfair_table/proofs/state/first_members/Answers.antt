@@ -1,9 +1,6 @@
 use Rattle.std.proofs.Common.{◌≡◌, ◌∙◌, ap, map, subst, sym, Some, None, Result, Ok, Err, IfOk}
-use Rattle.pfair_admission.specs.Carried.{carried}
-use Rattle.pfair_admission.specs.Roster.{Roster}
+use Rattle.pfair_table.proofs.Common.{carried, Roster, IsOrigin, Settings, Origin, Carried, machine, members_before}
 use Rattle.pfair_admission.proofs.RestoredRuns.{all_again}
-use Rattle.pfair_table.specs.Limits.{IsOrigin}
-use Rattle.pfair_table.specs.Table.{Settings, Origin, Carried, machine, members_before}
 use Rattle.pfair_table.proofs.state.first_members.Goals as goal
 
 -- members that a run left stay as they are if they are carried

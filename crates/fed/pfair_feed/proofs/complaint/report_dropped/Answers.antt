@@ -1,7 +1,5 @@
 use Rattle.std.proofs.Common.{ℕ, ◌≡◌, ◌<◌, refl, ap, ◌∙◌, arith}
-use Rattle.pfair_table.specs.Refinement.{Dispatch}
-use Rattle.pfair_table.specs.Table.{Settings}
-use Rattle.pfair_feed.specs.Missing.{dropped_of}
+use Rattle.pfair_feed.proofs.Common.{Dispatch, Settings, dropped_of}
 use Rattle.pfair_feed.proofs.Writing.{on_err, cut_short}
 use Rattle.pfair_feed.proofs.complaint.report_dropped.Goals as goal
 

@@ -1,7 +1,5 @@
-use Rattle.std.specs.Io.KnownBytes.{Appends}
 use Rattle.std.proofs.Common.{flat_map}
-use Rattle.pfair_replica.specs.Replica.{numbers_below}
-use Rattle.pfair_feed.specs.Missing.{dropped_of}
+use Rattle.pfair_feed.proofs.Common.{Appends, numbers_below, dropped_of}
 use Rattle.pfair_feed.proofs.complaint.report_dropped.Given as goal
 
 -- the lines of the logs so far

@@ -1,9 +1,5 @@
-use Rattle.std.proofs.Common.{ℕ, ◌+◌, ◌≡◌, ◌<◌, Bool, true, List, [], ap, ◌∙◌, arith, codes, length, sym}
-use Rattle.std.specs.Prelude.{if◌then◌else◌}
-use Rattle.pfair_replica.specs.ReplicaRows.{ReplicaRows, held, replica_of}
-use Rattle.pfair_replica.specs.Replica.{sound_beginning}
-use Rattle.pfair_table.specs.Refinement.{Dispatch}
-use Rattle.pfair_feed.specs.Missing.{dropped_line, is_past, key_line}
+use Rattle.std.proofs.Common.{ℕ, ◌+◌, ◌≡◌, ◌<◌, Bool, true, List, [], ap, ◌∙◌, arith, codes, length, sym, if◌then◌else◌}
+use Rattle.pfair_feed.proofs.Common.{ReplicaRows, held, replica_of, sound_beginning, Dispatch, dropped_line, is_past, key_line}
 use Rattle.pfair_feed.proofs.Writing.{on_err, cut_short}
 use Rattle.pfair_feed.proofs.complaint.report_dropped_of.Goals as goal
 

@@ -1,7 +1,6 @@
 use Rattle.std.proofs.Common.{rules, ℕ, ◌≡◌, List, [], ◌∷◌, ◌++◌, subst, decimal}
-use Rattle.std.specs.Io.KnownBytes.{Appends}
+use Rattle.pfair_feed.proofs.Common.{Appends, TakesPrefix}
 use Rattle.std.proofs.lemmas.Result.{on_err_weaker}
-use Rattle.pfair_text.specs.Output.{TakesPrefix}
 use Rattle.pfair_feed.proofs.Writing.{on_err, prefix_behind, prefix_first}
 use Rattle.pfair_feed.proofs.complaint.report_key.Goals as goal
 

@@ -1,9 +1,5 @@
 use Rattle.std.proofs.Common.{ℕ, ◌≡◌, ◌<◌, sym, ap, ◌∙◌, arith}
-use Rattle.pfair_replica.specs.ReplicaRows.{replica_of}
-use Rattle.pfair_table.specs.Refinement.{Dispatch}
-use Rattle.pfair_table.specs.Table.{Settings}
-use Rattle.pfair_feed.specs.Follow.{missing_of}
-use Rattle.pfair_feed.specs.Missing.{missing_line, missing_lines}
+use Rattle.pfair_feed.proofs.Common.{replica_of, Dispatch, Settings, missing_of, missing_line, missing_lines}
 use Rattle.pfair_feed.proofs.Writing.{on_err, cut_short}
 use Rattle.pfair_feed.proofs.complaint.report_missing.Goals as goal
 

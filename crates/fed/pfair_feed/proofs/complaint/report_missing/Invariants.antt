@@ -1,9 +1,5 @@
-use Rattle.std.specs.Io.KnownBytes.{Appends}
 use Rattle.std.proofs.Common.{flat_map}
-use Rattle.pfair_replica.specs.ReplicaRows.{replica_of}
-use Rattle.pfair_replica.specs.Replica.{numbers_below}
-use Rattle.pfair_feed.specs.Follow.{missing_of}
-use Rattle.pfair_feed.specs.Missing.{missing_lines}
+use Rattle.pfair_feed.proofs.Common.{Appends, replica_of, numbers_below, missing_of, missing_lines}
 use Rattle.pfair_feed.proofs.complaint.report_missing.Given as goal
 
 -- the lines of the logs so far

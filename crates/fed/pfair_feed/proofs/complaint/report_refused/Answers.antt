@@ -1,8 +1,5 @@
-use Rattle.std.proofs.Common.{ℕ, List, Option, Result, ◌≤◌, length, arith}
-use Rattle.std.proofs.lemmas.List.{length-take}
-use Rattle.std.specs.Prelude.{OnErr, OnOk}
-use Rattle.std.specs.Io.KnownBytes.{Appends}
-use Rattle.pfair_text.specs.Output.{TakesPrefix}
+use Rattle.std.proofs.Common.{ℕ, List, Option, Result, ◌≤◌, length, arith, OnErr, OnOk}
+use Rattle.pfair_feed.proofs.Common.{length-take, Appends, TakesPrefix}
 use Rattle.pfair_text.specs.declared.rows.WriteFailed.{WriteFailed}
 use Rattle.pfair_feed.proofs.Writing.{all_or_cut}
 use Rattle.pfair_feed.proofs.complaint.report_refused.Goals as goal

@@ -1,8 +1,5 @@
 use Rattle.std.proofs.Common.{◌≡◌, ◌<◌, ◌∙◌, arith, length, Some, slice_get, refl}
-use Rattle.std.proofs.lemmas.List.{take_all}
-use Rattle.std.proofs.lemmas.Option.{slice_get_read}
-use Rattle.pfair_text.specs.Rows.{text_so_far}
-use Rattle.pfair_entry.specs.Notice.{IsLoggable}
+use Rattle.pfair_feed.proofs.Common.{take_all, slice_get_read, text_so_far, IsLoggable}
 use Rattle.pfair_feed.proofs.ScriptRows.{all_next, entry_more}
 use Rattle.pfair_feed.proofs.entries.add_log.Goals as goal
 

@@ -1,8 +1,5 @@
 use Rattle.std.proofs.Common.{◌≡◌, ◌+◌, ◌++◌, drop, take}
-use Rattle.std.specs.List.{AllByRecursion}
-use Rattle.pfair_entry.specs.Notice.{IsLoggable}
-use Rattle.pfair_text.specs.Rows.{IsOpen, lines_text, text_so_far}
-use Rattle.pfair_feed.specs.Entries.{log_rows, numbered_from}
+use Rattle.pfair_feed.proofs.Common.{AllByRecursion, IsLoggable, IsOpen, lines_text, text_so_far, log_rows, numbered_from}
 use Rattle.pfair_feed.proofs.entries.add_log.Given as goal
 
 -- the text so far, with the rows that are left, is the whole; and the entries so far are such as a log may have

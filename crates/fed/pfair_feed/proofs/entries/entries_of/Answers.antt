@@ -1,13 +1,6 @@
 use Rattle.std.proofs.Common.{List, ◌≡◌, ◌<◌, ◌++◌, ◌∙◌, sym, ap, arith, length, subst}
-use Rattle.std.specs.List.{AllByRecursion}
-use Rattle.std.proofs.lemmas.List.{take_all}
-use Rattle.std.proofs.lemmas.Option.{same_Some}
-use Rattle.pfair_entry.specs.Entry.{Logged}
-use Rattle.pfair_text.specs.Rows.{lines_text, text_so_far}
-use Rattle.pfair_table.specs.Table.{Settings}
+use Rattle.pfair_feed.proofs.Common.{AllByRecursion, take_all, same_Some, Logged, lines_text, text_so_far, Settings, IsLoggable, log_rows}
 use Rattle.pfair_output.proofs.SlotFacts.{slot_more, slots_done}
-use Rattle.pfair_entry.specs.Notice.{IsLoggable}
-use Rattle.pfair_feed.specs.Entries.{log_rows}
 use Rattle.pfair_feed.proofs.ScriptRows.{all_next}
 use Rattle.pfair_feed.proofs.entries.entries_of.Goals as goal
 

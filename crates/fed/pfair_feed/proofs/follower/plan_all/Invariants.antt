@@ -1,7 +1,5 @@
 use Rattle.std.proofs.Common.{◌≡◌, ◌-◌, true, length}
-use Rattle.pfair_replica.specs.ReplicaRows.{replica_of}
-use Rattle.pfair_replica.specs.Replica.{has_torn}
-use Rattle.pfair_feed.specs.Follow.{IsGrown}
+use Rattle.pfair_feed.proofs.Common.{replica_of, has_torn, IsGrown}
 use Rattle.pfair_feed.proofs.follower.plan_all.Given as goal
 
 -- more is planned, unless something is torn or the dispatcher is spent

@@ -1,8 +1,5 @@
 use Rattle.std.proofs.Common.{refl, ◌≡◌, ◌≤◌, ◌++◌, ◌∷◌, [], ℕ, List, arith, inl, inr, length, take, get_or, rules}
-use Rattle.std.specs.Io.KnownBytes.{Consumes}
-use Rattle.std.proofs.lemmas.List.{drop_all}
-use Rattle.pfair_feed.specs.Feeding.{IsStopped}
-use Rattle.pfair_feed.specs.Follow.{IsPlannedOut}
+use Rattle.pfair_feed.proofs.Common.{Consumes, drop_all, IsStopped, IsPlannedOut}
 use Rattle.std.proofs.KnownBytes.{Keeps-refl}
 use Rattle.pfair_feed.proofs.Lines.{fed_byte, fed_line, fed_nothing, fed_to, few_taken, if_err, kept_full, kept_pushed, next_left, read_more, same_more, stopped_in}
 use Rattle.pfair_feed.proofs.input.read_lines.Goals as goal

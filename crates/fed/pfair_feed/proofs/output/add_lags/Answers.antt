@@ -1,6 +1,5 @@
 use Rattle.std.proofs.Common.{◌≡◌, ◌++◌, ◌∙◌, sym, ap}
-use Rattle.pfair_text.specs.Rows.{lines_text, text_so_far}
-use Rattle.pfair_feed.specs.Rows.{book_before}
+use Rattle.pfair_feed.proofs.Common.{lines_text, text_so_far, book_before}
 use Rattle.pfair_feed.proofs.Books.{caught_up, rows_on, book_whole}
 use Rattle.pfair_feed.proofs.output.add_lags.Goals as goal
 

@@ -1,5 +1,4 @@
-use Rattle.pfair_order.specs.Order.{pd2_cmp}
-use Rattle.pfair_order.specs.Rank.{first_by_rank}
+use Rattle.pfair_order.proofs.Common.{pd2_cmp, first_by_rank}
 use Rattle.pfair_order.proofs.KeyLaws.{keys_total}
 use Rattle.pfair_order.proofs.RankLemmas.{first_within}
 use Rattle.pfair_order.proofs.InOrder.{by_rank_first}

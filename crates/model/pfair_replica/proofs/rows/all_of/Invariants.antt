@@ -1,7 +1,5 @@
-use Rattle.std.proofs.Common.{ℕ, ◌≡◌, ◌≤◌, ◌*◌, ◌^◌, min, take}
-use Rattle.std.specs.Prelude.{fold}
-use Rattle.pfair_replica.specs.declared.rows.Beginning.{Beginning}
-use Rattle.pfair_replica.specs.Counters.{first_mark, total_count}
+use Rattle.std.proofs.Common.{ℕ, ◌≡◌, ◌≤◌, ◌*◌, ◌^◌, min, take, fold}
+use Rattle.pfair_replica.proofs.Common.{Beginning, first_mark, total_count}
 use Rattle.pfair_replica.proofs.rows.all_of.Given as goal
 
 abbrev pub invariant-loop-beginning : goal.invariant-loop-beginning

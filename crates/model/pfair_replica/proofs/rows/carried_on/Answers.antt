@@ -1,6 +1,5 @@
 use Rattle.std.proofs.Common.{ℕ, ◌≡◌, sym, ap, ◌∙◌, arith, inl, inr}
-use Rattle.pfair_replica.specs.declared.rows.Beginning.{Beginning}
-use Rattle.pfair_replica.specs.ReplicaRows.{held_in}
+use Rattle.pfair_replica.proofs.Common.{Beginning, held_in}
 use Rattle.pfair_replica.proofs.Beginnings.{part_more, part_whole}
 use Rattle.pfair_replica.proofs.rows.carried_on.Goals as goal
 

@@ -1,5 +1,4 @@
-use Rattle.pfair_replica.specs.ReplicaRows.{held_in}
-use Rattle.pfair_replica.specs.Counters.{IsPart}
+use Rattle.pfair_replica.proofs.Common.{held_in, IsPart}
 use Rattle.pfair_replica.proofs.rows.carried_on.Given as goal
 
 abbrev pub invariant-loop-count : goal.invariant-loop-count

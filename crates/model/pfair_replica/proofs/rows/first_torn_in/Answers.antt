@@ -1,7 +1,5 @@
-use Rattle.std.proofs.lemmas.Grind.{common_steps}
 use Rattle.std.proofs.Common.{sym, ◌∙◌, arith}
-use Rattle.std.proofs.lemmas.Bool.{false≢true}
-use Rattle.pfair_replica.specs.ReplicaRows.{held_in}
+use Rattle.pfair_replica.proofs.Common.{common_steps, false≢true, held_in}
 use Rattle.pfair_replica.proofs.FirstTorn.{torn_not_yet, torn_nowhere}
 use Rattle.pfair_replica.proofs.rows.first_torn_in.Goals as goal
 

@@ -1,6 +1,6 @@
 -- What is read of the flag, by the rows.
 use Rattle.std.proofs.Common.{arith}
-use Rattle.clap.proofs.WalkLemmas.{one_text-rows}
+use Rattle.pfair_words.proofs.Common.{one_text-rows}
 use Rattle.pfair_words.proofs.command.is_set.Goals as goal
 
 pub returns : goal.returns

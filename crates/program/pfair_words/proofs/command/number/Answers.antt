@@ -1,9 +1,7 @@
 -- A number that isn't there is a refusal.
-use Rattle.std.proofs.Common.{◌≡◌, ℕ, refl, sym, subst, Option, Some, None, MatchOption, Result}
-use Rattle.std.specs.Prelude.{MatchResult}
+use Rattle.std.proofs.Common.{◌≡◌, ℕ, refl, sym, subst, Option, Some, None, MatchOption, Result, MatchResult}
+use Rattle.pfair_words.proofs.Common.{ProgramFault, CommandLine}
 use Rattle.std.specs.Option.{ok_or}
-use Rattle.pfair_file.specs.declared.program_fault.ProgramFault.{ProgramFault}
-use Rattle.pfair_file.specs.declared.program_fault.ProgramFault.TheVariants.{CommandLine}
 use Rattle.pfair_words.proofs.command.number.Goals as goal
 
 answered : (found : Option ℕ) (r : Result ℕ ProgramFault) (P : Type 0) (Q : ℕ → Type 0) → r ≡ ok_or found CommandLine → MatchOption found P Q → MatchResult r Q (λ e. (e ≡ CommandLine) × P)

@@ -1,10 +1,8 @@
 -- The number that is read of a text is the one that it spells.
 use Rattle.std.proofs.Common.{rules, ◌≡◌, ◌∙◌, ℕ, refl, ap, Option, Some, None, MatchOption, Result, Ok, Err, is_some, true≢false}
+use Rattle.pfair_words.proofs.Common.{Text, found_of, one_text-rows, Spells, SpellsIfAny}
 use Rattle.std.specs.contracts.prelude.U64FromStr.TheImpl.{ghosts}
 use Rattle.clap.specs.Matches.{ReadsOne}
-use Rattle.clap.specs.Words.{Text, found_of}
-use Rattle.clap.proofs.WalkLemmas.{one_text-rows}
-use Rattle.pfair_words.specs.Parse.{Spells, SpellsIfAny}
 use Rattle.pfair_words.proofs.command.number_if_any.Goals as goal
 
 read : {E : Type 0} (gives : Text → Result ℕ E → Type 0) (at : Option Text) (r : Option ℕ) → (at ≡ None → r ≡ None) → ((t : Text) → at ≡ Some t → ReadsOne gives t r)

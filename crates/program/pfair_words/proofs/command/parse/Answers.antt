@@ -1,15 +1,13 @@
 -- The parser's clauses, at any command line of the simple form.
 use Rattle.std.proofs.Common.{rules, ◌≡◌, ◌&&◌, inl, inr, Bool, true, false, refl, subst, List, [], IfOk, Result, Ok, Err}
+use Rattle.pfair_words.proofs.Common.{App, HasMatchesOf, IsAmong, Text, app_of, fault_of, is_simple, is_simple_and_free, kind_of, IsParsed, IsUntakenAs, texts, Matches, Help, Refused}
 use Rattle.std.specs.declared.alloc.AllocError.{AllocError}
 use Rattle.clap.specs.Kinds.{HasKind}
-use Rattle.clap.specs.Words.{App, HasMatchesOf, IsAmong, Text, app_of, fault_of, is_simple, is_simple_and_free, kind_of}
 use Rattle.clap.specs.declared.error.Error.{Error}
 use Rattle.clap.specs.declared.error.kind.ErrorKind.{ErrorKind}
 use Rattle.clap.specs.declared.error.kind.ErrorKind.TheVariants.{OutOfMemory}
 use Rattle.clap.specs.declared.parser.matches.ArgMatches.{ArgMatches}
-use Rattle.pfair_words.specs.Parse.{IsParsed, IsUntakenAs, texts}
 use Rattle.pfair_words.specs.declared.command.Parsed.{Parsed}
-use Rattle.pfair_words.specs.declared.command.Parsed.TheVariants.{Matches, Help, Refused}
 use Rattle.pfair_words.proofs.command.parse.Goals as goal
 
 left_of : (a b : Bool) → (a && b) ≡ true → a ≡ true

@@ -1,7 +1,6 @@
 -- The word is the one under its name among the rows.
 use Rattle.std.proofs.Common.{◌∙◌, ap, sym, Some}
-use Rattle.clap.specs.Words.{found_of}
-use Rattle.clap.proofs.WalkLemmas.{first_value-rows}
+use Rattle.pfair_words.proofs.Common.{found_of, first_value-rows}
 use Rattle.pfair_words.proofs.command.text_if_any.Goals as goal
 
 pub returns-in_ok-from_str-in-Some : goal.returns-in_ok-from_str-in-Some

@@ -1,10 +1,8 @@
 -- What the parser makes of the words, at the line of `pfair_follow`.
 use Rattle.std.proofs.Common.{◌≡◌, true, refl, subst, sym, inr}
-use Rattle.clap.specs.Words.{is_simple_and_free}
-use Rattle.pfair_words.specs.Parse.{texts}
+use Rattle.pfair_words.proofs.Common.{is_simple_and_free, texts, Help, Refused}
 use Rattle.pfair_words.specs.FollowAsked.{IsAnswerTo, IsAnswerToKind}
 use Rattle.pfair_words.specs.FollowLine.{line}
-use Rattle.pfair_words.specs.declared.command.Parsed.TheVariants.{Help, Refused}
 use Rattle.pfair_words.proofs.Answered.{parsed_at, taken}
 use Rattle.pfair_words.proofs.follow.read_words.Goals as goal
 

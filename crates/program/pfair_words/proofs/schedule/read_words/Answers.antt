@@ -1,13 +1,8 @@
 -- What the parser makes of the words, at the line of `pfair`.
 use Rattle.std.proofs.Common.{◌≡◌, true, refl, subst, sym, inr, List, IfOk, Result}
-use Rattle.clap.specs.Words.{Text, is_simple_and_free}
-use Rattle.pfair_words.specs.Parse.{texts}
-use Rattle.pfair_words.specs.Plain.{HasCount, IsPlainAnswer}
+use Rattle.pfair_words.proofs.Common.{Text, is_simple_and_free, texts, HasCount, IsPlainAnswer, line, Help, Refused, ProgramFault}
 use Rattle.pfair_words.specs.ScheduleAsked.{IsAnswer, IsAnswerTo, IsAnswerToKind}
-use Rattle.pfair_words.specs.ScheduleLine.{line}
-use Rattle.pfair_words.specs.declared.command.Parsed.TheVariants.{Help, Refused}
 use Rattle.pfair_words.specs.declared.schedule.Asked.{Asked}
-use Rattle.pfair_file.specs.declared.program_fault.ProgramFault.{ProgramFault}
 use Rattle.pfair_words.proofs.Answered.{parsed_at, taken}
 use Rattle.pfair_words.proofs.PlainFacts.{has_count, plain_answer}
 use Rattle.pfair_words.proofs.schedule.read_words.Goals as goal

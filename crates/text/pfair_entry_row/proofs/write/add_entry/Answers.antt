@@ -1,5 +1,5 @@
 use Rattle.std.proofs.Common.{arith}
-use Rattle.pfair_text.proofs.RowFacts.{is_plain-decimal}
+use Rattle.pfair_entry_row.proofs.Common.{is_plain-decimal}
 use Rattle.pfair_text.proofs.NameFacts.{is_plain-name}
 use Rattle.pfair_entry_row.proofs.write.add_entry.Goals as goal
 

@@ -1,10 +1,7 @@
 use Rattle.std.proofs.Common.{ℕ, List, ◌≡◌, ◌∙◌, ◌<◌, length, get_or, arith, set, Vec, Global}
-use Rattle.std.proofs.lemmas.List.{get_or-map, length-map, map-set}
+use Rattle.pfair_file.proofs.Common.{get_or-map, length-map, map-set, Logged, lists_of, closed}
 use Rattle.std.proofs.lemmas.List.Edits.{map_over_more}
 use Rattle.std.specs.Vec.{with_item}
-use Rattle.pfair_entry.specs.Entry.{Logged}
-use Rattle.pfair_table.specs.Script.{lists_of}
-use Rattle.pfair_file.specs.Documents.{closed}
 use Rattle.pfair_file.proofs.document.close_logs.Goals as goal
 
 -- one more log is written

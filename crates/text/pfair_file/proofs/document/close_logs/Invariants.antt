@@ -1,6 +1,5 @@
 use Rattle.std.proofs.Common.{◌≡◌, ◌++◌, drop, take, vec_len}
-use Rattle.pfair_table.specs.Script.{lists_of}
-use Rattle.pfair_file.specs.Documents.{close_all}
+use Rattle.pfair_file.proofs.Common.{lists_of, close_all}
 use Rattle.pfair_file.proofs.document.close_logs.Given as goal
 
 abbrev pub invariant-loop-i : goal.invariant-loop-i

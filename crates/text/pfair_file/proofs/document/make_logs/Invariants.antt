@@ -1,7 +1,5 @@
-use Rattle.std.proofs.Common.{◌≡◌, ◌≤◌, vec_len}
-use Rattle.std.specs.Prelude.{All}
-use Rattle.pfair_table.specs.Script.{lists_of}
-use Rattle.pfair_file.specs.Documents.{empty_logs}
+use Rattle.std.proofs.Common.{◌≡◌, ◌≤◌, vec_len, All}
+use Rattle.pfair_file.proofs.Common.{lists_of, empty_logs}
 use Rattle.pfair_file.proofs.document.make_logs.Given as goal
 
 abbrev pub invariant-loop : goal.invariant-loop

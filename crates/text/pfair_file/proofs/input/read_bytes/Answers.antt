@@ -1,5 +1,5 @@
 use Rattle.std.proofs.Common.{ℕ, List, Option, None, Some, ◌≡◌, ◌≤◌, ◌-◌, ◌++◌, length, take, arith, rules, ◌∙◌, ap, sym}
-use Rattle.std.proofs.lemmas.List.{append_assoc, length-append}
+use Rattle.pfair_file.proofs.Common.{append_assoc, length-append}
 use Rattle.std.specs.Io.KnownBytes.{Consumes}
 use Rattle.pfair_file.proofs.input.read_bytes.Goals as goal
 

@@ -1,9 +1,5 @@
-use Rattle.std.proofs.Common.{rules, Some, Err, ◌≡◌, ◌+◌, ◌<◌, length, sym}
-use Rattle.std.specs.Prelude.{◌≢◌}
-use Rattle.toml.specs.Data.{as_table}
-use Rattle.toml.specs.View.{items_view, table_view, view}
-use Rattle.pfair_table.specs.Script.{lists_of}
-use Rattle.pfair_file.specs.Entries.{with_entry, with_items}
+use Rattle.std.proofs.Common.{rules, Some, Err, ◌≡◌, ◌+◌, ◌<◌, length, sym, ◌≢◌}
+use Rattle.pfair_file.proofs.Common.{as_table, items_view, table_view, view, lists_of, with_entry, with_items}
 use Rattle.pfair_file.specs.declared.fault.FileFault.TheVariants.{Memory}
 use Rattle.pfair_file.proofs.TableFacts.{left-refused}
 use Rattle.pfair_file.proofs.tables.add_entries.Goals as goal

@@ -1,6 +1,5 @@
-use Rattle.std.proofs.Common.{◌≡◌, ◌≤◌, vec_len}
-use Rattle.std.specs.Prelude.{All}
-use Rattle.pfair_table.specs.Script.{lists_of}
+use Rattle.std.proofs.Common.{◌≡◌, ◌≤◌, vec_len, All}
+use Rattle.pfair_file.proofs.Common.{lists_of}
 use Rattle.pfair_file.proofs.TableFacts.{IsLeft}
 use Rattle.pfair_file.proofs.tables.add_entries.Given as goal
 

@@ -1,15 +1,8 @@
-use Rattle.std.proofs.Common.{ℕ, Result, Ok, Err, ◌≡◌, ◌∙◌, ◌<◌, [], length, set, sym, ap, arith, get_or, Vec, Global}
-use Rattle.std.specs.Prelude.{IfErr, OnOk, ◌≢◌}
+use Rattle.std.proofs.Common.{ℕ, Result, Ok, Err, ◌≡◌, ◌∙◌, ◌<◌, [], length, set, sym, ap, arith, get_or, Vec, Global, IfErr, OnOk, ◌≢◌}
+use Rattle.pfair_file.proofs.Common.{length-map, get_or-map, map-set, Members, table_view, Logged, lists_of, longer_log, with_entry, FileFault}
 use Rattle.std.proofs.lemmas.Grind.{common_steps}
-use Rattle.std.proofs.lemmas.List.{length-map, get_or-map, map-set}
-use Rattle.toml.specs.Data.{Members}
-use Rattle.toml.specs.View.{table_view}
-use Rattle.pfair_entry.specs.Entry.{Logged}
-use Rattle.pfair_table.specs.Script.{lists_of}
-use Rattle.pfair_file.specs.Entries.{longer_log, with_entry}
 use Rattle.pfair_file.specs.Tables.{made_at}
 use Rattle.pfair_file.specs.declared.tables.Made.{Made}
-use Rattle.pfair_file.specs.declared.fault.FileFault.{FileFault}
 use Rattle.pfair_file.specs.declared.fault.FileFault.TheVariants.{Memory}
 use Rattle.pfair_file.proofs.tables.add_entry.Goals.{After-append}
 use Rattle.pfair_file.proofs.tables.add_entry.Goals as goal

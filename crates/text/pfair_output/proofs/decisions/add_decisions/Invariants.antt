@@ -1,6 +1,5 @@
 use Rattle.std.proofs.Common.{◌≡◌, ◌++◌, drop, map}
-use Rattle.pfair_text.specs.Rows.{IsOpen, lines_text, text_so_far}
-use Rattle.pfair_output.specs.Decisions.{decision_row}
+use Rattle.pfair_output.proofs.Common.{IsOpen, lines_text, text_so_far, decision_row}
 use Rattle.pfair_output.proofs.decisions.add_decisions.Given as goal
 
 -- the text so far, with the rows that are left, is the whole

@@ -1,4 +1,4 @@
-use Rattle.pfair_output.specs.Decisions.{decided_rows}
+use Rattle.pfair_output.proofs.Common.{decided_rows}
 use Rattle.pfair_output.proofs.SlotFacts.{IsOnTheWay}
 use Rattle.pfair_output.proofs.decisions.add_decisions_from.Given as goal
 

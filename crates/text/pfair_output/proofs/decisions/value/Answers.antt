@@ -1,5 +1,5 @@
 use Rattle.std.proofs.Common.{rules}
-use Rattle.pfair_text.proofs.RowFacts.{is_plain-decimal}
+use Rattle.pfair_output.proofs.Common.{is_plain-decimal}
 use Rattle.pfair_output.proofs.decisions.value.Goals as goal
 
 pub returns-in-Departing-clause-plain : goal.returns-in-Departing-clause-plain

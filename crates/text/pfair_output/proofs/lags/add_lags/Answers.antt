@@ -1,7 +1,5 @@
 use Rattle.std.proofs.Common.{◌<◌, ◌∙◌, length, arith, rules}
-use Rattle.pfair_text.specs.Rows.{text_so_far}
-use Rattle.pfair_text.proofs.RowFacts.{is_plain-decimal}
-use Rattle.pfair_output.specs.Booked.{tally_row}
+use Rattle.pfair_output.proofs.Common.{text_so_far, is_plain-decimal, tally_row}
 use Rattle.pfair_output.proofs.BookedFacts.{task_more}
 use Rattle.pfair_output.proofs.lags.add_lags.Goals as goal
 

@@ -1,6 +1,5 @@
 use Rattle.std.proofs.Common.{◌≡◌, ◌≤◌, ◌++◌, drop}
-use Rattle.pfair_text.specs.Rows.{IsOpen, lines_text, text_so_far}
-use Rattle.pfair_output.specs.Booked.{all_slots_booked, rows_booked}
+use Rattle.pfair_output.proofs.Common.{IsOpen, lines_text, text_so_far, all_slots_booked, rows_booked}
 use Rattle.pfair_output.proofs.lags.add_lags_from.Given as goal
 
 -- the book and the text so far, with the slots that are left, are the whole

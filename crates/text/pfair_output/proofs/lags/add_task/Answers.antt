@@ -1,9 +1,6 @@
 use Rattle.std.proofs.Common.{◌≡◌, true, arith, rules, refl, ap, sym, ◌∙◌, [], ◌∷◌, ◌++◌, SFits, w64, to_z-of_z}
-use Rattle.std.proofs.lemmas.Grind.{common_steps}
+use Rattle.pfair_output.proofs.Common.{common_steps, option_map, is_plain, line, text_so_far, is_plain-decimal}
 use Rattle.std.specs.Fmt.{decimal, signed_decimal}
-use Rattle.std.specs.Option.{option_map}
-use Rattle.pfair_text.specs.Rows.{is_plain, line, text_so_far}
-use Rattle.pfair_text.proofs.RowFacts.{is_plain-decimal}
 use Rattle.pfair_text.proofs.NameFacts.{is_plain-name}
 use Rattle.pfair_output.proofs.SignedFacts.{is_plain-signed}
 use Rattle.pfair_output.proofs.BookedFacts.{named_at, lag_at, row_is}

@@ -1,5 +1,5 @@
 use Rattle.std.proofs.Common.{◌≡◌, drop}
-use Rattle.pfair_output.specs.Booked.{all_booked}
+use Rattle.pfair_output.proofs.Common.{all_booked}
 use Rattle.pfair_output.proofs.lags.book_decisions.Given as goal
 
 -- booking what is left makes the whole

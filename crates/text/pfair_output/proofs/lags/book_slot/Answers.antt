@@ -1,5 +1,5 @@
 use Rattle.std.proofs.Common.{◌≡◌, ◌∙◌, ap, arith}
-use Rattle.pfair_lag.specs.Book.{Book}
+use Rattle.pfair_output.proofs.Common.{Book}
 use Rattle.pfair_output.proofs.BookedFacts.{time-all_booked}
 use Rattle.pfair_output.proofs.lags.book_slot.Goals as goal
 

@@ -1,5 +1,5 @@
 use Rattle.std.proofs.Common.{◌≡◌, ◌≤◌, ◌-◌, drop, take}
-use Rattle.pfair_output.specs.Booked.{all_slots_booked}
+use Rattle.pfair_output.proofs.Common.{all_slots_booked}
 use Rattle.pfair_output.proofs.lags.book_slots.Given as goal
 
 -- the book so far, with the slots that are left, is the whole

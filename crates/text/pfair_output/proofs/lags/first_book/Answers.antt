@@ -1,10 +1,7 @@
 use Rattle.std.proofs.Common.{◌<◌, ◌≡◌, ◌∙◌, List, Some, length, take, ap, arith}
+use Rattle.pfair_output.proofs.Common.{option_map, empty_book, all_entered, Carried, Origin}
 use Rattle.std.proofs.Math.Seq.{take-length}
-use Rattle.std.specs.Option.{option_map}
 use Rattle.pfair_admission.specs.Member.{Member}
-use Rattle.pfair_lag.specs.Book.{empty_book}
-use Rattle.pfair_output.specs.Booked.{all_entered}
-use Rattle.pfair_table.specs.Table.{Carried, Origin}
 use Rattle.pfair_output.proofs.BookFacts.{begun_with, entered_next}
 use Rattle.pfair_output.proofs.lags.first_book.Goals as goal
 

@@ -1,6 +1,5 @@
 use Rattle.std.proofs.Common.{◌≡◌, take}
-use Rattle.pfair_lag.specs.Book.{empty_book}
-use Rattle.pfair_output.specs.Booked.{all_entered}
+use Rattle.pfair_output.proofs.Common.{empty_book, all_entered}
 use Rattle.pfair_output.proofs.lags.first_book.Given as goal
 
 abbrev pub invariant-loop-place : goal.invariant-loop-place

@@ -1,12 +1,7 @@
-use Rattle.std.proofs.Common.{◌≡◌, ◌<◌, ◌∙◌, sym, ap, subst, refl, arith, length, map, List, ℕ, ◌++◌, Some, slice_get}
-use Rattle.std.proofs.lemmas.Option.{same_Some, slice_get-map, slice_get_read}
-use Rattle.std.proofs.lemmas.List.{length-map}
-use Rattle.std.specs.Option.{option_map}
-use Rattle.std.specs.Prelude.{Vec}
+use Rattle.std.proofs.Common.{◌≡◌, ◌<◌, ◌∙◌, sym, ap, subst, refl, arith, length, map, List, ℕ, ◌++◌, Some, slice_get, Vec}
+use Rattle.pfair_output.proofs.Common.{same_Some, slice_get-map, slice_get_read, length-map, option_map, lines_text, text_so_far, placed_rows_from, placed_table_rows}
 use Rattle.std.specs.declared.alloc.Global.{Global}
-use Rattle.pfair_text.specs.Rows.{lines_text, text_so_far}
 use Rattle.pfair_table.specs.declared.slot.Pick.{Pick}
-use Rattle.pfair_output.specs.Replay.{placed_rows_from, placed_table_rows}
 use Rattle.pfair_output.proofs.SlotFacts.{slot_more}
 use Rattle.pfair_output.proofs.replay.add_all.Goals as goal
 

@@ -1,7 +1,5 @@
 use Rattle.std.proofs.Common.{◌≡◌, ◌++◌, drop, map}
-use Rattle.pfair_text.specs.Rows.{IsOpen, lines_text, text_so_far}
-use Rattle.pfair_output.specs.Slots.{slots_from}
-use Rattle.pfair_output.specs.Replay.{placed_table_rows}
+use Rattle.pfair_output.proofs.Common.{IsOpen, lines_text, text_so_far, slots_from, placed_table_rows}
 use Rattle.pfair_output.proofs.replay.add_all.Given as goal
 
 -- the text so far, with the rows of the slots that are left, is the whole

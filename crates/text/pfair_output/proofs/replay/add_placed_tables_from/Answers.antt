@@ -1,7 +1,6 @@
 use Rattle.std.proofs.Common.{ℕ, List, ◌++◌, ◌∙◌, ap, arith, refl}
-use Rattle.pfair_text.specs.Rows.{lines_text, text_so_far}
+use Rattle.pfair_output.proofs.Common.{lines_text, text_so_far, placed_rows_from, placed_table_rows}
 use Rattle.pfair_table.specs.Places.{places_in}
-use Rattle.pfair_output.specs.Replay.{placed_rows_from, placed_table_rows}
 use Rattle.pfair_output.proofs.SlotFacts.{at_the_end, on_the_way}
 use Rattle.pfair_output.proofs.replay.add_placed_tables_from.Goals as goal
 

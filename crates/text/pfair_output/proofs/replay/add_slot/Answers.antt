@@ -1,9 +1,6 @@
 use Rattle.std.proofs.Common.{◌≡◌, ◌++◌, ◌∙◌, subst}
-use Rattle.std.proofs.lemmas.Option.{same_Some}
+use Rattle.pfair_output.proofs.Common.{same_Some, lines_text, text_so_far, Table, placed_rows_from}
 use Rattle.std.proofs.lemmas.Result.{on_ok_weaker}
-use Rattle.pfair_text.specs.Rows.{lines_text, text_so_far}
-use Rattle.pfair_table.specs.Table.{Table}
-use Rattle.pfair_output.specs.Replay.{placed_rows_from}
 use Rattle.pfair_output.proofs.replay.add_slot.Goals as goal
 
 pub returns-in-Some-clause-text : goal.returns-in-Some-clause-text

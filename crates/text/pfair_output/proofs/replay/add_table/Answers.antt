@@ -1,7 +1,5 @@
 use Rattle.std.proofs.Common.{ℕ, ◌≡◌, ◌<◌, ◌∙◌, ◌++◌, ap, arith, length, Option, Some, slice_get, refl}
-use Rattle.std.proofs.lemmas.Option.{slice_get_read}
-use Rattle.pfair_text.specs.Rows.{line, text_so_far}
-use Rattle.pfair_output.specs.Replay.{placed_row}
+use Rattle.pfair_output.proofs.Common.{slice_get_read, line, text_so_far, placed_row}
 use Rattle.pfair_output.proofs.PlacedFacts.{row_more}
 use Rattle.pfair_output.proofs.replay.add_table.Goals as goal
 

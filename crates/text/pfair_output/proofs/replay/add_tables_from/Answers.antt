@@ -1,5 +1,5 @@
 use Rattle.std.proofs.Common.{arith, refl}
-use Rattle.pfair_output.specs.Replay.{table_rows}
+use Rattle.pfair_output.proofs.Common.{table_rows}
 use Rattle.pfair_output.proofs.SlotFacts.{at_the_end, on_the_way}
 use Rattle.pfair_output.proofs.replay.add_tables_from.Goals as goal
 

@@ -1,4 +1,4 @@
-use Rattle.pfair_output.specs.Replay.{table_rows}
+use Rattle.pfair_output.proofs.Common.{table_rows}
 use Rattle.pfair_output.proofs.SlotFacts.{IsOnTheWay}
 use Rattle.pfair_output.proofs.replay.add_tables_from.Given as goal
 

@@ -1,9 +1,5 @@
 use Rattle.std.proofs.Common.{◌≡◌, ◌++◌, ◌∙◌, ap, arith, None}
-use Rattle.pfair_replica.specs.ReplicaRows.{replica_of}
-use Rattle.pfair_replica.specs.Replica.{Replica, said}
-use Rattle.pfair_table.specs.Table.{Settings, decisions}
-use Rattle.pfair_text.specs.Rows.{line, lines_text, text_so_far}
-use Rattle.pfair_output.specs.Decisions.{decided_rows, decisions_header}
+use Rattle.pfair_output.proofs.Common.{replica_of, Replica, said, Settings, decisions, line, lines_text, text_so_far, decided_rows, decisions_header}
 use Rattle.pfair_output.proofs.RunFacts.{decisions_more}
 use Rattle.pfair_output.proofs.runs.all_decisions.Goals as goal
 

@@ -1,11 +1,5 @@
 use Rattle.std.proofs.Common.{◌≡◌, ◌∙◌, ap, arith, None}
-use Rattle.pfair_lag.specs.Book.{Book}
-use Rattle.pfair_replica.specs.ReplicaRows.{replica_of}
-use Rattle.pfair_replica.specs.Replica.{Replica, said}
-use Rattle.pfair_table.specs.Table.{Settings, table, decisions}
-use Rattle.pfair_text.specs.Rows.{line, text_so_far}
-use Rattle.pfair_output.specs.Lags.{lags_header}
-use Rattle.pfair_output.specs.Booked.{slot_booked}
+use Rattle.pfair_output.proofs.Common.{Book, replica_of, Replica, said, Settings, table, decisions, line, text_so_far, lags_header, slot_booked}
 use Rattle.pfair_output.proofs.RunFacts.{book_more, lags_more}
 use Rattle.pfair_output.proofs.WorldFacts.{after_first}
 use Rattle.pfair_output.proofs.runs.all_lags.Goals as goal

@@ -1,10 +1,6 @@
 use Rattle.std.proofs.Common.{◌≡◌, ◌++◌, None, length}
-use Rattle.std.specs.List.{flat_map}
-use Rattle.pfair_replica.specs.ReplicaRows.{replica_of}
+use Rattle.pfair_output.proofs.Common.{flat_map, replica_of, numbers_below, IsOpen, line, lines_text, text_so_far, lag_rows, lags_header}
 use Rattle.pfair_table.specs.ScriptRun.{IsBySlot}
-use Rattle.pfair_replica.specs.Replica.{numbers_below}
-use Rattle.pfair_text.specs.Rows.{IsOpen, line, lines_text, text_so_far}
-use Rattle.pfair_output.specs.Lags.{lag_rows, lags_header}
 use Rattle.pfair_output.proofs.WorldFacts.{book_after}
 use Rattle.pfair_output.proofs.runs.all_lags.Given as goal
 

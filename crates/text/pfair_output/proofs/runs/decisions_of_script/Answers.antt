@@ -1,7 +1,5 @@
 use Rattle.std.proofs.Common.{◌∙◌, ap, arith}
-use Rattle.pfair_replica.specs.Replica.{frontier}
-use Rattle.pfair_table.specs.Table.{Settings}
-use Rattle.pfair_output.specs.Decisions.{decisions_text}
+use Rattle.pfair_output.proofs.Common.{frontier, Settings, decisions_text}
 use Rattle.pfair_output.specs.Runs.{decided_below}
 use Rattle.pfair_output.proofs.RunFacts.{all_slots}
 use Rattle.pfair_output.proofs.runs.decisions_of_script.Goals as goal

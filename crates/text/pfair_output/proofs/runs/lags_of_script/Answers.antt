@@ -1,9 +1,5 @@
 use Rattle.std.proofs.Common.{◌∙◌, ◌∷◌, ap, arith}
-use Rattle.std.specs.List.{flat_map}
-use Rattle.pfair_replica.specs.Replica.{frontier, numbers_below}
-use Rattle.pfair_table.specs.Table.{Settings}
-use Rattle.pfair_text.specs.Rows.{lines_text}
-use Rattle.pfair_output.specs.Lags.{lag_rows, lags_header}
+use Rattle.pfair_output.proofs.Common.{flat_map, frontier, numbers_below, Settings, lines_text, lag_rows, lags_header}
 use Rattle.pfair_output.proofs.RunFacts.{all_slots}
 use Rattle.pfair_output.proofs.runs.lags_of_script.Goals as goal
 

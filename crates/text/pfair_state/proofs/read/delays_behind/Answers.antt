@@ -1,8 +1,5 @@
 use Rattle.std.proofs.Common.{rules, arith, ◌≡◌, ◌+◌, [], ◌∷◌, Some, ap, sym, ◌∙◌, length, slice_get}
-use Rattle.std.proofs.lemmas.List.{length-append}
-use Rattle.std.proofs.lemmas.Option.{slice_get_within}
-use Rattle.pfair_state.specs.Reading.{as_late}
-use Rattle.pfair_state.specs.declared.rows.Row.TheVariants.{Late}
+use Rattle.pfair_state.proofs.Common.{length-append, slice_get_within, as_late, Late}
 use Rattle.pfair_state.proofs.DelaysRead.{all_named, all_read, delay_read, other_name}
 use Rattle.pfair_state.proofs.RowKinds.{late_is}
 use Rattle.pfair_state.proofs.read.delays_behind.Goals.{in-Some+then-ne, in_default}

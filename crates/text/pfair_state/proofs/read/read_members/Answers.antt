@@ -1,5 +1,5 @@
 use Rattle.std.proofs.Common.{rules, arith, ℕ, ◌≡◌, ◌+◌, ap, subst, sym, ◌∙◌, length, slice_get}
-use Rattle.pfair_admission.specs.Roster.{Roster}
+use Rattle.pfair_state.proofs.Common.{Roster}
 use Rattle.pfair_state.proofs.MembersRead.{AreRestoredSoFar, all_restored, can, restored}
 use Rattle.pfair_state.proofs.RowKinds.{member_is}
 use Rattle.pfair_state.proofs.read.read_members.Goals as goal

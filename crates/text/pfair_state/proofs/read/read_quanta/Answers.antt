@@ -1,7 +1,5 @@
 use Rattle.std.proofs.Common.{◌≡◌, arith, false, true, cond, ap, sym, ◌∙◌, slice_get}
-use Rattle.std.proofs.lemmas.Option.{slice_get_within}
-use Rattle.pfair_table.specs.Limits.{with_row}
-use Rattle.pfair_state.specs.declared.rows.Row.TheVariants.{Ran}
+use Rattle.pfair_state.proofs.Common.{slice_get_within, with_row, Ran}
 use Rattle.pfair_state.proofs.QuantaRead.{added, all_added, can}
 use Rattle.pfair_state.proofs.RowKinds.{quantum_is}
 use Rattle.pfair_state.proofs.read.read_quanta.Goals as goal

@@ -1,9 +1,5 @@
 use Rattle.std.proofs.Common.{ℕ, map, ◌≡◌, ◌++◌, ◌∙◌, rules, sym, ap, List, []}
-use Rattle.pfair_text.specs.Rows.{text_so_far}
-use Rattle.pfair_state.specs.Rows.{state_text}
-use Rattle.pfair_table.specs.Table.{Carried}
-use Rattle.pfair_text.specs.Rows.{lines_text}
-use Rattle.pfair_state.specs.Reading.{fields_of, said_of}
+use Rattle.pfair_state.proofs.Common.{text_so_far, state_text, Carried, lines_text, fields_of, said_of}
 use Rattle.pfair_state.proofs.DelaysRead.{other_name}
 use Rattle.pfair_state.proofs.RowsSaid.{rows_say}
 use Rattle.pfair_state.proofs.StateRead.{memory}

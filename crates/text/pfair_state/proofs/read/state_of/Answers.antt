@@ -1,10 +1,6 @@
 use Rattle.std.proofs.Common.{◌≡◌, ◌<◌, arith, rules, sym, subst, ◌∙◌, length, slice_get}
-use Rattle.std.proofs.lemmas.Option.{slice_get_within}
-use Rattle.pfair_admission.specs.Roster.{Roster}
-use Rattle.pfair_table.specs.Limits.{AreLeftAt}
-use Rattle.pfair_table.specs.Table.{Carried}
+use Rattle.pfair_state.proofs.Common.{slice_get_within, Roster, AreLeftAt, Carried, End}
 use Rattle.pfair_state.proofs.Carried.{none_left}
-use Rattle.pfair_state.specs.declared.rows.Row.TheVariants.{End}
 use Rattle.pfair_state.proofs.RowKinds.{end_is}
 use Rattle.pfair_state.proofs.StateRead.{by_members, by_quanta, ends, memory, whole}
 use Rattle.pfair_state.proofs.read.state_of.Goals.{then-count-rows+else-rows-end, else-count-rows}

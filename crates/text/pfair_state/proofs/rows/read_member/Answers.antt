@@ -1,6 +1,5 @@
 use Rattle.std.proofs.Common.{arith, ap, Some, ◌≡◌}
-use Rattle.std.specs.Fmt.{decimal}
-use Rattle.std.proofs.lemmas.Fmt.{decimal_injective}
+use Rattle.pfair_state.proofs.Common.{decimal, decimal_injective}
 use Rattle.pfair_entry_row.specs.Row.{truth}
 use Rattle.pfair_state.proofs.Spelled.{whole, no_weight_fault, same_member}
 use Rattle.pfair_state.proofs.rows.read_member.Goals as goal

@@ -1,5 +1,5 @@
 use Rattle.std.proofs.Common.{arith}
-use Rattle.std.proofs.lemmas.Fmt.{decimal_injective}
+use Rattle.pfair_state.proofs.Common.{decimal_injective}
 use Rattle.pfair_state.proofs.Spelled.{whole}
 use Rattle.pfair_state.proofs.rows.read_ran.Goals as goal
 

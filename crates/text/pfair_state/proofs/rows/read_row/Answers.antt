@@ -1,6 +1,6 @@
 use Rattle.std.proofs.Common.{arith}
-use Rattle.std.proofs.lemmas.Fmt.{decimal_injective}
-use Rattle.pfair_state.specs.declared.rows.Row.TheVariants.{First, Member, Late, Ran, End}
+use Rattle.pfair_state.proofs.Common.{decimal_injective, First, Late, Ran, End}
+use Rattle.pfair_state.specs.declared.rows.Row.TheVariants.{Member}
 use Rattle.pfair_state.proofs.Spelled.{whole}
 use Rattle.pfair_state.proofs.rows.read_row.Goals as goal
 

@@ -1,5 +1,5 @@
 use Rattle.std.proofs.Common.{arith, None, Some, refl}
-use Rattle.std.proofs.lemmas.Fmt.{decimal_injective}
+use Rattle.pfair_state.proofs.Common.{decimal_injective}
 use Rattle.pfair_state.proofs.Spelled.{dash_is_no_number}
 use Rattle.pfair_state.proofs.rows.read_slot.Goals as goal
 

@@ -1,8 +1,5 @@
 use Rattle.std.proofs.Common.{◌≡◌, ◌++◌, drop, map, take}
-use Rattle.std.specs.List.{AllByRecursion}
-use Rattle.pfair_text.specs.Rows.{IsOpen, lines_text, text_so_far}
-use Rattle.pfair_state.specs.Reading.{IsSpelled, late_said}
-use Rattle.pfair_state.specs.Rows.{late_row}
+use Rattle.pfair_state.proofs.Common.{AllByRecursion, IsOpen, lines_text, text_so_far, IsSpelled, late_said, late_row}
 use Rattle.pfair_state.proofs.write.add_delays.Given as goal
 
 -- the text so far, with the rows that are left, is the whole, and the rows so far are spelled

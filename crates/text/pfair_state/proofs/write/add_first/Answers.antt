@@ -1,6 +1,5 @@
 use Rattle.std.proofs.Common.{◌≡◌, true, rules, refl}
-use Rattle.pfair_text.specs.Rows.{is_plain}
-use Rattle.pfair_text.proofs.RowFacts.{is_plain-decimal}
+use Rattle.pfair_state.proofs.Common.{is_plain, is_plain-decimal}
 use Rattle.pfair_state.proofs.write.add_first.Goals as goal
 
 pub add_row-requires-clause-plain : goal.add_row-requires-clause-plain

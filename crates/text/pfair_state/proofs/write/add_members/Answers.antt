@@ -1,7 +1,5 @@
 use Rattle.std.proofs.Common.{◌<◌, ◌∙◌, sym, length, arith}
-use Rattle.pfair_text.specs.Rows.{text_so_far}
-use Rattle.pfair_state.specs.Reading.{AreSpelled, member_said}
-use Rattle.pfair_state.specs.Rows.{member_rows}
+use Rattle.pfair_state.proofs.Common.{text_so_far, AreSpelled, member_said, member_rows}
 use Rattle.pfair_state.proofs.RowLists.{text_more}
 use Rattle.pfair_state.proofs.RowsSpelled.{more_taken}
 use Rattle.pfair_state.proofs.write.add_members.Goals as goal

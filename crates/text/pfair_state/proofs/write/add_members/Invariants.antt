@@ -1,8 +1,5 @@
 use Rattle.std.proofs.Common.{◌≡◌, ◌++◌, drop, take}
-use Rattle.std.specs.List.{AllByRecursion, flat_map}
-use Rattle.pfair_text.specs.Rows.{IsOpen, lines_text, text_so_far}
-use Rattle.pfair_state.specs.Reading.{AreSpelled, member_said}
-use Rattle.pfair_state.specs.Rows.{member_rows}
+use Rattle.pfair_state.proofs.Common.{AllByRecursion, flat_map, IsOpen, lines_text, text_so_far, AreSpelled, member_said, member_rows}
 use Rattle.pfair_state.proofs.write.add_members.Given as goal
 
 -- the text so far, with the rows of the members that are left, is the whole, and the rows so far are spelled

@@ -1,7 +1,5 @@
 use Rattle.std.proofs.Common.{◌≡◌, ◌∙◌, true, rules, refl, ap}
-use Rattle.pfair_text.specs.Rows.{is_plain}
-use Rattle.pfair_text.proofs.RowFacts.{is_plain-decimal}
-use Rattle.pfair_text.proofs.NameFacts.{is_plain-name}
+use Rattle.pfair_state.proofs.Common.{is_plain, is_plain-decimal, is_plain-name}
 use Rattle.pfair_state.proofs.write.add_own.Goals as goal
 
 pub add_row-requires-clause-plain : goal.add_row-requires-clause-plain

@@ -1,7 +1,5 @@
 use Rattle.std.proofs.Common.{◌≡◌, ◌<◌, ◌∙◌, arith, length, Some, slice_get, slice_index, refl}
-use Rattle.std.proofs.lemmas.Option.{slice_get-get_or, slice_get_read}
-use Rattle.pfair_text.specs.Rows.{text_so_far}
-use Rattle.pfair_state.specs.Reading.{IsSpelledQuantum}
+use Rattle.pfair_state.proofs.Common.{slice_get-get_or, slice_get_read, text_so_far, IsSpelledQuantum}
 use Rattle.pfair_state.proofs.RowLists.{ran_more}
 use Rattle.pfair_state.proofs.RowsSpelled.{more_taken}
 use Rattle.pfair_state.proofs.write.add_ran.Goals as goal

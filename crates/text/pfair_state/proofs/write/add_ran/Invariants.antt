@@ -1,8 +1,5 @@
 use Rattle.std.proofs.Common.{◌≡◌, ◌++◌, drop, take}
-use Rattle.std.specs.List.{AllByRecursion}
-use Rattle.pfair_text.specs.Rows.{IsOpen, lines_text, text_so_far}
-use Rattle.pfair_state.specs.Reading.{IsSpelledQuantum}
-use Rattle.pfair_state.specs.Rows.{ran_rows}
+use Rattle.pfair_state.proofs.Common.{AllByRecursion, IsOpen, lines_text, text_so_far, IsSpelledQuantum, ran_rows}
 use Rattle.pfair_state.proofs.write.add_ran.Given as goal
 
 -- the text so far, with the rows that are left, is the whole, and the rows so far are spelled

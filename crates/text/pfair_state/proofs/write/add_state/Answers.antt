@@ -1,9 +1,5 @@
 use Rattle.std.proofs.Common.{◌≡◌, true, rules, refl, subst, List}
-use Rattle.std.specs.List.{AllByRecursion}
-use Rattle.pfair_admission.specs.Member.{Member}
-use Rattle.pfair_text.specs.Rows.{is_plain}
-use Rattle.pfair_text.proofs.RowFacts.{is_plain-decimal}
-use Rattle.pfair_state.specs.Reading.{AreSpelled, IsSpelledQuantum, member_said}
+use Rattle.pfair_state.proofs.Common.{AllByRecursion, Member, is_plain, is_plain-decimal, AreSpelled, IsSpelledQuantum, member_said}
 use Rattle.pfair_state.proofs.RowsSpelled.{on_ok, writable}
 use Rattle.pfair_state.proofs.write.add_state.Goals as goal
 

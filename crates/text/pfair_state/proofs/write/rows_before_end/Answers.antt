@@ -1,7 +1,5 @@
 use Rattle.std.proofs.Common.{◌<◌, ◌≡◌, ◌∙◌, ap, sym, Some, length, drop, map, slice_get, arith}
-use Rattle.std.specs.List.{flat_map}
-use Rattle.std.proofs.lemmas.List.{length-append, length-map, drop_all}
-use Rattle.pfair_state.specs.Rows.{late_row, member_rows, ran_rows}
+use Rattle.pfair_state.proofs.Common.{flat_map, length-append, length-map, drop_all, late_row, member_rows, ran_rows}
 use Rattle.pfair_state.proofs.RowLists.{count_left, count_ran}
 use Rattle.pfair_state.proofs.write.rows_before_end.Goals as goal
 

@@ -1,6 +1,5 @@
 use Rattle.std.proofs.Common.{◌≡◌, ◌+◌, min, length, drop}
-use Rattle.std.specs.List.{flat_map}
-use Rattle.pfair_state.specs.Rows.{member_rows}
+use Rattle.pfair_state.proofs.Common.{flat_map, member_rows}
 use Rattle.pfair_state.proofs.write.rows_before_end.Given as goal
 
 -- the rows so far, with those of the members that are left, are all, as far as 64 bits go

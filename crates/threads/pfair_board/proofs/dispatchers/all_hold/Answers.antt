@@ -1,9 +1,6 @@
 use Rattle.std.proofs.Common.{◌≡◌, ◌∙◌, subst, arith, ⊎_elim, Some, slice_get}
+use Rattle.pfair_board.proofs.Common.{slice_get_read, slice_get_within, get_or_from_slice_get, replica_of, Worked, Holds}
 use Rattle.std.proofs.lemmas.Bool.{cases_lt}
-use Rattle.std.proofs.lemmas.Option.{slice_get_read, slice_get_within, get_or_from_slice_get}
-use Rattle.pfair_replica.specs.ReplicaRows.{replica_of}
-use Rattle.pfair_board.specs.declared.threads.Worked.{Worked}
-use Rattle.pfair_board.specs.FirstFault.{Holds}
 use Rattle.pfair_board.proofs.dispatchers.all_hold.Goals as goal
 
 pub returns-then-not-holds-clause-some : goal.returns-then-not-holds-clause-some

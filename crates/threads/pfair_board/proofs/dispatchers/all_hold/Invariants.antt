@@ -1,7 +1,5 @@
 use Rattle.std.proofs.Common.{◌≡◌, ◌<◌, ℕ, slice_get, Some}
-use Rattle.pfair_replica.specs.ReplicaRows.{replica_of}
-use Rattle.pfair_board.specs.declared.threads.Worked.{Worked}
-use Rattle.pfair_board.specs.FirstFault.{Holds}
+use Rattle.pfair_board.proofs.Common.{replica_of, Worked, Holds}
 use Rattle.pfair_board.proofs.dispatchers.all_hold.Given as goal
 
 abbrev pub invariant-loop-work : goal.invariant-loop-work

@@ -1,13 +1,8 @@
 use Rattle.std.proofs.Common.{◌≡◌, ◌∙◌, sym, ap, ◌+◌, ◌∷◌, rules, arith, subst, add-one, length, slice_get, Some, vec_len, None}
+use Rattle.pfair_board.proofs.Common.{into_iter_items, each_snoc, as_tables, replica_of_logs, plan, has_kept}
 use Rattle.std.proofs.lemmas.Grind.{common_steps}
-use Rattle.std.specs.Vec.Iter.{into_iter_items}
 use Rattle.pfair_board.specs.Finish.{IsGood, IsFullDesk, IsRunOf}
-use Rattle.pfair_desk.proofs.Rows.{each_snoc}
 use Rattle.pfair_table.specs.Places.{places_in}
-use Rattle.pfair_table.specs.Planned.{as_tables}
-use Rattle.pfair_table.specs.Script.{replica_of_logs}
-use Rattle.pfair_table.specs.Table.{plan}
-use Rattle.pfair_board.specs.Sinks.{has_kept}
 use Rattle.pfair_board.proofs.Rows.{kept_fit, kept_plan, none_in_empty, not_failed}
 use Rattle.pfair_board.proofs.dispatchers.hand_back.Goals as goal
 

@@ -1,9 +1,6 @@
 use Rattle.std.proofs.Common.{◌≡◌, ◌+◌, ℕ, slice_get, Some, vec_len}
-use Rattle.std.specs.Vec.Iter.{into_iter_items, into_iter_len}
-use Rattle.pfair_table.specs.Script.{replica_of_logs}
-use Rattle.pfair_board.specs.Sinks.{has_kept}
+use Rattle.pfair_board.proofs.Common.{into_iter_items, into_iter_len, replica_of_logs, has_kept, DeskView}
 use Rattle.pfair_table.specs.declared.planned.Run.{Run}
-use Rattle.pfair_desk.specs.Desks.{DeskView}
 use Rattle.pfair_board.specs.Finish.{IsGood, IsFullDesk, IsRunOf}
 use Rattle.pfair_board.proofs.dispatchers.hand_back.Given as goal
 

@@ -1,6 +1,5 @@
 use Rattle.std.proofs.Common.{◌≡◌, [], ap, arith, map}
-use Rattle.pfair_desk.proofs.Rows.{each_snoc}
-use Rattle.pfair_table.specs.Planned.{as_tables}
+use Rattle.pfair_board.proofs.Common.{each_snoc, as_tables}
 use Rattle.pfair_board.proofs.dispatchers.run_dispatchers.Goals as goal
 
 pub loop-preserved : goal.loop-preserved

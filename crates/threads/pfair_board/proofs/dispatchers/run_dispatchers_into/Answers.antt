@@ -1,7 +1,5 @@
 use Rattle.std.proofs.Common.{subst, arith, None}
-use Rattle.pfair_table.specs.Table.{plan}
-use Rattle.pfair_table.specs.Script.{replica_of_logs}
-use Rattle.pfair_board.specs.Sinks.{has_first}
+use Rattle.pfair_board.proofs.Common.{plan, replica_of_logs, has_first}
 use Rattle.pfair_board.proofs.Rows.{first_is, kept_plan, not_failed}
 use Rattle.pfair_board.proofs.dispatchers.run_dispatchers_into.Goals as goal
 

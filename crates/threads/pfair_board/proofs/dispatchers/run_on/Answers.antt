@@ -1,8 +1,5 @@
 use Rattle.std.proofs.Common.{◌≡◌, ◌∙◌, sym, subst, None, IfOk, length}
-use Rattle.pfair_table.specs.Table.{plan}
-use Rattle.pfair_replica.specs.ReplicaRows.{replica_of}
-use Rattle.pfair_table.specs.Script.{capacity_of, replica_of_logs}
-use Rattle.pfair_board.specs.FirstFault.{IsFirstFault}
+use Rattle.pfair_board.proofs.Common.{plan, replica_of, capacity_of, replica_of_logs, IsFirstFault}
 use Rattle.pfair_board.proofs.FirstFaults.{first_of, run_fault}
 use Rattle.pfair_board.proofs.Rows.{same_replica}
 use Rattle.pfair_board.proofs.dispatchers.run_on.Goals as goal

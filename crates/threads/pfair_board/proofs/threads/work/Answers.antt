@@ -1,7 +1,5 @@
 use Rattle.std.proofs.Common.{◌≡◌, ◌∙◌, [], sym, subst, refl, OnOk, IfOk, IfErr, Ok, Err, Result, slice_index_or, None}
-use Rattle.std.proofs.lemmas.Option.{get_or_from_slice_get}
-use Rattle.pfair_replica.specs.ReplicaRows.{replica_of}
-use Rattle.pfair_table.specs.Table.{plan}
+use Rattle.pfair_board.proofs.Common.{get_or_from_slice_get, replica_of, plan}
 use Rattle.pfair_board.specs.Logs.{HoldsLog}
 use Rattle.pfair_board.specs.WorkerFaults.{IsWorkerFault}
 use Rattle.pfair_board.proofs.threads.work.Goals.{in-Ok, in-Err}

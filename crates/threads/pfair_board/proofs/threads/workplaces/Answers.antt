@@ -1,9 +1,6 @@
 use Rattle.std.proofs.Common.{◌≡◌, ◌+◌, ◌∷◌, [], rules, arith, ap, subst, add-one, length, slice_get, Some, vec_len}
+use Rattle.pfair_board.proofs.Common.{into_iter_items, DeskState, IsWorkplaceOf, each_snoc}
 use Rattle.std.proofs.lemmas.Grind.{common_steps}
-use Rattle.std.specs.Vec.Iter.{into_iter_items}
-use Rattle.pfair_desk.specs.Desks.{DeskState}
-use Rattle.pfair_board.specs.Works.{IsWorkplaceOf}
-use Rattle.pfair_desk.proofs.Rows.{each_snoc}
 use Rattle.pfair_board.proofs.Rows.{none_in_empty}
 use Rattle.pfair_board.proofs.threads.workplaces.Goals as goal
 

@@ -1,5 +1,6 @@
 -- What the other note owns is copied into the first one.
 use Rattle.std.proofs.Common.{◌≡◌, ℕ, List, [], ◌∷◌, refl, IfSome}
+use Rattle.pfair_desk.proofs.Common.{Agrees, noted, shared}
 use mir.Syntax.{a_type, named}
 use mir.Val.{Val, vptr, vunit}
 use mir.MapTy.{inst_fn}
@@ -21,9 +22,7 @@ use denote.Steps.{nothing, heard}
 use denote.Param.{param, layouts}
 use denote.Triple.Walked.{Stays, stay_dropped, walk_of, Goes-dropped, stay_ref, Goes-ref}
 use Rattle.std.proofs.raw_atomic.Walks.{proved, leaves}
-use Rattle.once_cell.specs.Once.{Agrees, noted}
 use Rattle.once_cell.proofs.Notes as notes
-use Rattle.pfair_desk.specs.Knowledge.{shared}
 use Rattle.pfair_desk.proofs.Peeks.{Note, note_knows, noted_shared}
 use Rattle.pfair_desk.specs.contracts.board.learn.{ended, clauses}
 use Rattle.pfair_desk.specs.contracts.board.learn.Key.{name as #self}

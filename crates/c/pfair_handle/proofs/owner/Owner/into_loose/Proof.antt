@@ -2,32 +2,16 @@
 use mathlib.Core.Path.{refl, sym, subst}
 use mathlib.Core.List.{List, [], ◌∷◌, ◌++◌}
 use seplogic.Ra.Ura.{Ura}
-use mir.Val.{Val}
-use base.Logic.{SProp, ent, id⊢}
-use base.Fml.{ftrue, fsep}
+use Rattle.pfair_handle.proofs.Common.{Val, SProp, ent, id⊢, ftrue, fsep, WpFn, Tables, Logic, Fun, fact, tables, tables_of, Item, ‵, raw, ◌⊛◌, ◌$◌, ◌∵◌, !, qed, by, move, drop, use1, join, split, fsplit, fjoin, suffices, done, rewrite, whole, sub, agg, stop, fld, no_more, and_then, of_opd, returns, enter, alloc_all, pass_all, free_all, look_at, get, get_in, sets, yes, heard, nothing, type_at, triple_of, says, Stays, stay_dropped, walk_of, ends_at, Goes-dropped, walk_Meets, box_out, box_in}
 use prog.Memory.{Memory}
 use prog.Routine.{Routine}
-use prog.Wp.{WpFn, Tables}
-use types.Logic.{Logic}
-use contract.Monad.{Fun, fact}
-use contract.Running.{tables, tables_of}
 use sound.WpLaws.{WpFn-mono}
-use types.Kit.{Item, ‵, raw, ◌⊛◌, ◌$◌, ◌∵◌, !, qed, by, move, drop, use1, join, split, fsplit, fjoin, suffices, done, rewrite}
-use types.Part.{whole, sub, agg}
-use types.Run.{stop, fld, no_more, and_then, of_opd, returns, enter}
-use types.ByLocal.{alloc_all, pass_all, free_all, look_at, get, get_in, sets}
-use denote.Exit.{yes}
 use Rattle.std.specs.Prelude.{◌≡◌, true}
 use Rattle.pfair_handle.specs.Kept.{Kept, is_kept}
 use Rattle.pfair_handle.proofs.Found.{some_of}
 use Rattle.pfair_handle.specs.contracts.owner.Owner.{the_row as From-row}
-use denote.Steps.{heard, nothing}
-use denote.Signature.{type_at}
-use denote.Triple.Spec.{triple_of}
 use denote.Triple.Table.{entered}
-use denote.Triple.Walked.{says, Stays, stay_dropped, walk_of, ends_at, Goes-dropped, walk_Meets}
 use Rattle.std_alloc.proofs.BoxSteps.Form.{D, B, word, box_typed}
-use Rattle.std_alloc.proofs.BoxSteps.Steps.{box_out, box_in}
 use Rattle.pfair_handle.proofs.AsBox.{E, FromOwner as From}
 use Rattle.pfair_handle.specs.contracts.owner.Owner.into_loose as F
 use Rattle.pfair_handle.specs.contracts.owner.Owner.into_loose.Key.{name as #self}

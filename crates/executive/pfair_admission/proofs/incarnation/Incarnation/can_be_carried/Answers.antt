@@ -1,9 +1,5 @@
 use Rattle.std.proofs.Common.{◌≡◌, ℕ, ◌+◌, ◌*◌, ◌≤◌, ap, rules, ◌∙◌, arith}
-use Rattle.std.specs.List.{sum_by}
-use Rattle.std.proofs.lemmas.Bool.Decides.{nat_tests}
-use Rattle.pfair_admission.specs.declared.members.TheConstants.Members.{LAST_SLOT}
-use Rattle.pfair_admission.specs.Member.{Member, last_offset}
-use Rattle.pfair_admission.specs.Carried.{carried, jobs_done}
+use Rattle.pfair_admission.proofs.Common.{sum_by, nat_tests, LAST_SLOT, Member, last_offset, carried, jobs_done}
 use Rattle.pfair_admission.proofs.Carrying.{last_offset_carried}
 use Rattle.pfair_admission.proofs.incarnation.Incarnation.can_be_carried.Goals as goal
 use Rattle.pfair_admission.proofs.incarnation.Incarnation.can_be_carried.Goals.{After-cost}

@@ -1,9 +1,5 @@
-use Rattle.std.proofs.Common.{◌≡◌, ◌≤◌, ◌+◌, ◌-◌, ◌*◌, ap, subst, ◌∙◌, arith}
-use Rattle.std.specs.List.{sum_by}
-use Rattle.std.specs.Prelude.{IfOk}
-use Rattle.pfair_admission.specs.declared.members.TheConstants.Members.{LAST_SLOT}
-use Rattle.pfair_admission.specs.Member.{Member}
-use Rattle.pfair_admission.specs.Carried.{carried_delays, delays_from}
+use Rattle.std.proofs.Common.{◌≡◌, ◌≤◌, ◌+◌, ◌-◌, ◌*◌, ap, subst, ◌∙◌, arith, IfOk}
+use Rattle.pfair_admission.proofs.Common.{sum_by, LAST_SLOT, Member, carried_delays, delays_from}
 use Rattle.pfair_admission.proofs.Coming.{carried_offset}
 use Rattle.pfair_admission.proofs.incarnation.Incarnation.carried.Goals as goal
 use Rattle.pfair_admission.proofs.incarnation.Incarnation.carried.Goals.{After-next-2}

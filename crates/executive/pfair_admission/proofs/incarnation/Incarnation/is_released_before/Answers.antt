@@ -1,7 +1,5 @@
 use Rattle.std.proofs.Common.{◌≡◌, ◌≤◌, ap, ◌∙◌, arith}
-use Rattle.std.proofs.lemmas.Bool.Decides.{nat_tests}
-use Rattle.pfair_weight.specs.Position.{Position}
-use Rattle.pfair_admission.specs.Member.{Member, theta}
+use Rattle.pfair_admission.proofs.Common.{nat_tests, Position, Member, theta}
 use Rattle.pfair_admission.proofs.Delays.{theta_rises}
 use Rattle.pfair_admission.proofs.incarnation.Incarnation.is_released_before.Goals as goal
 

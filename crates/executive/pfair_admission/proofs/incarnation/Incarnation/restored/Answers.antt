@@ -1,10 +1,5 @@
-use Rattle.std.proofs.Common.{ℕ, List, ◌≤◌, ◌+◌, ap, sym, ◌∙◌, arith}
-use Rattle.std.specs.List.{sum_by, filter, list_any}
-use Rattle.std.specs.Prelude.{nat_le, ◌==◌}
-use Rattle.pfair_weight.specs.Position.{Position}
-use Rattle.pfair_weight.specs.declared.window.TheConstants.{MAX_OFFSET}
-use Rattle.pfair_admission.specs.declared.delay.Delay.{Delay}
-use Rattle.pfair_admission.specs.Incarnation.{own_delay}
+use Rattle.std.proofs.Common.{ℕ, List, ◌≤◌, ◌+◌, ap, sym, ◌∙◌, arith, nat_le, ◌==◌}
+use Rattle.pfair_admission.proofs.Common.{sum_by, filter, list_any, Position, MAX_OFFSET, Delay, own_delay}
 use Rattle.pfair_admission.proofs.Sums.{sum_filter}
 use Rattle.pfair_admission.proofs.incarnation.Incarnation.restored.Goals as goal
 use Rattle.pfair_admission.proofs.incarnation.Incarnation.restored.Goals.{After-delay_up_to}

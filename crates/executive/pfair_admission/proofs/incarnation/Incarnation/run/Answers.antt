@@ -1,11 +1,7 @@
 use Rattle.std.proofs.Common.{◌≡◌, ◌<◌, ◌+◌, ℕ, Option, None, sym, ap, subst, ◌∙◌, arith}
-use Rattle.std.specs.Prelude.{unwrap_or}
+use Rattle.pfair_admission.proofs.Common.{unwrap_or, Position, MAX_INDEX, Member, member_of}
 use Rattle.std.specs.Ordering.{nat_cmp}
 use Rattle.std.specs.BTreeMap as map
-use Rattle.pfair_weight.specs.Position.{Position}
-use Rattle.pfair_weight.specs.declared.window.TheConstants.{MAX_INDEX}
-use Rattle.pfair_admission.specs.Member.{Member}
-use Rattle.pfair_admission.specs.Incarnation.{member_of}
 use Rattle.pfair_admission.proofs.Delays.{stepped, stepped_fits, has_run}
 use Rattle.pfair_admission.proofs.incarnation.Incarnation.run.Goals as goal
 use Rattle.pfair_admission.proofs.incarnation.Incarnation.run.Goals.{After-remove-delay}

@@ -1,7 +1,5 @@
-use Rattle.std.proofs.Common.{◌≤◌, ◌+◌, ap, arith}
-use Rattle.std.specs.List.{sum_by}
-use Rattle.std.specs.Prelude.{nat_le}
-use Rattle.pfair_weight.specs.declared.window.TheConstants.{MAX_OFFSET}
+use Rattle.std.proofs.Common.{◌≤◌, ◌+◌, ap, arith, nat_le}
+use Rattle.pfair_admission.proofs.Common.{sum_by, MAX_OFFSET}
 use Rattle.pfair_admission.proofs.Sums.{sum_filter}
 use Rattle.pfair_admission.proofs.incarnation.Incarnation.theta.Goals as goal
 use Rattle.pfair_admission.proofs.incarnation.Incarnation.theta.Goals.{After-delay_up_to}

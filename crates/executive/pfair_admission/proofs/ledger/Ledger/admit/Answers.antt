@@ -1,12 +1,5 @@
-use Rattle.std.proofs.Common.{rules, ◌≡◌, ◌++◌, ◌∷◌, [], Result, Ok, Err, OnOk, Some, cond, ap, ◌∙◌}
-use Rattle.std.specs.Prelude.{nat_eq}
-use Rattle.std.specs.Map.{lookup}
-use Rattle.indexmap.specs.IndexMap.{insert_entry}
-use Rattle.indexmap.proofs.CallerLemmas.{insert_entry-new}
-use Rattle.pfair_weight.specs.Name.{name_eq}
-use Rattle.pfair_admission.specs.Member.{Member}
-use Rattle.pfair_admission.specs.Admission.{newcomer, present}
-use Rattle.pfair_admission.specs.Ledger.{listed, Numbered}
+use Rattle.std.proofs.Common.{rules, ◌≡◌, ◌++◌, ◌∷◌, [], Result, Ok, Err, OnOk, Some, cond, ap, ◌∙◌, nat_eq}
+use Rattle.pfair_admission.proofs.Common.{lookup, insert_entry, insert_entry-new, name_eq, Member, newcomer, present, listed, Numbered}
 use Rattle.pfair_admission.proofs.Deciding.{arrived, not_arrived, stood}
 use Rattle.pfair_admission.proofs.Kept.{ledger_more, present_pushed}
 use Rattle.pfair_admission.proofs.MemberLists.{none_freed_present}

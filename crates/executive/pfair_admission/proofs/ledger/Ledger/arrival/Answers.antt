@@ -1,10 +1,5 @@
-use Rattle.std.proofs.Common.{◌+◌, ◌*◌, ◌%◌, sym, ap, ◌∙◌}
-use Rattle.std.specs.Prelude.{not, nat_lt, ◌==◌, if◌then◌else◌}
-use Rattle.pfair_weight.specs.Share.{units_of}
-use Rattle.pfair_admission.specs.Admission.{claimed, present}
-use Rattle.pfair_admission.specs.Ledger.{is_there, listed}
-use Rattle.pfair_admission.specs.declared.decision.Decision.{Decision}
-use Rattle.pfair_admission.specs.declared.decision.Decision.TheVariants.{Admitted, Refused}
+use Rattle.std.proofs.Common.{◌+◌, ◌*◌, ◌%◌, sym, ap, ◌∙◌, not, nat_lt, ◌==◌, if◌then◌else◌}
+use Rattle.pfair_admission.proofs.Common.{units_of, claimed, present, is_there, listed, Decision, Admitted, Refused}
 use Rattle.pfair_admission.specs.declared.decision.Refusal.TheVariants.{NameTaken, PeriodOutsideFrame, NoRoom}
 use Rattle.pfair_admission.proofs.Written.{taken}
 use Rattle.pfair_admission.proofs.ledger.Ledger.arrival.Goals as goal

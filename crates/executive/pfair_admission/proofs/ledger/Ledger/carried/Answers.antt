@@ -1,12 +1,5 @@
-use Rattle.std.proofs.Common.{◌≡◌, ◌++◌, ◌∷◌, [], Some, cond, map, true, subst, ap, ◌∙◌, arith}
-use Rattle.std.specs.Prelude.{nat_eq}
-use Rattle.std.specs.Map.{lookup}
-use Rattle.indexmap.specs.IndexMap.{insert_entry}
-use Rattle.indexmap.proofs.CallerLemmas.{insert_entry-new}
-use Rattle.pfair_weight.specs.Name.{NameValue, name_eq}
-use Rattle.pfair_admission.specs.Carried.{carried}
-use Rattle.pfair_admission.specs.Ledger.{listed, IsRegister}
-use Rattle.pfair_admission.specs.Member.{Member}
+use Rattle.std.proofs.Common.{◌≡◌, ◌++◌, ◌∷◌, [], Some, cond, map, true, subst, ap, ◌∙◌, arith, nat_eq}
+use Rattle.pfair_admission.proofs.Common.{lookup, insert_entry, insert_entry-new, NameValue, name_eq, carried, listed, IsRegister, Member}
 use Rattle.pfair_admission.proofs.Registers.{fresh}
 use Rattle.pfair_admission.proofs.Successors.{able_at, all_listed, carried_more, ledger_carried}
 use Rattle.pfair_admission.proofs.ledger.Ledger.carried.Goals as goal

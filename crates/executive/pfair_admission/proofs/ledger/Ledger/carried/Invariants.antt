@@ -1,4 +1,4 @@
-use Rattle.pfair_admission.specs.Ledger.{listed}
+use Rattle.pfair_admission.proofs.Common.{listed}
 use Rattle.pfair_admission.proofs.Successors.{AreCarried}
 use Rattle.pfair_admission.proofs.ledger.Ledger.carried.Given as goal
 

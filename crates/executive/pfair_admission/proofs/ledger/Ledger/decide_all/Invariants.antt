@@ -1,6 +1,5 @@
 use Rattle.std.proofs.Common.{◌+◌, ◌≤◌}
-use Rattle.pfair_admission.specs.Admission.{announcements}
-use Rattle.pfair_admission.specs.Ledger.{is_there, membership, IsLedger}
+use Rattle.pfair_admission.proofs.Common.{announcements, is_there, membership, IsLedger}
 use Rattle.pfair_admission.proofs.Boundaries.{SoFar}
 use Rattle.pfair_admission.proofs.ledger.Ledger.decide_all.Given as goal
 

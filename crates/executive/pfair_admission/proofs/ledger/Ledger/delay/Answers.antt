@@ -1,9 +1,5 @@
-use Rattle.std.proofs.Common.{rules, ◌≡◌, IfOk, sym, ap, ◌∙◌, arith}
-use Rattle.std.specs.Prelude.{not}
-use Rattle.std.specs.Map.{values_of}
-use Rattle.indexmap.specs.IndexMap.{set_value_at}
-use Rattle.pfair_admission.specs.Admission.{is_freed, late_release, member_named, present}
-use Rattle.pfair_admission.specs.Ledger.{is_there, listed}
+use Rattle.std.proofs.Common.{rules, ◌≡◌, IfOk, sym, ap, ◌∙◌, arith, not}
+use Rattle.pfair_admission.proofs.Common.{values_of, set_value_at, is_freed, late_release, member_named, present, is_there, listed}
 use Rattle.pfair_admission.proofs.Changes.{delayed_if_ok, is_written, late_like, stays_on_err, IsWritten}
 use Rattle.pfair_admission.proofs.Deciding.{if_decided, late_decided, late_same, none_late, room_of_named, stood}
 use Rattle.pfair_admission.proofs.Kept.{ledger_written}

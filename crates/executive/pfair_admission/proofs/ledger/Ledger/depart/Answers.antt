@@ -1,14 +1,5 @@
 use Rattle.std.proofs.Common.{◌≡◌, ℕ, ◌+◌, ◌-◌, ◌≤◌, cond, Some, sym, ap, ◌∙◌, arith}
-use Rattle.std.specs.Map.{values_of}
-use Rattle.std.proofs.lemmas.Option.{same_Some}
-use Rattle.indexmap.specs.IndexMap.{set_value_at, with_value_at}
-use Rattle.pfair_weight.specs.Share.{Share, units_of}
-use Rattle.pfair_entry.specs.declared.entry.Announcement.TheVariants.{Depart}
-use Rattle.pfair_admission.specs.declared.decision.Decision.{Decision}
-use Rattle.pfair_admission.specs.Member.{Member}
-use Rattle.pfair_admission.specs.Admission.{departure, effect, member_named, present, with_freeing}
-use Rattle.pfair_admission.specs.Removal.{earlier_of}
-use Rattle.pfair_admission.specs.Ledger.{is_there, listed, IsLedger}
+use Rattle.pfair_admission.proofs.Common.{values_of, same_Some, set_value_at, with_value_at, Share, units_of, Depart, Decision, Member, departure, effect, member_named, present, with_freeing, earlier_of, is_there, listed, IsLedger}
 use Rattle.pfair_admission.proofs.Changes.{departed, is_written, not_departed, same_like}
 use Rattle.pfair_admission.proofs.Deciding.{none_departs, stood}
 use Rattle.pfair_admission.proofs.Kept.{gone_units, held_units, ledger_left, ledger_written}

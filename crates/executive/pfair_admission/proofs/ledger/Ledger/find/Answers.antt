@@ -1,9 +1,5 @@
-use Rattle.std.proofs.Common.{◌≡◌, ℕ, Some, None, arith, rules, sym, ap, subst, ◌∙◌}
-use Rattle.std.specs.Prelude.{nat_eq, slice_get}
-use Rattle.std.specs.Map.{lookup}
-use Rattle.std.proofs.lemmas.Bool.Decides.{nat_tests}
-use Rattle.pfair_weight.specs.Name.{name_eq}
-use Rattle.pfair_admission.specs.Ledger.{listed, IsFound}
+use Rattle.std.proofs.Common.{◌≡◌, ℕ, Some, None, arith, rules, sym, ap, subst, ◌∙◌, nat_eq, slice_get}
+use Rattle.pfair_admission.proofs.Common.{lookup, nat_tests, name_eq, listed, IsFound}
 use Rattle.pfair_admission.proofs.Registers.{found_at, found_none, found_some, parts_at, values_at}
 use Rattle.pfair_admission.proofs.ledger.Ledger.find.Goals as goal
 

@@ -1,9 +1,5 @@
-use Rattle.std.proofs.Common.{◌≡◌, ℕ, Bool, true, false, cond, Some, None, sym, ap, ◌∙◌}
-use Rattle.std.specs.Prelude.{not}
-use Rattle.std.proofs.lemmas.Option.{same_Some}
-use Rattle.pfair_admission.specs.Member.{Member}
-use Rattle.pfair_admission.specs.Admission.{is_freed}
-use Rattle.pfair_admission.specs.Ledger.{is_there, listed}
+use Rattle.std.proofs.Common.{◌≡◌, ℕ, Bool, true, false, cond, Some, None, sym, ap, ◌∙◌, not}
+use Rattle.pfair_admission.proofs.Common.{same_Some, Member, is_freed, is_there, listed}
 use Rattle.pfair_admission.proofs.Written.{only_named, within}
 use Rattle.pfair_admission.proofs.ledger.Ledger.place_of.Goals as goal
 

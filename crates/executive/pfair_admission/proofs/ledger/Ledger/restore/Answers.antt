@@ -1,14 +1,5 @@
-use Rattle.std.proofs.Common.{◌≡◌, true, List, ◌++◌, ◌∷◌, [], Result, Ok, Err, OnOk, Some, cond, length, length-append, refl, sym, ap, ◌∙◌, arith}
-use Rattle.std.specs.Prelude.{nat_eq}
-use Rattle.std.specs.Map.{lookup, values_of}
-use Rattle.indexmap.specs.IndexMap.{insert_entry}
-use Rattle.indexmap.proofs.CallerLemmas.{insert_entry-new}
-use Rattle.pfair_weight.specs.Name.{name_eq}
-use Rattle.pfair_admission.specs.Member.{Member}
-use Rattle.pfair_admission.specs.Admission.{arrival, claimed}
-use Rattle.pfair_admission.specs.declared.decision.Decision.TheVariants.{Admitted}
-use Rattle.pfair_admission.specs.Ledger.{listed, whole, Numbered}
-use Rattle.pfair_admission.specs.Restored.{member_in}
+use Rattle.std.proofs.Common.{◌≡◌, true, List, ◌++◌, ◌∷◌, [], Result, Ok, Err, OnOk, Some, cond, length, length-append, refl, sym, ap, ◌∙◌, arith, nat_eq}
+use Rattle.pfair_admission.proofs.Common.{lookup, values_of, insert_entry, insert_entry-new, name_eq, Member, arrival, claimed, Admitted, listed, whole, Numbered, member_in}
 use Rattle.pfair_admission.proofs.Deciding.{stood}
 use Rattle.pfair_admission.proofs.Kept.{ledger_joined, values_pushed}
 use Rattle.pfair_admission.proofs.Written.{filter_all}

@@ -1,8 +1,5 @@
 use Rattle.std.proofs.Common.{◌≡◌, sym, ap, subst, ◌∙◌, arith}
-use Rattle.std.specs.Map.{values_of}
-use Rattle.pfair_admission.specs.Admission.{claimed, present}
-use Rattle.pfair_admission.specs.Removal.{NoneFreed}
-use Rattle.pfair_admission.specs.Ledger.{is_there, listed, Numbered}
+use Rattle.pfair_admission.proofs.Common.{values_of, claimed, present, NoneFreed, is_there, listed, Numbered}
 use Rattle.pfair_admission.proofs.Deciding.{product_fits, stood}
 use Rattle.pfair_admission.proofs.MemberLists.{none_freed_before, none_freed_present, present_all}
 use Rattle.pfair_admission.proofs.Registers.{register_all, register_kept, values_kept}

@@ -1,11 +1,5 @@
-use Rattle.std.proofs.Common.{◌≡◌, ◌+◌, ◌-◌, length, sym, ap, subst, ◌∙◌, arith}
-use Rattle.std.specs.Prelude.{IfOk}
-use Rattle.pfair_admission.specs.declared.members.TheConstants.Members.{MAX_HEARD}
-use Rattle.pfair_admission.specs.Admission.{announcements}
-use Rattle.pfair_admission.specs.Roster.{EachBounded, Roster}
-use Rattle.pfair_admission.specs.Removal.{NoneFreed}
-use Rattle.pfair_admission.specs.Membership.{Membership}
-use Rattle.pfair_admission.specs.Ledger.{decisions_on, is_there, listed, membership}
+use Rattle.std.proofs.Common.{◌≡◌, ◌+◌, ◌-◌, length, sym, ap, subst, ◌∙◌, arith, IfOk}
+use Rattle.pfair_admission.proofs.Common.{MAX_HEARD, announcements, EachBounded, Roster, NoneFreed, Membership, decisions_on, is_there, listed, membership}
 use Rattle.pfair_admission.proofs.Boundaries.{begun, bounded_later, bounded_present, decided_err, decided_ok, with_heard}
 use Rattle.pfair_admission.proofs.Deciding.{stood}
 use Rattle.pfair_admission.proofs.Kept.{kept_less, unswept_rest}

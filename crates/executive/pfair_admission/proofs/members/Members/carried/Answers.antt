@@ -1,8 +1,5 @@
 use Rattle.std.proofs.Common.{subst, sym, ap, arith}
-use Rattle.std.specs.List.{AllByRecursion}
-use Rattle.pfair_admission.specs.Carried.{CanBeCarried}
-use Rattle.pfair_admission.specs.Ledger.{listed}
-use Rattle.pfair_admission.specs.Roster.{Roster, EachBounded}
+use Rattle.pfair_admission.proofs.Common.{AllByRecursion, CanBeCarried, listed, Roster, EachBounded}
 use Rattle.pfair_admission.proofs.Successors.{bounded_carried}
 use Rattle.pfair_admission.proofs.members.Members.carried.Goals as goal
 

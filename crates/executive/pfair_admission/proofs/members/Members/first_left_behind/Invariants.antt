@@ -1,6 +1,5 @@
 use Rattle.std.proofs.Common.{take}
-use Rattle.std.specs.List.{AllByRecursion}
-use Rattle.pfair_admission.specs.Carried.{CanBeCarried}
+use Rattle.pfair_admission.proofs.Common.{AllByRecursion, CanBeCarried}
 use Rattle.pfair_admission.proofs.members.Members.first_left_behind.Given as goal
 
 abbrev pub invariant-loop-place : goal.invariant-loop-place

@@ -1,9 +1,5 @@
 use Rattle.std.proofs.Common.{List, true, refl, sym, ap, ◌∙◌}
-use Rattle.std.specs.Option.{option_copied}
-use Rattle.pfair_admission.specs.Member.{Member}
-use Rattle.pfair_admission.specs.Admission.{member_named}
-use Rattle.pfair_admission.specs.Ledger.{listed}
-use Rattle.pfair_admission.specs.Roster.{Roster}
+use Rattle.pfair_admission.proofs.Common.{option_copied, Member, member_named, listed, Roster}
 use Rattle.pfair_admission.proofs.Written.{filter_all, is_there_now, within}
 use Rattle.pfair_admission.proofs.members.Members.get.Goals as goal
 

@@ -1,12 +1,5 @@
-use Rattle.std.proofs.Common.{◌≡◌, List, Option, true, refl, sym, ap, ◌∙◌, arith}
-use Rattle.std.specs.Prelude.{is_some, if◌then◌else◌}
-use Rattle.std.specs.Option.{option_map}
-use Rattle.std.specs.Map.{values_of}
-use Rattle.indexmap.specs.IndexMap.{set_value_at}
-use Rattle.pfair_admission.specs.Member.{Member}
-use Rattle.pfair_admission.specs.Admission.{member_named, quantum_of, ran, running, seatless}
-use Rattle.pfair_admission.specs.Ledger.{listed}
-use Rattle.pfair_admission.specs.Roster.{Roster}
+use Rattle.std.proofs.Common.{◌≡◌, List, Option, true, refl, sym, ap, ◌∙◌, arith, is_some, if◌then◌else◌}
+use Rattle.pfair_admission.proofs.Common.{option_map, values_of, set_value_at, Member, member_named, quantum_of, ran, running, seatless, listed, Roster}
 use Rattle.pfair_admission.proofs.Boundaries.{bounded_run}
 use Rattle.pfair_admission.proofs.Changes.{ran_like, ran_listed, roster_ran}
 use Rattle.pfair_admission.proofs.Kept.{ledger_written}

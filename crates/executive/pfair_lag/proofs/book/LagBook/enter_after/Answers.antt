@@ -1,10 +1,7 @@
-use Rattle.std.proofs.lemmas.Grind.{common_steps}
-use Rattle.std.proofs.Common.{◌≡◌, not, sym, ap, ◌∙◌, arith}
-use Rattle.std.specs.Prelude.{is_some}
-use Rattle.std.proofs.lemmas.Bool.{true≢false}
+use Rattle.std.proofs.Common.{◌≡◌, not, sym, ap, ◌∙◌, arith, is_some}
+use Rattle.pfair_lag.proofs.Common.{common_steps, true≢false, tally_of}
 use Rattle.pfair_weight.specs.Options.{nothing}
 use Rattle.indexmap.proofs.CallerLemmas.{insert_entry-new}
-use Rattle.pfair_lag.specs.Book.{tally_of}
 use Rattle.pfair_lag.proofs.BookLemmas.{contained, entered_there, entered_new, kept_new}
 use Rattle.pfair_lag.proofs.book.LagBook.enter_after.Goals as goal
 use Rattle.pfair_lag.proofs.book.LagBook.enter_after.Goals.{After-contains_key}

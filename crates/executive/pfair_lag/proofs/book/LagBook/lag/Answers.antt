@@ -1,7 +1,5 @@
 use Rattle.std.proofs.Common.{Some, sym, ap, ◌∙◌}
-use Rattle.std.specs.Option.{option_map, option_copied}
-use Rattle.pfair_lag.specs.Book.{lag_of}
-use Rattle.pfair_lag.specs.Accounts.{tally_shown}
+use Rattle.pfair_lag.proofs.Common.{option_map, option_copied, lag_of, tally_shown}
 use Rattle.pfair_lag.proofs.BookLemmas.{tally_kept, sound_found}
 use Rattle.pfair_lag.proofs.book.LagBook.lag.Goals as goal
 

@@ -1,6 +1,5 @@
-use Rattle.std.proofs.Common.{◌≡◌, Option, Some, sym, ap, ◌∙◌}
-use Rattle.std.specs.Prelude.{slice_get}
-use Rattle.std.specs.Option.{option_map}
+use Rattle.std.proofs.Common.{◌≡◌, Option, Some, sym, ap, ◌∙◌, slice_get}
+use Rattle.pfair_lag.proofs.Common.{option_map}
 use Rattle.std.specs.Map.Iter.{deref_pair}
 use Rattle.pfair_lag.specs.declared.book.Account.{Account}
 use Rattle.pfair_weight.specs.Name.{NameValue}

@@ -1,11 +1,6 @@
-use Rattle.std.proofs.Common.{◌∷◌, [], inl, inr, refl, sym, ap, subst, ◌∙◌, List, length, arith}
-use Rattle.std.specs.Prelude.{Contains}
+use Rattle.std.proofs.Common.{◌∷◌, [], inl, inr, refl, sym, ap, subst, ◌∙◌, List, length, arith, Contains}
+use Rattle.pfair_ready.proofs.Common.{slice_get_read, Contains-append_left, Contains-append_right, Calendar, Date, in_bucket}
 use Rattle.std.specs.Vec.{with_item}
-use Rattle.std.proofs.lemmas.Option.{slice_get_read}
-use Rattle.std.proofs.lemmas.List.Elements.{Contains-append_left, Contains-append_right}
-use Rattle.pfair_ready.specs.declared.calendar.Calendar.{Calendar}
-use Rattle.pfair_ready.specs.declared.calendar.Date.{Date}
-use Rattle.pfair_ready.specs.Calendar.{in_bucket}
 use Rattle.pfair_ready.proofs.HeapLemmas.{pushed_more, pushed_top}
 use Rattle.pfair_ready.proofs.CalendarLemmas.{near_there, noted_far, noted_near}
 use Rattle.pfair_ready.proofs.calendar.Calendar.note.Goals as goal

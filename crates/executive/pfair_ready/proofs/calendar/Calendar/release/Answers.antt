@@ -1,5 +1,5 @@
 use Rattle.std.proofs.Common.{refl}
-use Rattle.pfair_ready.specs.Calendar.{IsNoted}
+use Rattle.pfair_ready.proofs.Common.{IsNoted}
 use Rattle.pfair_ready.proofs.CalendarLemmas.{moves_far}
 use Rattle.pfair_ready.proofs.calendar.Calendar.release.Goals as goal
 

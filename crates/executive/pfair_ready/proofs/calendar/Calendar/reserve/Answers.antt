@@ -1,6 +1,5 @@
-use Rattle.std.proofs.Common.{refl, sym, subst, List}
-use Rattle.std.specs.Prelude.{Contains}
-use Rattle.pfair_ready.specs.declared.calendar.Date.{Date}
+use Rattle.std.proofs.Common.{refl, sym, subst, List, Contains}
+use Rattle.pfair_ready.proofs.Common.{Date}
 use Rattle.pfair_ready.proofs.CalendarLemmas.{noted_far}
 use Rattle.pfair_ready.proofs.calendar.Calendar.reserve.Goals as goal
 

@@ -1,9 +1,6 @@
-use Rattle.std.proofs.Common.{◌<◌, ◌≤◌, ◌+◌, refl, ap, arith, ℕ, length}
-use Rattle.std.specs.Prelude.{◌%◌}
+use Rattle.std.proofs.Common.{◌<◌, ◌≤◌, ◌+◌, refl, ap, arith, ℕ, length, ◌%◌}
+use Rattle.pfair_ready.proofs.Common.{slice_get_read, Calendar, in_bucket, IsNoted}
 use Rattle.std.specs.Vec.{with_item}
-use Rattle.std.proofs.lemmas.Option.{slice_get_read}
-use Rattle.pfair_ready.specs.declared.calendar.Calendar.{Calendar}
-use Rattle.pfair_ready.specs.Calendar.{in_bucket, IsNoted}
 use Rattle.pfair_ready.proofs.CalendarLemmas.{emptied_next, emptied_past, moves_bucket, moves_turned}
 use Rattle.pfair_ready.proofs.calendar.Calendar.turn.Goals as goal
 use Rattle.pfair_ready.proofs.calendar.Calendar.turn.Goals.{then-bucket-len+in_ok-release_all, else-bucket-len}

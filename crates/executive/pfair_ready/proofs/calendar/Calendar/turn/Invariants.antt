@@ -1,5 +1,5 @@
 use Rattle.std.proofs.Common.{◌≡◌, ◌≤◌, ◌<◌, ◌+◌, ℕ, []}
-use Rattle.pfair_ready.specs.Calendar.{IsNoted, Moves, under}
+use Rattle.pfair_ready.proofs.Common.{IsNoted, Moves, under}
 use Rattle.pfair_ready.proofs.calendar.Calendar.turn.Given as goal
 
 -- the buckets of the slots so far are empty

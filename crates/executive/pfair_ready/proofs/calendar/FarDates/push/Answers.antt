@@ -1,4 +1,4 @@
-use Rattle.std.specs.BinaryHeap.{heap_items}
+use Rattle.pfair_ready.proofs.Common.{heap_items}
 use Rattle.pfair_ready.proofs.HeapLemmas.{given}
 use Rattle.pfair_ready.proofs.calendar.FarDates.push.Goals as goal
 

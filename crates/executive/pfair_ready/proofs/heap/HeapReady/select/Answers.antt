@@ -1,11 +1,5 @@
-use Rattle.std.proofs.Common.{List, map, min, ◌∙◌, ◌≡◌, ◌≤◌, ◌<◌, length, sym, subst, refl, arith}
-use Rattle.std.specs.Prelude.{vec_capacity}
-use Rattle.std.proofs.lemmas.List.{length-map}
-use Rattle.pfair_order.specs.declared.Key.{Key}
-use Rattle.pfair_order.specs.Order.{pd2_cmp}
-use Rattle.pfair_order.specs.Rank.{first_by_rank}
-use Rattle.pfair_ready.specs.Calendar.{IsCovered}
-use Rattle.pfair_ready.specs.Queue.{Content, Queue, released}
+use Rattle.std.proofs.Common.{List, map, min, ◌∙◌, ◌≡◌, ◌≤◌, ◌<◌, length, sym, subst, refl, arith, vec_capacity}
+use Rattle.pfair_ready.proofs.Common.{length-map, Key, pd2_cmp, first_by_rank, IsCovered, Content, Queue, released}
 use Rattle.pfair_ready.proofs.CoverLemmas.{covered_moved}
 use Rattle.pfair_ready.proofs.Taking.{IsTaking, one_more, room_for, taking_none, taking_dead, taking_live, first_taken}
 use Rattle.pfair_ready.proofs.heap.HeapReady.select.Given.{Over}

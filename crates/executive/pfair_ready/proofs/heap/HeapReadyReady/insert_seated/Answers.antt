@@ -1,9 +1,7 @@
-use Rattle.std.proofs.Common.{◌≡◌, ◌≤◌, ◌⊎◌, inl, inr, refl, sym, ap, ◌∙◌, false, not, cond, ℕ, Option, OnOk, Ok, Err, Result, true≢false}
-use Rattle.std.specs.Prelude.{is_some}
+use Rattle.std.proofs.Common.{◌≡◌, ◌≤◌, ◌⊎◌, inl, inr, refl, sym, ap, ◌∙◌, false, not, cond, ℕ, Option, OnOk, Ok, Err, Result, true≢false, is_some}
+use Rattle.pfair_ready.proofs.Common.{Content, Queue, HasTurn, IsCovered}
 use Rattle.std.specs.Result.{is_err}
 use Rattle.std.specs.FinMap as finmap
-use Rattle.pfair_ready.specs.Queue.{Content, Queue}
-use Rattle.pfair_ready.specs.Calendar.{HasTurn, IsCovered}
 use Rattle.pfair_ready.proofs.CoverLemmas.{HasDate, covered_kept, covered_more, put_back}
 use Rattle.pfair_ready.proofs.heap.HeapReadyReady.insert_seated.Goals as goal
 use Rattle.pfair_ready.proofs.heap.HeapReadyReady.insert_seated.Goals.{Joined-release-self, else-release-self, then-release-self}

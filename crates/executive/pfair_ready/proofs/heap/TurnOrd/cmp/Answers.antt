@@ -1,12 +1,8 @@
 use Rattle.std.proofs.Common.{◌≡◌, ◌==◌, ℕ, false, not, true≢false, refl, sym, ap, ◌∙◌}
+use Rattle.pfair_ready.proofs.Common.{Less, Equal, Greater, nat_cmp, ordering_index, nat_cmp_total, tied_itself, tie_group_of, key_numbered, turn_cmp}
 use Rattle.std.specs.declared.cmp.Ordering.{Ordering}
-use Rattle.std.specs.declared.cmp.Ordering.TheVariants.{Less, Equal, Greater}
-use Rattle.std.specs.Ordering.{nat_cmp, ordering_index}
-use Rattle.std.specs.Cmp.{nat_cmp_total, tied_itself}
 use Rattle.pfair_weight.specs.Number.{IsNumber}
 use Rattle.pfair_weight.proofs.ByteOrder.{numbers_order}
-use Rattle.pfair_order.specs.Order.{tie_group_of}
-use Rattle.pfair_ready.specs.Turns.{key_numbered, turn_cmp}
 use Rattle.pfair_ready.proofs.heap.TurnOrd.cmp.Goals as goal
 
 -- what decides at equal deadlines, b-bits and groups

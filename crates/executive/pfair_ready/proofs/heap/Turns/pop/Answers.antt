@@ -1,6 +1,5 @@
 use Rattle.std.proofs.Common.{subst}
-use Rattle.std.specs.BinaryHeap.{heap_items}
-use Rattle.pfair_ready.specs.Turns.{IsFirst}
+use Rattle.pfair_ready.proofs.Common.{heap_items, IsFirst}
 use Rattle.pfair_ready.proofs.HeapLemmas.{taken}
 use Rattle.pfair_ready.proofs.TurnLemmas.{top_first}
 use Rattle.pfair_ready.proofs.heap.Turns.pop.Goals as goal

@@ -1,7 +1,5 @@
 use Rattle.std.proofs.Common.{◌∷◌}
-use Rattle.std.specs.BinaryHeap.{heap_items}
-use Rattle.std.specs.List.Sorted.{IsPermutation}
-use Rattle.pfair_ready.specs.Turns.{turns_of}
+use Rattle.pfair_ready.proofs.Common.{heap_items, IsPermutation, turns_of}
 use Rattle.pfair_ready.proofs.HeapLemmas.{given, pushed_more, pushed_top}
 use Rattle.pfair_ready.proofs.heap.Turns.push.Goals as goal
 use Rattle.pfair_ready.proofs.heap.Turns.push.Goals.{In_ok-push}

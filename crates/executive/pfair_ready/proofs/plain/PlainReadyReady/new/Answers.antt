@@ -1,4 +1,4 @@
-use Rattle.pfair_weight.proofs.NamesApart.{apart_nil}
+use Rattle.pfair_ready.proofs.Common.{apart_nil}
 use Rattle.pfair_ready.proofs.PlainListLemmas.{name_of}
 use Rattle.pfair_ready.proofs.plain.PlainReadyReady.new.Goals as goal
 

@@ -1,10 +1,8 @@
 use Rattle.std.proofs.Common.{rules, ◌≡◌, not, filter, sym, ap, ◌∙◌}
+use Rattle.pfair_ready.proofs.Common.{apart_filter, name_eq, queue_of}
 use Rattle.std.proofs.lemmas.Fn.{filter_same}
-use Rattle.pfair_weight.proofs.NamesApart.{apart_filter}
-use Rattle.pfair_ready.specs.Names.{name_eq}
 use Rattle.std.specs.FinMap as finmap
 use Rattle.pfair_ready.specs.declared.plain.PlainEntry.{PlainEntry}
-use Rattle.pfair_ready.specs.PlainList.{queue_of}
 use Rattle.pfair_ready.proofs.PlainListLemmas.{name_of, contained, queue_of_filter, retain_but}
 use Rattle.pfair_ready.proofs.plain.PlainReadyReady.remove.Goals as goal
 

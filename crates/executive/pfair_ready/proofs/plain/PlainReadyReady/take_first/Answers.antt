@@ -1,13 +1,6 @@
 use Rattle.std.proofs.Common.{◌≡◌, not, List, sym, ap, subst, ◌∙◌}
-use Rattle.pfair_weight.proofs.NamesApart.{apart_filter}
-use Rattle.pfair_ready.specs.Names.{name_eq}
-use Rattle.std.specs.List.{list_any}
-use Rattle.pfair_order.specs.declared.Key.{Key}
-use Rattle.pfair_order.specs.Order.{pd2_cmp}
-use Rattle.pfair_order.specs.Rank.{first_by_rank}
+use Rattle.pfair_ready.proofs.Common.{apart_filter, name_eq, list_any, Key, pd2_cmp, first_by_rank, released, without, queue_of}
 use Rattle.itertools.specs.Extremes.{IsKLeast, by_cmp}
-use Rattle.pfair_ready.specs.Queue.{released, without}
-use Rattle.pfair_ready.specs.PlainList.{queue_of}
 use Rattle.pfair_ready.proofs.PlainListLemmas.{name_of, queue_of_filter, first_from_least, released_of}
 use Rattle.pfair_ready.proofs.plain.PlainReadyReady.take_first.Goals as goal
 

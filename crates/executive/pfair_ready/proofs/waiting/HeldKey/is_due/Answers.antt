@@ -1,13 +1,6 @@
-use Rattle.std.proofs.Common.{◌≡◌, ◌≤◌, ℕ, Bool, true, refl, sym, ap, ◌∙◌, arith}
-use Rattle.std.specs.Prelude.{nat_eq, nat_le, ◌&&◌}
-use Rattle.std.specs.Ordering.{eq_by_cmp}
-use Rattle.std.specs.Cmp.Lexicographic.{bytes_decides, pointwise}
+use Rattle.std.proofs.Common.{◌≡◌, ◌≤◌, ℕ, Bool, true, refl, sym, ap, ◌∙◌, arith, nat_eq, nat_le, ◌&&◌}
+use Rattle.pfair_ready.proofs.Common.{eq_by_cmp, bytes_decides, pointwise, Key, pd2_cmp, equal_keys, HeldKey, key_under}
 use Rattle.std.proofs.lemmas.Bool.Decides.{nat_tests}
-use Rattle.pfair_order.specs.declared.Key.{Key}
-use Rattle.pfair_order.specs.Order.{pd2_cmp}
-use Rattle.pfair_order.proofs.KeyLaws.{equal_keys}
-use Rattle.pfair_ready.specs.declared.waiting.HeldKey.{HeldKey}
-use Rattle.pfair_ready.specs.Waiting.{key_under}
 use Rattle.pfair_ready.proofs.waiting.HeldKey.is_due.Goals as goal
 
 with_true : (x y z w : Bool) → w ≡ true → (x && (y && z)) ≡ (x && (y && (z && w)))

@@ -1,7 +1,7 @@
 use Rattle.std.proofs.Common.{rules, ap, ◌∙◌}
+use Rattle.pfair_ready.proofs.Common.{queue_in}
 use Rattle.std.specs.FinMap as finmap
 use Rattle.indexmap.proofs.CallerLemmas.{filter-RetainsPairs}
-use Rattle.pfair_ready.specs.Waiting.{queue_in}
 use Rattle.pfair_ready.proofs.WaitingLemmas.{live_kept}
 use Rattle.pfair_ready.proofs.waiting.Waiting.drop_vacant.Goals as goal
 

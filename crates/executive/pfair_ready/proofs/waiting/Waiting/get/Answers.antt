@@ -1,8 +1,6 @@
 use Rattle.std.proofs.Common.{Some, sym, ap, ◌∙◌}
+use Rattle.pfair_ready.proofs.Common.{Key, Queue, held_under}
 use Rattle.std.specs.FinMap as finmap
-use Rattle.pfair_order.specs.declared.Key.{Key}
-use Rattle.pfair_ready.specs.Queue.{Queue}
-use Rattle.pfair_ready.specs.Waiting.{held_under}
 use Rattle.pfair_ready.proofs.WaitingLemmas.{flat, queue_at}
 use Rattle.pfair_ready.proofs.waiting.Waiting.get.Goals as goal
 

@@ -1,6 +1,6 @@
 use Rattle.std.proofs.Common.{◌≡◌, false, sym, ap, ◌∙◌, OnErr, Ok, Err}
+use Rattle.pfair_ready.proofs.Common.{Queue}
 use Rattle.std.specs.FinMap as finmap
-use Rattle.pfair_ready.specs.Queue.{Queue}
 use Rattle.pfair_ready.proofs.WaitingLemmas.{absent}
 use Rattle.pfair_ready.proofs.waiting.Waiting.put.Goals as goal
 use Rattle.pfair_ready.proofs.waiting.Waiting.put.Goals.{In_default}

@@ -1,8 +1,6 @@
 use Rattle.std.proofs.Common.{Some, ap, ◌∙◌}
+use Rattle.pfair_ready.proofs.Common.{Queue, HeldKey, held_under}
 use Rattle.std.specs.FinMap as finmap
-use Rattle.pfair_ready.specs.Queue.{Queue}
-use Rattle.pfair_ready.specs.declared.waiting.HeldKey.{HeldKey}
-use Rattle.pfair_ready.specs.Waiting.{held_under}
 use Rattle.pfair_ready.proofs.WaitingLemmas.{queue_put}
 use Rattle.pfair_ready.proofs.waiting.Waiting.put_new.Goals as goal
 

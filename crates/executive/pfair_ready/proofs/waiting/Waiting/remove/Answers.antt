@@ -1,6 +1,6 @@
 use Rattle.std.proofs.Common.{◌≡◌, None, refl, sym, ap, subst, ◌∙◌}
+use Rattle.pfair_ready.proofs.Common.{Queue}
 use Rattle.std.specs.FinMap as finmap
-use Rattle.pfair_ready.specs.Queue.{Queue}
 use Rattle.pfair_ready.proofs.WaitingLemmas.{absent, contained, queue_taken}
 use Rattle.pfair_ready.proofs.waiting.Waiting.remove.Goals as goal
 use Rattle.pfair_ready.proofs.waiting.Waiting.remove.Goals.{in-Some, in-None}

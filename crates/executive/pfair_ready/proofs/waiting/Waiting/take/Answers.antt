@@ -1,8 +1,6 @@
-use Rattle.std.proofs.Common.{sym, ap, ◌∙◌}
-use Rattle.std.specs.Prelude.{is_some}
+use Rattle.std.proofs.Common.{sym, ap, ◌∙◌, is_some}
+use Rattle.pfair_ready.proofs.Common.{Queue, is_due}
 use Rattle.std.specs.FinMap as finmap
-use Rattle.pfair_ready.specs.Queue.{Queue}
-use Rattle.pfair_ready.specs.Waiting.{is_due}
 use Rattle.pfair_ready.proofs.WaitingLemmas.{none_there}
 use Rattle.pfair_ready.proofs.waiting.Waiting.take.Goals as goal
 

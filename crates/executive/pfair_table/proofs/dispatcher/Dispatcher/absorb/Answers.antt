@@ -1,6 +1,6 @@
 use Rattle.std.proofs.Common.{sym, subst, IfErr}
+use Rattle.pfair_table.proofs.Common.{Dispatch}
 use Rattle.pfair_replica.specs.Faults.{IsMergeFaultOf}
-use Rattle.pfair_table.specs.Refinement.{Dispatch}
 use Rattle.pfair_table.proofs.Steps.{kept_above}
 use Rattle.pfair_table.proofs.ReadOn.{readings_above}
 use Rattle.pfair_table.proofs.dispatcher.Dispatcher.absorb.Goals as goal

@@ -1,9 +1,5 @@
 use Rattle.std.proofs.Common.{◌≡◌, ◌∙◌, sym, ap, subst, arith, Bool}
-use Rattle.pfair_replica.specs.Replica.{Replica, empty_replica}
-use Rattle.pfair_replica.specs.ReplicaRows.{replica_of}
-use Rattle.pfair_table.specs.Planned.{PlannedSlots}
-use Rattle.pfair_table.specs.Refinement.{IsKept}
-use Rattle.pfair_table.specs.Table.{Settings}
+use Rattle.pfair_table.proofs.Common.{Replica, empty_replica, replica_of, PlannedSlots, IsKept, Settings}
 use Rattle.pfair_table.proofs.Keeping.{start_kept}
 use Rattle.pfair_table.proofs.dispatcher.Dispatcher.begin.Goals as goal
 

@@ -1,14 +1,6 @@
 use Rattle.std.proofs.Common.{◌∙◌, sym, ap, subst, arith, List, map}
-use Rattle.std.specs.List.{AllByRecursion}
-use Rattle.pfair_admission.specs.Carried.{carried, CanBeCarried}
-use Rattle.pfair_replica.specs.Replica.{said}
-use Rattle.pfair_replica.specs.ReplicaRows.{replica_of}
-use Rattle.pfair_table.specs.NextRun.{IsFinished, end_of, members_left}
-use Rattle.pfair_table.specs.Places.{table_before, places_before, places_in}
-use Rattle.pfair_table.specs.Planned.{last_or}
-use Rattle.pfair_table.specs.Refinement.{Dispatch}
+use Rattle.pfair_table.proofs.Common.{AllByRecursion, carried, CanBeCarried, said, replica_of, IsFinished, end_of, members_left, table_before, places_before, places_in, last_or, Dispatch, Carried, History, Table, machine, history}
 use Rattle.pfair_table.specs.RunsOn.{last_places, last_table}
-use Rattle.pfair_table.specs.Table.{Carried, History, Table, machine, history}
 use Rattle.pfair_table.proofs.NextRuns.{carried_on, left_tables}
 use Rattle.pfair_table.proofs.States.{state_of}
 use Rattle.pfair_table.proofs.dispatcher.Dispatcher.left.Goals as goal

@@ -1,7 +1,5 @@
 use Rattle.std.proofs.Common.{◌≡◌, subst, false, length}
-use Rattle.pfair_replica.specs.ReplicaRows.{replica_of}
-use Rattle.pfair_replica.specs.Replica.{has_torn}
-use Rattle.pfair_table.specs.Refinement.{Dispatch, members_after}
+use Rattle.pfair_table.proofs.Common.{replica_of, has_torn, Dispatch, members_after}
 use Rattle.pfair_table.proofs.Keeping.{step_now}
 use Rattle.pfair_table.proofs.dispatcher.Dispatcher.members.Goals as goal
 

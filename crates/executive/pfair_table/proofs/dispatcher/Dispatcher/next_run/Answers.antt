@@ -1,10 +1,5 @@
 use Rattle.std.proofs.Common.{◌∙◌, sym, ap, subst, map, List}
-use Rattle.pfair_admission.specs.Carried.{carried, IsFirstLeft}
-use Rattle.pfair_admission.specs.Member.{Member}
-use Rattle.pfair_admission.specs.Roster.{Roster}
-use Rattle.pfair_table.specs.NextRun.{IsFinished}
-use Rattle.pfair_table.specs.Refinement.{Dispatch}
-use Rattle.pfair_table.specs.Table.{machine}
+use Rattle.pfair_table.proofs.Common.{carried, IsFirstLeft, Member, Roster, IsFinished, Dispatch, machine}
 use Rattle.pfair_table.proofs.Keeping.{step_now}
 use Rattle.pfair_table.proofs.NextRuns.{able_seen, fault_seen, followed_seen, left_seen, memory_seen}
 use Rattle.pfair_table.proofs.dispatcher.Dispatcher.next_run.Goals as goal

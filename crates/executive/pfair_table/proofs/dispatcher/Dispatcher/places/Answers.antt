@@ -1,8 +1,5 @@
 use Rattle.std.proofs.Common.{subst}
-use Rattle.std.specs.List.{AllByRecursion}
-use Rattle.pfair_table.specs.Limits.{IsOrigin}
-use Rattle.pfair_table.specs.Places.{IsFit}
-use Rattle.pfair_table.specs.Refinement.{Dispatch}
+use Rattle.pfair_table.proofs.Common.{AllByRecursion, IsOrigin, IsFit, Dispatch}
 use Rattle.pfair_table.proofs.PlacesOn.{fit_plan}
 use Rattle.pfair_table.proofs.dispatcher.Dispatcher.places.Goals as goal
 

@@ -1,13 +1,5 @@
-use Rattle.std.proofs.Common.{◌≡◌, ◌++◌, ◌∷◌, ◌+◌, [], ◌∙◌, sym, ap, subst, false, length}
-use Rattle.std.specs.Prelude.{if◌then◌else◌}
-use Rattle.std.proofs.lemmas.List.{length-append}
-use Rattle.pfair_replica.specs.ReplicaRows.{replica_of}
-use Rattle.pfair_replica.proofs.TornKeys.{untorn_by_test}
-use Rattle.pfair_table.specs.Events.{is_plannable, with_next_slot}
-use Rattle.pfair_table.specs.Planned.{PlannedSlots}
-use Rattle.pfair_table.specs.Refinement.{Dispatch, IsInStep, IsKept, IsNextStep, IsWholePlan, course_of}
-use Rattle.pfair_replica.specs.Replica.{said}
-use Rattle.pfair_table.specs.Table.{Settings, table, decisions}
+use Rattle.std.proofs.Common.{◌≡◌, ◌++◌, ◌∷◌, ◌+◌, [], ◌∙◌, sym, ap, subst, false, length, if◌then◌else◌}
+use Rattle.pfair_table.proofs.Common.{length-append, replica_of, untorn_by_test, is_plannable, with_next_slot, PlannedSlots, Dispatch, IsInStep, IsKept, IsNextStep, IsWholePlan, course_of, said, Settings, table, decisions}
 use Rattle.pfair_table.proofs.Keeping.{is_of_held, plan_now, step_now, kept_next, whole_plan, next_planned, next_none, course_next, course_same}
 use Rattle.pfair_table.proofs.dispatcher.Dispatcher.plan_next.Goals as goal
 

@@ -1,7 +1,6 @@
 use Rattle.std.proofs.Common.{subst}
-use Rattle.pfair_table.specs.Refinement.{Dispatch, HavePlannedAlike}
+use Rattle.pfair_table.proofs.Common.{Dispatch, HavePlannedAlike, LeaveAlike}
 use Rattle.pfair_table.specs.PlaceLaws.{HavePlacedAlike}
-use Rattle.pfair_table.specs.NextRun.{LeaveAlike}
 use Rattle.pfair_table.proofs.Alike.{kept_alike, placed_alike}
 use Rattle.pfair_table.proofs.NextRuns.{left_alike}
 use Rattle.pfair_table.proofs.dispatcher.Dispatcher.plans_alike.Goals as goal

@@ -1,10 +1,5 @@
-use Rattle.std.proofs.Common.{ℕ, ◌≡◌, ◌∙◌, sym, ap, subst, arith, length}
-use Rattle.std.specs.Prelude.{is_some}
-use Rattle.pfair_replica.specs.ReplicaRows.{replica_of}
-use Rattle.pfair_replica.proofs.TornKeys.{untorn_by_test}
-use Rattle.pfair_table.specs.Table.{Settings, Origin}
-use Rattle.pfair_table.specs.Limits.{IsOrigin}
-use Rattle.pfair_table.specs.Refinement.{IsInStep, IsKept}
+use Rattle.std.proofs.Common.{ℕ, ◌≡◌, ◌∙◌, sym, ap, subst, arith, length, is_some}
+use Rattle.pfair_table.proofs.Common.{replica_of, untorn_by_test, Settings, Origin, IsOrigin, IsInStep, IsKept}
 use Rattle.pfair_table.proofs.Keeping.{is_of_held, kept_anew}
 use Rattle.pfair_table.proofs.dispatcher.Dispatcher.reopen.Goals as goal
 

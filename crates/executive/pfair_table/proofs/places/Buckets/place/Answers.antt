@@ -1,8 +1,5 @@
-use Rattle.std.proofs.Common.{ℕ, ◌-◌, ◌<◌, ◌∙◌, sym, ap, arith, length, get_or, Some}
-use Rattle.std.specs.Prelude.{◌≢◌, slice_index}
-use Rattle.std.proofs.lemmas.Option.{slice_get-get_or}
-use Rattle.pfair_entry.specs.Exact.{name_exact}
-use Rattle.pfair_table.specs.declared.slot.Pick.{Pick}
+use Rattle.std.proofs.Common.{ℕ, ◌-◌, ◌<◌, ◌∙◌, sym, ap, arith, length, get_or, Some, ◌≢◌, slice_index}
+use Rattle.pfair_table.proofs.Common.{slice_get-get_or, name_exact, Pick}
 use Rattle.pfair_table.proofs.Bucketed.{none_by_bucket, place_by_row}
 use Rattle.pfair_table.proofs.places.Buckets.place.Goals as goal
 

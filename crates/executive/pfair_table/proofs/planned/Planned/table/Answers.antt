@@ -1,7 +1,5 @@
-use Rattle.std.proofs.Common.{◌+◌, ◌≤◌, ◌∙◌, ap, arith, length, Some}
-use Rattle.std.specs.Prelude.{slice_get}
-use Rattle.std.specs.Option.{option_map}
-use Rattle.pfair_table.specs.Planned.{PlannedSlots, tables_to}
+use Rattle.std.proofs.Common.{◌+◌, ◌≤◌, ◌∙◌, ap, arith, length, Some, slice_get}
+use Rattle.pfair_table.proofs.Common.{option_map, PlannedSlots, tables_to}
 use Rattle.pfair_table.proofs.Kept.{get_kept}
 use Rattle.pfair_table.proofs.planned.Planned.table.Goals as goal
 

@@ -1,11 +1,5 @@
 use Rattle.std.proofs.Common.{ℕ, zero, suc, ◌<◌, ◌≤◌, ◌≡◌, ◌∙◌, refl, sym, ap, subst, arith, get_or, List, [], ◌∷◌, ◌++◌, length, map, rules, take, vec_len, Vec, Global, None}
-use Rattle.std.specs.List.{AllByRecursion}
-use Rattle.std.proofs.lemmas.List.{get_or-map, length-map, map-append, take-map, take_more}
-use Rattle.pfair_table.specs.declared.slot.Pick.{Pick}
-use Rattle.pfair_table.specs.Places.{places_after, places_in, IsFit}
-use Rattle.pfair_table.specs.Planned.{as_tables, last_or}
-use Rattle.pfair_table.specs.Table.{Table}
-use Rattle.pfair_weight.proofs.NamesApart.{apart_nil}
+use Rattle.pfair_table.proofs.Common.{AllByRecursion, get_or-map, length-map, map-append, take-map, take_more, Pick, places_after, places_in, IsFit, as_tables, last_or, Table, apart_nil}
 use Rattle.pfair_table.proofs.PlacesOn.{last_fit, last_places, next_are}
 use Rattle.pfair_table.proofs.planned.Run.of_tables.Goals.{After-new}
 use Rattle.pfair_table.proofs.planned.Run.of_tables.Goals as goal

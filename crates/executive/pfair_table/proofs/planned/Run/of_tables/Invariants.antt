@@ -1,6 +1,5 @@
 use Rattle.std.proofs.Common.{◌≡◌, take, None}
-use Rattle.pfair_table.specs.Places.{places_in}
-use Rattle.pfair_table.specs.Planned.{as_tables, as_places}
+use Rattle.pfair_table.proofs.Common.{places_in, as_tables, as_places}
 use Rattle.pfair_table.proofs.planned.Run.of_tables.Given as goal
 
 -- the places so far are those of the tables so far

@@ -1,18 +1,6 @@
 use Rattle.std.proofs.Common.{List, Ok, false, ◌≤◌, ◌<◌, ◌≡◌, ◌+◌, ◌∙◌, sym, ap, subst, arith, suc, length}
-use Rattle.std.specs.List.{AllByRecursion}
-use Rattle.pfair_weight.specs.Name.{NamesApart}
-use Rattle.pfair_weight.specs.declared.window.TheConstants.{MAX_INDEX}
-use Rattle.pfair_entry.specs.declared.entry.Said.{Said}
-use Rattle.pfair_replica.specs.ReplicaRows.{replica_of}
-use Rattle.pfair_replica.specs.Replica.{Replica}
-use Rattle.pfair_admission.specs.Admission.{announcements, member_named}
-use Rattle.pfair_admission.specs.Member.{Member}
-use Rattle.pfair_admission.specs.Roster.{Roster}
-use Rattle.pfair_admission.proofs.NamesKept.{apart_boundary}
+use Rattle.pfair_table.proofs.Common.{AllByRecursion, NamesApart, MAX_INDEX, Said, replica_of, Replica, announcements, member_named, Member, Roster, apart_boundary, queued, is_said, IsSteady, heard_before, all_ran}
 use Rattle.pfair_table.specs.Planning.{rows_at}
-use Rattle.pfair_table.specs.Queue.{queued, is_said, IsSteady}
-use Rattle.pfair_table.specs.Refinement.{heard_before}
-use Rattle.pfair_table.specs.Table.{all_ran}
 use Rattle.pfair_table.proofs.NextIndexes.{each_boundary}
 use Rattle.pfair_table.proofs.QueueKept.{queue_after_boundary}
 use Rattle.pfair_table.proofs.Slots.{few_before, in_time, steady_next}

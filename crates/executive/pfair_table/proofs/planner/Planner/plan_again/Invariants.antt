@@ -1,7 +1,5 @@
 use Rattle.std.proofs.Common.{◌≡◌}
-use Rattle.pfair_replica.specs.ReplicaRows.{replica_of}
-use Rattle.pfair_table.specs.Readings.{AreReadingsOf}
-use Rattle.pfair_table.specs.Refinement.{IsInStep}
+use Rattle.pfair_table.proofs.Common.{replica_of, AreReadingsOf, IsInStep}
 use Rattle.pfair_table.proofs.planner.Planner.plan_again.Given as goal
 
 abbrev pub invariant-loop-slot : goal.invariant-loop-slot

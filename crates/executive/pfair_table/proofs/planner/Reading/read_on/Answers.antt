@@ -1,4 +1,4 @@
-use Rattle.pfair_replica.specs.ReplicaRows.{replica_of}
+use Rattle.pfair_table.proofs.Common.{replica_of}
 use Rattle.pfair_table.proofs.ReadOn.{read_whole}
 use Rattle.pfair_table.proofs.planner.Reading.read_on.Goals as goal
 

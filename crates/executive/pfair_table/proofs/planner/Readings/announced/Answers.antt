@@ -1,7 +1,5 @@
-use Rattle.std.proofs.Common.{◌≡◌, ◌∙◌, sym, subst, List}
-use Rattle.std.specs.Prelude.{IfOk}
-use Rattle.pfair_entry.specs.declared.entry.Said.{Said}
-use Rattle.pfair_replica.specs.ReplicaRows.{replica_of}
+use Rattle.std.proofs.Common.{◌≡◌, ◌∙◌, sym, subst, List, IfOk}
+use Rattle.pfair_table.proofs.Common.{Said, replica_of}
 use Rattle.pfair_table.proofs.ReadOn.{whole_said, none_said}
 use Rattle.pfair_table.proofs.planner.Readings.announced.Goals as goal
 

@@ -1,6 +1,5 @@
 use Rattle.std.proofs.Common.{◌≡◌}
-use Rattle.pfair_replica.specs.ReplicaRows.{replica_of}
-use Rattle.pfair_table.specs.Readings.{AreReadingsOf}
+use Rattle.pfair_table.proofs.Common.{replica_of, AreReadingsOf}
 use Rattle.pfair_table.proofs.ReadOn.{AreWholeBelow}
 use Rattle.pfair_table.proofs.planner.Readings.read_on.Given as goal
 

@@ -1,6 +1,5 @@
 use Rattle.std.proofs.Common.{◌≡◌, ◌∙◌, ap, subst, arith}
-use Rattle.pfair_replica.specs.ReplicaRows.{IsShape}
-use Rattle.pfair_table.specs.Script.{LoggedRun, capacity_of, lists_of}
+use Rattle.pfair_table.proofs.Common.{IsShape, LoggedRun, capacity_of, lists_of}
 use Rattle.pfair_table.proofs.Scripts.{capacity_some, capacity_short}
 use Rattle.pfair_table.proofs.script.Script.capacity.Goals as goal
 

@@ -1,6 +1,5 @@
 use Rattle.std.proofs.Common.{arith, ◌≡◌, ◌<◌, ◌∙◌, sym, ap, Some, slice_get, length}
-use Rattle.std.proofs.lemmas.List.{length-map}
-use Rattle.pfair_table.specs.Script.{LoggedRun, lists_of}
+use Rattle.pfair_table.proofs.Common.{length-map, LoggedRun, lists_of}
 use Rattle.pfair_table.proofs.Scripts.{log_fits, log_at}
 use Rattle.pfair_table.proofs.script.Script.log.Goals as goal
 

@@ -1,10 +1,5 @@
 use Rattle.std.proofs.Common.{refl, sym, subst, arith, Bool, false, [], None}
-use Rattle.std.proofs.lemmas.Option.{none-some}
-use Rattle.pfair_replica.specs.Replica.{Replica, empty_replica}
-use Rattle.pfair_replica.specs.ReplicaRows.{ReplicaRows, replica_of}
-use Rattle.pfair_table.specs.Refinement.{IsKept}
-use Rattle.pfair_table.specs.Readings.{AreReadingsOf}
-use Rattle.pfair_table.specs.Table.{Settings}
+use Rattle.pfair_table.proofs.Common.{none-some, Replica, empty_replica, ReplicaRows, replica_of, IsKept, AreReadingsOf, Settings}
 use Rattle.pfair_table.proofs.Keeping.{start_kept}
 use Rattle.pfair_table.proofs.Steps.{kept_above}
 use Rattle.pfair_table.proofs.slot_planner.SlotPlanner.new.Goals as goal

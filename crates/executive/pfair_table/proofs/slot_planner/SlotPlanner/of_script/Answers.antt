@@ -1,10 +1,5 @@
 use Rattle.std.proofs.Common.{◌≡◌, ◌∙◌, sym, ap, subst, arith, false}
-use Rattle.pfair_replica.specs.ReplicaRows.{replica_of}
-use Rattle.pfair_replica.specs.Replica.{frontier, has_torn}
-use Rattle.pfair_replica.proofs.TornKeys.{test_by_untorn}
-use Rattle.pfair_table.specs.Refinement.{Dispatch}
-use Rattle.pfair_table.specs.Script.{replica_of_logs}
-use Rattle.pfair_table.specs.Table.{Settings}
+use Rattle.pfair_table.proofs.Common.{replica_of, frontier, has_torn, test_by_untorn, Dispatch, replica_of_logs, Settings}
 use Rattle.pfair_table.proofs.Scripts.{script_whole, stalls}
 use Rattle.pfair_table.proofs.slot_planner.SlotPlanner.of_script.Goals as goal
 

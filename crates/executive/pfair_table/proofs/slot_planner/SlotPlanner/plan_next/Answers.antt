@@ -1,12 +1,6 @@
 use Rattle.std.proofs.Common.{◌+◌, ◌∙◌, sym, ap, subst, arith, None}
-use Rattle.pfair_replica.specs.ReplicaRows.{ReplicaRows, replica_of}
-use Rattle.pfair_replica.proofs.TornKeys.{untorn_by_test}
-use Rattle.pfair_table.specs.Readings.{AreReadingsOf}
-use Rattle.pfair_table.specs.Planned.{tables_to, decided_to}
-use Rattle.pfair_table.specs.Refinement.{Dispatch, IsInStep, IsKept, IsPlanFault, IsWholePlan}
+use Rattle.pfair_table.proofs.Common.{ReplicaRows, replica_of, untorn_by_test, AreReadingsOf, tables_to, decided_to, Dispatch, IsInStep, IsKept, IsPlanFault, IsWholePlan, said, Settings, table, decisions}
 use Rattle.pfair_table.specs.SlotPlans.{seeing}
-use Rattle.pfair_replica.specs.Replica.{said}
-use Rattle.pfair_table.specs.Table.{Settings, table, decisions}
 use Rattle.pfair_table.proofs.Keeping.{is_of_held, next_planned, next_none}
 use Rattle.pfair_table.proofs.SlotPlanned.{at_slot, memory_only, plannable, next_plan, kept_of, step_seen, kept_seen, whole_seen, seen_after}
 use Rattle.pfair_table.proofs.slot_planner.SlotPlanner.plan_next.Goals as goal

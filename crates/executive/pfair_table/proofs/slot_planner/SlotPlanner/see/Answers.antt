@@ -1,9 +1,5 @@
 use Rattle.std.proofs.Common.{sym, ap, subst, None}
-use Rattle.pfair_replica.specs.ReplicaRows.{ReplicaRows, SameShape, replica_of}
-use Rattle.pfair_replica.specs.Replica.{Below}
-use Rattle.pfair_table.specs.Readings.{AreReadingsOf}
-use Rattle.pfair_table.specs.Refinement.{Dispatch, IsKept}
-use Rattle.pfair_table.specs.Planned.{tables_to, decided_to}
+use Rattle.pfair_table.proofs.Common.{ReplicaRows, SameShape, replica_of, Below, AreReadingsOf, Dispatch, IsKept, tables_to, decided_to}
 use Rattle.pfair_table.proofs.Steps.{kept_above}
 use Rattle.pfair_table.proofs.ReadOn.{readings_above}
 use Rattle.pfair_table.proofs.slot_planner.SlotPlanner.see.Goals as goal

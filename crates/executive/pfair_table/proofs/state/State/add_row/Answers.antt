@@ -1,6 +1,5 @@
 use Rattle.std.proofs.Common.{◌∙◌, ap, sym, subst, List, ℕ}
-use Rattle.pfair_table.specs.Limits.{IsState, can_add_row}
-use Rattle.pfair_table.specs.Table.{Carried, Table}
+use Rattle.pfair_table.proofs.Common.{IsState, can_add_row, Carried, Table}
 use Rattle.pfair_table.proofs.States.{row_fits}
 use Rattle.pfair_table.proofs.state.State.add_row.Goals as goal
 

@@ -1,6 +1,5 @@
 use Rattle.std.proofs.Common.{sym, subst}
-use Rattle.pfair_admission.specs.Roster.{Roster}
-use Rattle.pfair_table.specs.Limits.{AreLeftAt}
+use Rattle.pfair_table.proofs.Common.{Roster, AreLeftAt}
 use Rattle.pfair_table.proofs.States.{none_left}
 use Rattle.pfair_table.proofs.state.State.first.Goals as goal
 

@@ -1,6 +1,5 @@
 use Rattle.std.proofs.Common.{arith, sym, subst, List, ℕ}
-use Rattle.pfair_table.specs.Places.{ArePlacesOf, IsFit}
-use Rattle.pfair_table.specs.Table.{Table}
+use Rattle.pfair_table.proofs.Common.{ArePlacesOf, IsFit, Table}
 use Rattle.pfair_table.proofs.States.{no_rows}
 use Rattle.pfair_table.proofs.state.State.new.Goals as goal
 

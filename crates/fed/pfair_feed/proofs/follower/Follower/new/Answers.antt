@@ -1,7 +1,5 @@
 use Rattle.std.proofs.Common.{◌∙◌, ap, length, None, subst, sym}
-use Rattle.pfair_table.specs.Events.{Course}
-use Rattle.pfair_table.specs.Refinement.{IsWholePlan}
-use Rattle.pfair_feed.specs.Follow.{Follow}
+use Rattle.pfair_feed.proofs.Common.{Course, IsWholePlan, Follow}
 use Rattle.pfair_feed.proofs.Planned.{whole_start}
 use Rattle.pfair_feed.proofs.follower.Follower.new.Goals as goal
 

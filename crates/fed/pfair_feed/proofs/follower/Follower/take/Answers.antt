@@ -1,11 +1,7 @@
 use Rattle.std.proofs.Common.{ℕ, List, Err, ◌≡◌, ◌∙◌, sym, ap, subst}
-use Rattle.pfair_text.specs.Output.{TakesPrefix}
-use Rattle.pfair_text.specs.Rows.{lines_text}
+use Rattle.pfair_feed.proofs.Common.{TakesPrefix, lines_text, Follow, news, Dispatch, KeepsUnwritten, rows_in}
 use Rattle.pfair_file.specs.declared.program_fault.ProgramFault.TheVariants.{WriteFailed}
-use Rattle.pfair_feed.specs.Follow.{Follow, news}
 use Rattle.pfair_feed.proofs.Going.{own_err}
-use Rattle.pfair_table.specs.Refinement.{Dispatch}
-use Rattle.pfair_feed.specs.Rows.{KeepsUnwritten, rows_in}
 use Rattle.pfair_feed.proofs.Books.{book_after_plans}
 use Rattle.pfair_feed.proofs.follower.Follower.take.Goals as goal
 

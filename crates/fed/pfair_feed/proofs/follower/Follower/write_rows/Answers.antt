@@ -1,6 +1,5 @@
 use Rattle.std.proofs.Common.{subst}
-use Rattle.pfair_text.specs.Output.{TakesPrefix}
-use Rattle.pfair_feed.specs.Follow.{Follow, news}
+use Rattle.pfair_feed.proofs.Common.{TakesPrefix, Follow, news}
 use Rattle.pfair_feed.proofs.follower.Follower.write_rows.Goals as goal
 
 pub returns-in-Err-clause-cut : goal.returns-in-Err-clause-cut

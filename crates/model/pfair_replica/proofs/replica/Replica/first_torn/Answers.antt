@@ -1,6 +1,5 @@
-use Rattle.std.proofs.Common.{ap, ◌∙◌}
-use Rattle.std.specs.Prelude.{is_some}
-use Rattle.pfair_replica.specs.ReplicaRows.{replica_of}
+use Rattle.std.proofs.Common.{ap, ◌∙◌, is_some}
+use Rattle.pfair_replica.proofs.Common.{replica_of}
 use Rattle.pfair_replica.proofs.FirstTorn.{first_listed}
 use Rattle.pfair_replica.proofs.TornKeys.{torn_test}
 use Rattle.pfair_replica.proofs.replica.Replica.first_torn.Goals as goal

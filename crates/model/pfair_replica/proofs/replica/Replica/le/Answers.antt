@@ -1,11 +1,5 @@
 use Rattle.std.proofs.Common.{ℕ, ◌≡◌, sym, ap, subst, arith, true, rules, ⊎_elim, refl}
-use Rattle.std.proofs.lemmas.Bool.{false≢true, cases_eq, cases_lt}
-use Rattle.std.specs.Option.{option_and_then}
-use Rattle.std.specs.Ordering.{nat_cmp}
-use Rattle.pfair_lattice.specs.Entries.{get}
-use Rattle.pfair_lattice.specs.Held.{HeldBelow}
-use Rattle.pfair_lattice.specs.HeldLaws.{none_below}
-use Rattle.pfair_replica.specs.ReplicaRows.{Row, held}
+use Rattle.pfair_replica.proofs.Common.{false≢true, cases_eq, cases_lt, option_and_then, nat_cmp, get, HeldBelow, none_below, Row, held}
 use Rattle.pfair_replica.proofs.replica.Replica.le.Goals as goal
 
 pub returns-then-not-row_le : goal.returns-then-not-row_le

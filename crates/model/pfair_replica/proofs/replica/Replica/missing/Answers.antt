@@ -1,8 +1,5 @@
-use Rattle.std.proofs.lemmas.Grind.{common_steps}
-use Rattle.std.proofs.Common.{◌≡◌, ◌<◌, ◌+◌, sym, ap, subst, arith, true, None, rules}
-use Rattle.std.specs.Prelude.{is_none, find}
-use Rattle.pfair_replica.specs.ReplicaRows.{held, replica_of}
-use Rattle.pfair_replica.specs.Replica.{IsLeastMissing, missing, numbers_to}
+use Rattle.std.proofs.Common.{◌≡◌, ◌<◌, ◌+◌, sym, ap, subst, arith, true, None, rules, is_none, find}
+use Rattle.pfair_replica.proofs.Common.{common_steps, held, replica_of, IsLeastMissing, missing, numbers_to}
 use Rattle.pfair_replica.proofs.Listing.{find_none, find_first, missing_is_least}
 use Rattle.pfair_replica.proofs.replica.Replica.missing.Goals as goal
 

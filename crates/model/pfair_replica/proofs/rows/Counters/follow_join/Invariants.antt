@@ -1,5 +1,5 @@
 use Rattle.std.proofs.Common.{◌≡◌, length}
-use Rattle.pfair_replica.specs.ReplicaRows.{held_in}
+use Rattle.pfair_replica.proofs.Common.{held_in}
 use Rattle.pfair_replica.proofs.Following.{Midway}
 use Rattle.pfair_replica.proofs.rows.Counters.follow_join.Given as goal
 

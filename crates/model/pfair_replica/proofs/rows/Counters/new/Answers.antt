@@ -1,7 +1,5 @@
-use Rattle.std.proofs.Common.{rules, ◌≡◌, sym, ap, ◌∙◌, arith, length}
-use Rattle.std.specs.Prelude.{replicate}
-use Rattle.std.proofs.lemmas.List.{length-replicate}
-use Rattle.pfair_replica.specs.Counters.{least_mark, total_count}
+use Rattle.std.proofs.Common.{rules, ◌≡◌, sym, ap, ◌∙◌, arith, length, replicate}
+use Rattle.pfair_replica.proofs.Common.{length-replicate, least_mark, total_count}
 use Rattle.pfair_replica.proofs.AllBeginnings.{none, least_of_none, total_of_none}
 use Rattle.pfair_replica.proofs.rows.Counters.new.Goals as goal
 

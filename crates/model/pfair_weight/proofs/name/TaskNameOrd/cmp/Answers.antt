@@ -1,6 +1,5 @@
 use Rattle.std.proofs.Common.{◌∙◌, ap}
-use Rattle.std.specs.Cmp.Lexicographic.{slice_cmp}
-use Rattle.std.specs.Ordering.{nat_cmp}
+use Rattle.pfair_weight.proofs.Common.{slice_cmp, nat_cmp}
 use Rattle.pfair_weight.proofs.name.TaskNameOrd.cmp.Goals as goal
 
 pub returns : goal.returns

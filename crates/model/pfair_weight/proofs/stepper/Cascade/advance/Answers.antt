@@ -1,11 +1,6 @@
-use Rattle.std.proofs.lemmas.Grind.{common_steps}
 use Rattle.std.proofs.Common.{arith, ◌≡◌, ◌+◌, ◌-◌, ◌*◌, ◌<◌, ◌≤◌, ap}
-use Rattle.std.specs.Int.{div_ceil}
-use Rattle.pfair_weight.specs.Rounding.{div_ceil_rises}
-use Rattle.std.proofs.lemmas.Nat.{mul-le}
-use Rattle.std.proofs.Math.Nat.{le_refl}
+use Rattle.pfair_weight.proofs.Common.{common_steps, div_ceil, div_ceil_rises, mul-le, le_refl, MAX_CLOSE}
 use Rattle.pfair_weight.specs.Close.{Close}
-use Rattle.pfair_weight.specs.declared.window.TheConstants.{MAX_CLOSE}
 use Rattle.pfair_weight.proofs.Cascades.{grown, end_fits, more_of, more_between, ceiling_is}
 use Rattle.pfair_weight.proofs.stepper.Cascade.advance.Goals as goal
 use Rattle.pfair_weight.proofs.stepper.Cascade.advance.Goals.{After-ceiling}

@@ -1,6 +1,5 @@
-use Rattle.std.proofs.lemmas.Grind.{common_steps}
 use Rattle.std.proofs.Common.{arith}
-use Rattle.pfair_weight.specs.Rounding.{rounded_twice}
+use Rattle.pfair_weight.proofs.Common.{common_steps, rounded_twice}
 use Rattle.pfair_weight.proofs.Cascades.{ceiling_is}
 use Rattle.pfair_weight.proofs.stepper.Cascade.end.Goals as goal
 

@@ -1,9 +1,6 @@
-use Rattle.std.proofs.lemmas.Grind.{common_steps}
 use Rattle.std.proofs.Common.{arith, ◌≡◌, ◌+◌, ◌*◌, ◌<◌, ◌≤◌, ap}
-use Rattle.std.specs.Int.{div_ceil}
+use Rattle.pfair_weight.proofs.Common.{common_steps, div_ceil, MAX_INDEX, div_ceil_rises}
 use Rattle.pfair_weight.specs.Position.{Position}
-use Rattle.pfair_weight.specs.declared.window.TheConstants.{MAX_INDEX}
-use Rattle.pfair_weight.specs.Rounding.{div_ceil_rises}
 use Rattle.pfair_weight.proofs.Cascades.{ceiling_is}
 use Rattle.pfair_weight.proofs.Steppers.{group_kept, group_moves, next_stepped}
 use Rattle.pfair_weight.proofs.stepper.Stepper.advance.Goals as goal

@@ -1,8 +1,6 @@
 use Rattle.std.proofs.Common.{◌≡◌, ◌∙◌, ap, arith, map, sym}
+use Rattle.pfair_desk.proofs.Common.{cell_name, BoardFrame, fresh_desk, state_of}
 use Rattle.std.proofs.lemmas.Grind.{common_steps}
-use Rattle.once_cell.specs.Once.{cell_name}
-use Rattle.pfair_desk.specs.Boards.{BoardFrame}
-use Rattle.pfair_desk.specs.Desks.{fresh_desk, state_of}
 use Rattle.pfair_desk.proofs.Rows.{each_snoc}
 use Rattle.pfair_desk.proofs.board.Board.desks.Goals as goal
 

@@ -1,5 +1,5 @@
 use Rattle.std.proofs.Common.{◌≡◌, map, take, replicate, None}
-use Rattle.once_cell.specs.Once.{cell_name}
+use Rattle.pfair_desk.proofs.Common.{cell_name}
 use Rattle.pfair_desk.proofs.board.Notes.of.Given as goal
 
 abbrev pub invariant-loop-cell : goal.invariant-loop-cell

@@ -1,9 +1,5 @@
 use Rattle.std.proofs.Common.{◌≡◌, ap, sym, ◌∙◌, subst, refl, Some, arith}
-use Rattle.pfair_lattice.specs.declared.join_map.Flat.TheVariants.{One}
-use Rattle.pfair_replica.specs.ReplicaRows.{held, replica_of}
-use Rattle.pfair_desk.specs.Boards.{IsKey}
-use Rattle.pfair_desk.specs.Desks.{DeskView, learned, state_of}
-use Rattle.pfair_desk.specs.Knowledge.{Knowledge}
+use Rattle.pfair_desk.proofs.Common.{One, held, replica_of, IsKey, DeskView, learned, state_of, Knowledge}
 use Rattle.pfair_desk.proofs.NotedLemmas.{in_order_after, in_order_only, keeps_after, now_one, place_there}
 use Rattle.pfair_desk.proofs.desk.Desk.look.Goals.{in-Ok, in-Err}
 use Rattle.pfair_desk.proofs.desk.Desk.look.Goals as goal

@@ -1,8 +1,6 @@
 use Rattle.std.proofs.Common.{arith, ◌≡◌, ap, sym, refl, ◌∙◌, subst, inl, Result, Ok, Err, OnOk, OnErr}
-use Rattle.pfair_replica.specs.Replica.{Replica, Below, join}
+use Rattle.pfair_desk.proofs.Common.{Replica, Below, join, replica_of, AllNoted}
 use Rattle.pfair_replica.specs.Faults.{IsPartlyMerged}
-use Rattle.pfair_replica.specs.ReplicaRows.{replica_of}
-use Rattle.pfair_desk.specs.Noted.{AllNoted}
 use Rattle.pfair_desk.proofs.NotedLemmas.{all_noted_more, join_noted, below_noted, noted_whole, kept_noted, in_order_met, holds_more}
 use Rattle.pfair_desk.proofs.desk.Desk.meet.Goals.{After-merge, in-Ok, in-Err}
 use Rattle.pfair_desk.proofs.desk.Desk.meet.Goals as goal

@@ -1,7 +1,5 @@
 use Rattle.std.proofs.Common.{◌∙◌, ap, None, length, replicate}
-use Rattle.std.proofs.lemmas.List.{length-map}
-use Rattle.once_cell.specs.Once.{cell_name}
-use Rattle.pfair_replica.specs.ReplicaRows.{replica_of}
+use Rattle.pfair_desk.proofs.Common.{length-map, cell_name, replica_of}
 use Rattle.pfair_desk.proofs.NotedLemmas.{in_order_fresh}
 use Rattle.pfair_desk.proofs.desk.Desk.of.Goals as goal
 

@@ -1,9 +1,5 @@
 use Rattle.std.proofs.Common.{◌≡◌, ◌≤◌, ap, sym, subst, arith, refl}
-use Rattle.pfair_replica.specs.Replica.{Replica}
-use Rattle.pfair_replica.specs.ReplicaRows.{replica_of}
-use Rattle.pfair_desk.specs.Boards.{IsKey}
-use Rattle.pfair_desk.specs.Desks.{DeskView}
-use Rattle.pfair_desk.specs.Knowledge.{Knowledge}
+use Rattle.pfair_desk.proofs.Common.{Replica, replica_of, IsKey, DeskView, Knowledge}
 use Rattle.pfair_desk.proofs.NotedLemmas.{in_order_after, in_order_next, keeps_after, now_one, place_there}
 use Rattle.pfair_desk.proofs.desk.Desk.put.Goals as goal
 

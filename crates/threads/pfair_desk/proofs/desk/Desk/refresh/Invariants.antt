@@ -1,7 +1,5 @@
 use Rattle.std.proofs.Common.{◌≡◌, ◌≤◌, ◌*◌, ℕ}
-use Rattle.pfair_replica.specs.ReplicaRows.{held, replica_of}
-use Rattle.pfair_desk.specs.Desks.{Keeps}
-use Rattle.pfair_desk.specs.Gained.{gained_in_rows, NoGapInRow, SameDesk}
+use Rattle.pfair_desk.proofs.Common.{held, replica_of, Keeps, gained_in_rows, NoGapInRow, SameDesk}
 use Rattle.pfair_desk.proofs.desk.Desk.refresh.Given as goal
 
 abbrev pub invariant-loop-processor : goal.invariant-loop-processor

@@ -1,14 +1,9 @@
-use Rattle.std.proofs.Common.{sym, rules, arith, ap, refl, ◌∙◌, subst, ◌≡◌, ◌<◌, ◌+◌, ℕ, length, slice_get, Some, [], ◌∷◌, ◌++◌, vec_len, add-one}
-use Rattle.std.specs.Prelude.{IfOk, OnOk, Ok, Err}
+use Rattle.std.proofs.Common.{sym, rules, arith, ap, refl, ◌∙◌, subst, ◌≡◌, ◌<◌, ◌+◌, ℕ, length, slice_get, Some, [], ◌∷◌, ◌++◌, vec_len, add-one, IfOk, OnOk, Ok, Err}
+use Rattle.pfair_board.proofs.Common.{into_iter_items, slice_get_within, slice_get_read, get_or_from_slice_get, Worked, IsWorkOf, IsWorkplaceOf, each_snoc}
 use Rattle.std.specs.declared.result.Result.{Result}
-use Rattle.std.specs.Vec.Iter.{into_iter_items}
 use Rattle.std.proofs.lemmas.Grind.{common_steps}
-use Rattle.std.proofs.lemmas.Option.{slice_get_within, slice_get_read, get_or_from_slice_get}
 use Rattle.std.specs.declared.thread.PromisedHandle.{PromisedHandle}
-use Rattle.pfair_board.specs.declared.threads.Worked.{Worked}
 use Rattle.pfair_board.specs.declared.threads.RowOf.{RowOf}
-use Rattle.pfair_board.specs.Works.{IsWorkOf, IsWorkplaceOf}
-use Rattle.pfair_desk.proofs.Rows.{each_snoc}
 use Rattle.pfair_board.proofs.Rows.{none_in_empty, work_moves}
 use Rattle.pfair_board.proofs.threads.fn.run_all.scope.Goals as goal
 

@@ -1,0 +1,48 @@
+-- The names that many of these proofs cite, passed on from one place. Declares nothing.
+pub use Rattle.pfair_admission.proofs.Each.{both, each, each_filter, each_map}
+pub use Rattle.pfair_admission.proofs.Effects.{by_boundary, by_effect, each_change}
+pub use Rattle.pfair_admission.proofs.NamesKept.{apart_boundary, apart_effect, apart_present, apart_ran}
+pub use Rattle.pfair_admission.specs.Admission.{Machine, all_decided, announcements, boundary, boundary_decisions, change, effect, is_freed, is_named, member_named, newcomer, present, quantum_of, ran, running, seatless, with_delay, with_freeing, with_quantum}
+pub use Rattle.pfair_admission.specs.Carried.{CanBeCarried, IsFirstLeft, all_raised, carried, carried_delays, jobs_done, subtasks_done, subtasks_of, taken_off}
+pub use Rattle.pfair_admission.specs.Member.{Member, eligible_from, is_departing, next_key, theta}
+pub use Rattle.pfair_admission.specs.Roster.{Roster}
+pub use Rattle.pfair_entry.specs.Entry.{IsEntry, IsWeighed, IsWithinLimits, Logged}
+pub use Rattle.pfair_entry.specs.Exact.{entry_exact, name_exact, name_itself}
+pub use Rattle.pfair_entry.specs.Same.{entry_eq, name_eq}
+pub use Rattle.pfair_entry.specs.declared.entry.Announcement.{Announcement}
+pub use Rattle.pfair_entry.specs.declared.entry.Said.{Said}
+pub use Rattle.pfair_lattice.specs.declared.join_map.Flat.TheVariants.{One, Torn}
+pub use Rattle.pfair_order.specs.declared.Key.{Key}
+pub use Rattle.pfair_ready.specs.Names.{name_cmp}
+pub use Rattle.pfair_ready.specs.Queue.{Queue, released, without}
+pub use Rattle.pfair_replica.proofs.Marks.{below_agree, frontier_le, mark_le, same_said}
+pub use Rattle.pfair_replica.proofs.SoundEntries.{beginnings_grow, held_within, read_by_number, some_at}
+pub use Rattle.pfair_replica.proofs.TornKeys.{test_by_untorn, untorn_by_test}
+pub use Rattle.pfair_replica.specs.Among.{Among, all_among, among_all, among_below, among_contains, among_filter, among_map, among_right, contains_among, filter_among, map_among, map_same}
+pub use Rattle.pfair_replica.specs.Offered.{absorbed, has_key, has_shape, taken}
+pub use Rattle.pfair_replica.specs.Replica.{Agree, Below, IsReplica, Replica, Untorn, empty_replica, frontier, has_torn, join, numbers_below, only, said, said_behind, said_by, said_in, sound_beginning, sound_total, with_entry}
+pub use Rattle.pfair_replica.specs.ReplicaRows.{IsShape, ReplicaRows, SameShape, replica_of}
+pub use Rattle.pfair_table.specs.Events.{Course, IsEvent, begin_at, happens, is_plannable, run, run_of, with_next_slot}
+pub use Rattle.pfair_table.specs.Laws.{IsOf, IsPrefixOf, OnePlan, OneSchedule, OneTable, PlanSoFar, PlansGoOn, RunsAreCounted, TablesAreOrdered}
+pub use Rattle.pfair_table.specs.Limits.{AreLeftAt, IsCarried, IsOrigin, IsSettings, IsState, can_add_row, with_row}
+pub use Rattle.pfair_table.specs.NextRun.{CanBeFollowed, IsFinished, IsNextRunFault, IsResumeFault, LeaveAlike, end_of, left_by, members_left}
+pub use Rattle.pfair_table.specs.Places.{AllDiffer, ArePlacesOf, IsFit, all_kept, filled, free_place, is_used, kept_places, place_of, places_after, places_before, places_from, places_in, table_before}
+pub use Rattle.pfair_table.specs.Planned.{AreKept, IsNext, PlannedSlots, as_places, as_tables, decided_to, last_or, tables_to, with_next}
+pub use Rattle.pfair_table.specs.Queue.{IsNotifiedOf, IsQueue, IsQueueBesides, IsQueueBut, IsQueueWithout, IsSteady, MayRun, has_key_of, is_of_some, is_said, keys_of, queued}
+pub use Rattle.pfair_table.specs.Ranks.{first_by_rank}
+pub use Rattle.pfair_table.specs.Readings.{AreReadingsOf, AreWhole, IsReadingOf, entries_read, said_by_all}
+pub use Rattle.pfair_table.specs.Refinement.{Dispatch, HavePlannedAlike, IsInStep, IsKept, IsNextStep, IsPlanFault, IsPlanOf, IsWholePlan, course_of, heard_before, members_after}
+pub use Rattle.pfair_table.specs.Script.{IsLoggedRun, LoggedRun, capacity_of, contents_of, entry_of, held_of, is_short, lists_of, replica_of_logs, row_of}
+pub use Rattle.pfair_table.specs.Table.{Carried, History, Origin, Settings, Story, Table, all_ran, chosen, counted, counted_one, decisions, eligible, history, index_of, is_eligible, machine, members_at, members_before, names_task, next_index, pick, plan, plan_decisions, quanta, slot_of, table, with_decisions, world}
+pub use Rattle.pfair_table.specs.declared.slot.Decided.{Decided}
+pub use Rattle.pfair_table.specs.declared.slot.Pick.{Pick}
+pub use Rattle.pfair_weight.proofs.NamesApart.{apart_cons, apart_filter, apart_head, apart_map, apart_nil, apart_push, apart_tail}
+pub use Rattle.pfair_weight.specs.Name.{NamesApart}
+pub use Rattle.pfair_weight.specs.declared.window.TheConstants.{MAX_INDEX}
+pub use Rattle.std.proofs.Math.Seq.{drop-nil, take-length, take-suc}
+pub use Rattle.std.proofs.lemmas.Bool.{and_from, and_parts, cases_Bool, cases_eq, cases_lt, cases_order, eq-eqb, eqb-true, false_from_ne_true, false≢true, le-leb, le-ltb, leb-true, lt-ltb, ltb-true, ne_eqb, not-true, or_cases, or_left, or_parts, or_right, true≢false}
+pub use Rattle.std.proofs.lemmas.List.{append-nil, append_assoc, drop-append-le, drop-map, drop_all, drop_more, get_or-map, get_or-set_other, get_or-set_same, length-append, length-drop, length-map, length-replicate, length-set, length-take-le, map-append, map-id, nil_from_length, take-append-drop, take-append-le, take-map, take_more}
+pub use Rattle.std.proofs.lemmas.Option.{get_or_from_slice_get, none-some, same_Some, slice_get-get_or, slice_get-map, slice_get_past, slice_get_read, slice_get_within}
+pub use Rattle.std.specs.Cmp.Lexicographic.{nat_list_eq_equiv}
+pub use Rattle.std.specs.List.{AllByRecursion, filter, list_all, list_any}
+pub use Rattle.std.specs.Option.{ForSome, option_copied, option_map}
