@@ -1,5 +1,5 @@
 //! The dispatcher.
-ghost use Rattle.std.specs.Prelude.{◌≡◌, ◌≤◌, ◌<◌, true, false, IfOk, IfErr, IfSome, IfNone, OnOk, OnErr, Err, None, drop, length, max, min, slice_get};
+ghost use Rattle.std.specs.Prelude.{◌≡◌, ◌≤◌, ◌<◌, true, false, IfOk, IfErr, IfSome, IfNone, OnOk, OnErr, Err, None, length, max, min, slice_get};
 ghost use Rattle.std.specs.Option.{option_map};
 ghost use Rattle.pfair_replica.specs.Replica.{has_torn};
 ghost use Rattle.pfair_replica.specs.Offered.{taken, absorbed};
@@ -178,7 +178,7 @@ impl<R: Ready> Dispatcher<R> {
         ensures value { self.now.forgotten ≤ slot → option_map (λ rows. rows.now) result ≡ slice_get self.now.tables slot }
         ensures forgotten { slot < self.now.forgotten → result ≡ None }
     {
-        self.planned.table(slot as usize)
+        Some(&self.planned.at(slot as usize)?.plan.table)
     }
 
     /// Returns the places of a slot: for each row of its table the processor that runs it. A task
@@ -194,7 +194,7 @@ impl<R: Ready> Dispatcher<R> {
         ensures fit { AllByRecursion (IsFit self.now.settings.processors) self.now.tables }
         ensures origin { IsOrigin self.now.origin self.now.settings }
     {
-        self.planned.places(slot as usize)
+        Some(&self.planned.at(slot as usize)?.places)
     }
 
     /// Returns the admission decisions at the boundary of a slot, in the order of processor and
@@ -203,7 +203,7 @@ impl<R: Ready> Dispatcher<R> {
         ensures value { self.now.forgotten ≤ slot → option_map (λ rows. rows.now) result ≡ slice_get self.now.decided slot }
         ensures forgotten { slot < self.now.forgotten → result ≡ None }
     {
-        self.planned.decided(slot as usize)
+        Some(&self.planned.at(slot as usize)?.plan.decided)
     }
 
     /// Returns the members after the last planned slot: in the order of admission the tasks that were

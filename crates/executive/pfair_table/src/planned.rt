@@ -1,6 +1,6 @@
 //! What is planned so far.
-ghost use Rattle.std.specs.Prelude.{◌≡◌, ◌<◌, ◌≤◌, ◌-◌, ◌++◌, ◌∷◌, [], IfOk, OnOk, OnErr, None, drop, length, map, max, min, slice_get};
-ghost use Rattle.std.specs.Option.{option_copied, option_map};
+ghost use Rattle.std.specs.Prelude.{◌≡◌, ◌<◌, ◌≤◌, ◌-◌, [], IfOk, OnOk, OnErr, None, drop, length, map, max, min, slice_get};
+ghost use Rattle.std.specs.Option.{option_map};
 ghost use Rattle.std.specs.List.{AllByRecursion};
 ghost use Rattle.pfair_table.specs.Places.{places_in, table_before, places_before, IsFit};
 ghost use Rattle.pfair_table.specs.Planned.{last_or, as_tables, as_places, with_next, IsNext};
@@ -166,31 +166,17 @@ impl Planned {
         self.first += count;
     }
 
-    /// The table of a slot, or none if that is forgotten.
-    pub(crate) fn table(&self, slot: usize) -> Option<&[Pick]>
-        ensures value { self.now.forgotten ≤ slot → option_map (λ rows. rows.now) result ≡ slice_get self.now.tables slot }
+    /// The slot of this number, unless it is forgotten or isn't planned.
+    pub(crate) fn at(&self, slot: usize) -> Option<&PlannedSlot>
+        ensures table { self.now.forgotten ≤ slot → option_map (λ p. p.now.plan.table.items) result ≡ slice_get self.now.tables slot }
+        ensures places { self.now.forgotten ≤ slot → option_map (λ p. p.now.places.items) result ≡ slice_get (places_in self.now.origin self.now.tables) slot }
+        ensures decided { self.now.forgotten ≤ slot → option_map (λ p. p.now.plan.decided.items) result ≡ slice_get self.now.decided slot }
         ensures forgotten { slot < self.now.forgotten → result ≡ None }
     {
-        let planned = kept_at(&self.slots, self.first, self.forgotten, slot)?;
-        Some(&planned.plan.table)
-    }
-
-    /// The places of a slot, or none if that is forgotten.
-    pub(crate) fn places(&self, slot: usize) -> Option<&[u8]>
-        ensures value { self.now.forgotten ≤ slot → option_map (λ places. places.now) result ≡ slice_get (places_in self.now.origin self.now.tables) slot }
-        ensures forgotten { slot < self.now.forgotten → result ≡ None }
-    {
-        let planned = kept_at(&self.slots, self.first, self.forgotten, slot)?;
-        Some(&planned.places)
-    }
-
-    /// The decisions at the boundary of a slot, or none if that is forgotten.
-    pub(crate) fn decided(&self, slot: usize) -> Option<&[Decided]>
-        ensures value { self.now.forgotten ≤ slot → option_map (λ rows. rows.now) result ≡ slice_get self.now.decided slot }
-        ensures forgotten { slot < self.now.forgotten → result ≡ None }
-    {
-        let planned = kept_at(&self.slots, self.first, self.forgotten, slot)?;
-        Some(&planned.plan.decided)
+        if slot < self.forgotten {
+            return None;
+        }
+        self.slots.get(slot - self.first)
     }
 
     /// The table of the last slot and its places, also if it is forgotten, or those of the slot before
@@ -241,23 +227,6 @@ impl Planned {
         self.of = Snapshot::of(replica);
         Ok(())
     }
-}
-
-// The slot of this number, unless it is forgotten or isn't planned.
-fn kept_at(
-    slots: &VecDeque<PlannedSlot>,
-    first: usize,
-    forgotten: usize,
-    slot: usize,
-) -> Option<&PlannedSlot>
-    requires { first ≤ forgotten }
-    ensures value { forgotten ≤ slot → option_copied result ≡ slice_get slots.now.items (slot - first) }
-    ensures forgotten { slot < forgotten → result ≡ None }
-{
-    if slot < forgotten {
-        return None;
-    }
-    slots.get(slot - first)
 }
 
 // Removes that many slots from the front. Their lists are kept for reuse as far as there is room.

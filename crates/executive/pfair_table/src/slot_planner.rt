@@ -38,8 +38,6 @@ impl<R: Ready> Model for SlotPlanner<R> {
     ghost use Rattle.std.specs.Prelude.{None};
     ghost use Rattle.pfair_replica.specs.ReplicaRows.{replica_of};
     ghost use Rattle.pfair_table.specs.Readings.{AreReadingsOf};
-    ghost use Rattle.pfair_table.specs.Script.{replica_of_logs};
-    ghost use Rattle.pfair_table.specs.ScriptRun.{IsBySlot, IsScriptFaultOf};
     ghost use Rattle.pfair_table.specs.Refinement.{Dispatch, IsKept};
     ghost use Rattle.pfair_table.specs.Planned.{tables_to, decided_to};
 
