@@ -18,15 +18,18 @@ ghost use Rattle.pfair_file.specs.declared.program_fault.ProgramFault.TheVariant
 ghost use Rattle.pfair_feed.specs.declared.output.Output.TheVariants.{Lags};
 ghost use Rattle.pfair_replica.specs.Replica.{has_torn};
 
-use crate::output::{Output, write_header, write_rows};
+use crate::output::{Output, send_now, write_rows};
 use pfair_entry::Entry;
 use pfair_file::ProgramFault;
 use pfair_lag::LagBook;
 use pfair_lattice::Flat;
-use pfair_output::first_book;
+use pfair_output::{
+    add_decisions_header, add_lags_header, add_placed_header, add_replay_header, first_book,
+};
 use pfair_ready::Ready;
 use pfair_replica::Taken;
 use pfair_table::{Dispatcher, NextRunFault, PlanFault, Settings, State, Step};
+use pfair_text::{finish, new_text};
 use std::alloc::{AllocError, Global};
 use std::io::Write;
 use std::marker::Model;
@@ -131,7 +134,15 @@ impl<R: Ready> Follower<R> {
         ensures nothing { IfErr result (λ e. e ≢ WriteFailed → Keeps (W.contents writer.old) (W.contents writer.new)) }
         ensures cause { IfErr result (λ e. (e ≡ WriteFailed) ⊎ (e ≡ Memory)) }
     {
-        write_header(self.alloc, self.output, writer)
+        let mut text = new_text(self.alloc);
+        match self.output {
+            Output::Tables => add_replay_header(&mut text),
+            Output::PlacedTables => add_placed_header(&mut text),
+            Output::Decisions => add_decisions_header(&mut text),
+            Output::Lags => add_lags_header(&mut text),
+        }?;
+        let text = finish(text)?;
+        send_now(writer, text.as_slice())
     }
 
     /// Takes entry `number` (from 1) of the log of `proc` (from 0), plans all that is then settled,

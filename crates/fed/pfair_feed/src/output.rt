@@ -1,9 +1,9 @@
 //! What is written of a run, and the rows of it that are new.
-ghost use Rattle.std.specs.Prelude.{◌≡◌, ◌⊎◌, ◌++◌, ◌≢◌, [], IfErr, IfOk, IsErrOf, OnErr, OnOk};
+ghost use Rattle.std.specs.Prelude.{◌≡◌, ◌⊎◌, ◌++◌, ◌≢◌, [], IfErr, IsErrOf, OnErr, OnOk};
 ghost use Rattle.std.specs.Io.KnownBytes.{Appends, Keeps};
 ghost use Rattle.pfair_text.specs.Output.{TakesPrefix};
-ghost use Rattle.pfair_text.specs.Rows.{IsOpen, line, text_so_far};
-ghost use Rattle.pfair_feed.specs.Rows.{IsBookIfAny, IsWholeBook, KeepsUnwritten, header_of, rows_text};
+ghost use Rattle.pfair_text.specs.Rows.{IsOpen, text_so_far};
+ghost use Rattle.pfair_feed.specs.Rows.{IsBookIfAny, IsWholeBook, KeepsUnwritten, rows_text};
 ghost use Rattle.pfair_file.specs.declared.program_fault.ProgramFault.TheVariants.{Memory, WriteFailed};
 
 use crate::follower::known_book;
@@ -11,8 +11,7 @@ use csv::Writer;
 use pfair_file::ProgramFault;
 use pfair_lag::LagBook;
 use pfair_output::{
-    add_decisions_from, add_decisions_header, add_lags_from, add_lags_header, add_placed_header,
-    add_placed_tables_from, add_replay_header, add_tables_from, book_slots,
+    add_decisions_from, add_lags_from, add_placed_tables_from, add_tables_from, book_slots,
 };
 use pfair_ready::Ready;
 use pfair_table::{Dispatcher, Settings};
@@ -31,28 +30,6 @@ pub enum Output {
     Decisions,
     /// The lags: a row for each task that stays, after each slot.
     Lags,
-}
-
-/// Writes the header, and flushes it.
-pub(crate) fn write_header<W: Write>(
-    alloc: Global,
-    output: Output,
-    writer: &mut W,
-) -> Result<(), ProgramFault>
-    ensures written { OnOk result (Appends (W.contents writer.old) (W.contents writer.new) (line (header_of output))) }
-    ensures cut { IsErrOf result WriteFailed → TakesPrefix (W.contents writer.old) (W.contents writer.new) (line (header_of output)) }
-    ensures nothing { IfErr result (λ e. e ≢ WriteFailed → Keeps (W.contents writer.old) (W.contents writer.new)) }
-    ensures cause { IfErr result (λ e. (e ≡ WriteFailed) ⊎ (e ≡ Memory)) }
-{
-    let mut text = new_text(alloc);
-    match output {
-        Output::Tables => add_replay_header(&mut text),
-        Output::PlacedTables => add_placed_header(&mut text),
-        Output::Decisions => add_decisions_header(&mut text),
-        Output::Lags => add_lags_header(&mut text),
-    }?;
-    let text = finish(text)?;
-    send_now(writer, text.as_slice())
 }
 
 /// Writes the rows of the slots that are planned, from a slot on, and flushes them if there are
@@ -131,8 +108,8 @@ fn add_lags<R: Ready>(
     Ok(())
 }
 
-// Sends a text, and flushes it, unless it is empty.
-fn send_now<W: Write>(writer: &mut W, text: &[u8]) -> Result<(), ProgramFault>
+/// Sends a text, and flushes it, unless it is empty.
+pub(crate) fn send_now<W: Write>(writer: &mut W, text: &[u8]) -> Result<(), ProgramFault>
     ensures written { OnOk result (Appends (W.contents writer.old) (W.contents writer.new) text.now) }
     ensures cut { IfErr result (λ _. TakesPrefix (W.contents writer.old) (W.contents writer.new) text.now) }
     ensures cause { IfErr result (λ e. e ≡ WriteFailed) }
