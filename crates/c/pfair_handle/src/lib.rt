@@ -8,7 +8,7 @@ ghost use Rattle.pfair_replica.specs.ReplicaRows.{replica_of, SameShape};
 ghost use Rattle.pfair_replica.specs.Replica.{Below};
 ghost use Rattle.pfair_replica.specs.Faults.{IsMergeFaultOf};
 ghost use Rattle.pfair_handle.specs.Kept.{is_kept};
-ghost use Rattle.pfair_handle.specs.Behind.{Of, Between, IsAbsorbedTo, IsPartlyAbsorbedTo};
+ghost use Rattle.pfair_handle.specs.Behind.{Between, IsAbsorbedTo, IsPartlyAbsorbedTo};
 
 mod owner;
 

@@ -1,8 +1,8 @@
 //! The words of `pfair_follow`, and its command line, one level of commands.
-ghost use Rattle.std.specs.Prelude.{◌≡◌, ◌⊎◌, MatchResult, codes, IfOk, false};
+ghost use Rattle.std.specs.Prelude.{◌≡◌, ◌⊎◌, MatchResult, IfOk, false};
 ghost use Rattle.clap.specs.Words.{found_of, rows_of, subcommand_rows_of, new_app, rule_of};
 ghost use Rattle.pfair_words.specs.Parse.{texts};
-ghost use Rattle.pfair_words.specs.FollowAsked.{AskFeed, AskResumed, AskSettings, AskStart, AsksNoFeed, AsksNoSettings, AsksNoSlots, AsksNoStart, IsAnswer, IsAnswerTo, IsAnswerToAny};
+ghost use Rattle.pfair_words.specs.FollowAsked.{AskFeed, AskResumed, AskSettings, AskStart, AsksNoFeed, AsksNoSettings, AsksNoSlots, AsksNoStart, IsAnswer, IsAnswerToAny};
 ghost use Rattle.pfair_file.specs.declared.program_fault.ProgramFault.TheVariants.{CommandLine, Memory};
 ghost use Rattle.pfair_words.specs.Line.{IsRead};
 ghost use Rattle.pfair_words.specs.FollowLine as line;

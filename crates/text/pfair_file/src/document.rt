@@ -1,7 +1,6 @@
 //! Task files: their header and their logs.
 ghost use Rattle.std.specs.Prelude.{◌≡◌, ◌≢◌, ◌≤◌, ◌<◌, All, IfOk, IfErr, IsTrue, OnOk, Ok, Err, Some, None, vec_len};
 ghost use Rattle.toml.specs.View.{table_view};
-ghost use Rattle.pfair_table.specs.Limits.{IsSettings};
 ghost use Rattle.pfair_table.specs.Script.{is_short, lists_of};
 ghost use Rattle.std.specs.List.{list_all};
 ghost use Rattle.pfair_file.specs.Documents.{closed, close_all, document, empty_logs, entries_at, logs_at, script_of_file};

@@ -1,5 +1,5 @@
 //! What a program is given: its words, and the task file that it reads.
-ghost use Rattle.std.specs.Prelude.{◌≡◌, ◌⊎◌, IfErr, alloc_error, Ok, IfOk, IfSome, ◌≤◌, ◌<◌, ℕ, List, length, IsErrOf, OnOk, IsTrue, ◌↔◌};
+ghost use Rattle.std.specs.Prelude.{◌≡◌, ◌⊎◌, IfErr, alloc_error, Ok, IfOk, IfSome, ◌≤◌, ◌<◌, length, IsErrOf, OnOk, IsTrue, ◌↔◌};
 ghost use Rattle.pfair_file.specs.Input.{TakesOneFile, HasTaken};
 ghost use Rattle.pfair_file.specs.Documents.{script_of_file};
 ghost use Rattle.pfair_file.specs.Schedules.{IsRefusalOf};

@@ -2,7 +2,6 @@
 ghost use Rattle.std.specs.Prelude.{◌≡◌, ℕ, [], IfOk, OnOk, Some, slice_get, vec_len};
 ghost use Rattle.std.specs.PromisedHandle.{KeepsEach};
 ghost use Rattle.pfair_table.specs.Script.{capacity_of};
-ghost use Rattle.pfair_desk.specs.Desks.{IsDeskOf};
 ghost use Rattle.pfair_board.specs.Works.{AreWorkplaces, AreWorks, IsWorkOf, IsWorkplaceOf};
 
 use crate::worker::{Gate, Sink, Worker};
