@@ -1,7 +1,7 @@
 -- The lists of a calendar's near slots, and what moves out of them.
 use Rattle.std.proofs.lemmas.Grind.{common_steps}
-use Rattle.std.proofs.Common.{◌≡◌, ℕ, zero, suc, ◌+◌, ◌<◌, ◌≤◌, ◌⊎◌, inl, inr, List, [], ◌∷◌, ◌++◌, Vec, Global, length, refl, sym, ap, subst, arith, Option, Some, Contains, slice_get, slice_set, slice_index_or, option_to_list, ◌%◌, ◌-◌}
-use Rattle.pfair_ready.proofs.Common.{cases_order, leb-true, leb-false, same_Some, slice_get_past, slice_get-get_or, Key, Calendar, Date, in_bucket, under, HasTurn, IsAmong, IsNear, IsNoted, Moves}
+use Rattle.std.proofs.Common.{◌≡◌, ℕ, zero, suc, ◌+◌, ◌<◌, ◌≤◌, ◌⊎◌, inl, inr, List, [], ◌∷◌, ◌++◌, Vec, Global, length, refl, sym, ap, subst, ◌∙◌, arith, Option, Some, Contains, slice_get, slice_set, slice_index_or, option_to_list, ◌%◌, ◌-◌}
+use Rattle.pfair_ready.proofs.Common.{cases_order, leb-true, leb-false, same_Some, slice_get_past, slice_get-get_or, Key, Calendar, Date, in_bucket, under, HasTurn, IsAmong, IsNear, IsNoted, Keeps, Moves, IsHeap, KeepsHeap, heap_items, later_cmp, Reverse}
 use Rattle.std.proofs.Math.Nat.{div-add-mod}
 
 abbrev pub Buckets : Type 0
@@ -49,21 +49,33 @@ still_near : (turned turned' : ℕ) (near near' : Buckets) (d : Date) → turned
 still_near turned turned' near near' d same there n = let after = n.after in let within = n.within in record { after = omega (arith, same, after); within = omega (arith, same, within); there = there }
 
 -- a list that has lost nothing
-pub noted_near : (c c' : Calendar) (i : ℕ) (b : Vec Date Global) → ((d : Date) → Contains (in_bucket (slice_get c.near.items i)) d → Contains b.items d) → c'.turned ≡ c.turned → c'.near.items ≡ slice_set c.near.items i b → c'.far ≡ c.far
-    → (d : Date) → IsNoted c d → IsNoted c' d
-noted_near c c' i b more turned near far d noted =
-    elim noted [
-      | inl n ↦ inl (still_near _ _ _ _ d turned (subst (λ (x : Buckets). Contains (under x d.release) d) (sym near)
-          (elim (stays_or c.near.items i (d.release % 64) d b ⊥ (λ _ h. inl (more d h)) n.there) [ inl there ↦ there | inr none ↦ absurd none ])) n)
-      | inr f ↦ inr (subst (λ x. IsAmong x d) (sym far) f)
-    ]
+pub keeps_near : (was c c' : Calendar) (i : ℕ) (b : Vec Date Global) → Keeps was c → ((d : Date) → Contains (in_bucket (slice_get c.near.items i)) d → Contains b.items d) → c'.turned ≡ c.turned → c'.near.items ≡ slice_set c.near.items i b → c'.far ≡ c.far
+    → Keeps was c'
+keeps_near was c c' i b k more turned near far =
+    record {
+      noted = λ d noted. elim (k.noted d noted) [
+        | inl n ↦ inl (still_near _ _ _ _ d turned (subst (λ (x : Buckets). Contains (under x d.release) d) (sym near)
+            (elim (stays_or c.near.items i (d.release % 64) d b ⊥ (λ _ h. inl (more d h)) n.there) [ inl there ↦ there | inr none ↦ absurd none ])) n)
+        | inr f ↦ inr (subst (λ x. IsAmong (heap_items x) d) (sym far) f)
+      ];
+      turned = turned ∙ k.turned;
+      order = λ h. subst (λ x. IsHeap later_cmp (heap_items x)) (sym far) (k.order h);
+    }
 
 -- far dates that have lost none
-pub noted_far : (c c' : Calendar) → ((x : Date) → Contains c.far x → Contains c'.far x) → c'.turned ≡ c.turned → c'.near.items ≡ c.near.items → (d : Date) → IsNoted c d → IsNoted c' d
-noted_far c c' more turned near d noted = grind (arith, still_near)
+pub keeps_far : (was c c' : Calendar) → Keeps was c → ((x : Reverse Date) → Contains (heap_items c.far) x → Contains (heap_items c'.far) x) → KeepsHeap later_cmp (heap_items c.far) (heap_items c'.far) → c'.turned ≡ c.turned → c'.near.items ≡ c.near.items → Keeps was c'
+keeps_far was c c' k more order turned near =
+    record {
+      noted = λ d noted. elim (k.noted d noted) [
+        | inl n ↦ inl (still_near _ _ _ _ d turned (subst (λ (x : Buckets). Contains (under x d.release) d) (sym near) n.there) n)
+        | inr f ↦ inr (more (record { 0 = d }) f)
+      ];
+      turned = turned ∙ k.turned;
+      order = λ h. order (k.order h);
+    }
 
 -- nothing is noted if there is neither
-pub none_noted : (c : Calendar) → c.near.items ≡ [] → c.far ≡ [] → (d : Date) → IsNoted c d → ⊥
+pub none_noted : (c : Calendar) → c.near.items ≡ [] → heap_items c.far ≡ [] → (d : Date) → IsNoted c d → ⊥
 none_noted c near far d noted = grind arith
 
 -- ---- what moves
@@ -88,14 +100,14 @@ moves_bucket slot s Was c c' b b' turns0 turns turns' m after until come here e 
                 | inl stays ↦ inl (inl (still_near _ _ _ _ d turned (subst (λ (x : Buckets). Contains (under x d.release) d) (sym near) stays) n))
                 | inr gone ↦ inr gone
               ]
-          | inr f ↦ inl (inr (subst (λ x. IsAmong x d) (sym far) f))
+          | inr f ↦ inl (inr (subst (λ x. IsAmong (heap_items x) d) (sym far) f))
         ]
         | inr gone ↦ inr (gone.0, (gone.1.0, e.kept (d.key, gone.1.0) gone.1.1))
       ];
     }
 
 -- and then far dates moved
-pub moves_far : (slot : ℕ) (Was : Date → Type 0) (c c' : Calendar) (turns0 turns turns' : Turned) → Moves slot Was (IsNoted c) turns0 turns → Moves slot (IsAmong c.far) (IsAmong c'.far) turns turns'
+pub moves_far : (slot : ℕ) (Was : Date → Type 0) (c c' : Calendar) (turns0 turns turns' : Turned) → Moves slot Was (IsNoted c) turns0 turns → Moves slot (IsAmong (heap_items c.far)) (IsAmong (heap_items c'.far)) turns turns'
     → c'.turned ≡ c.turned → c'.near.items ≡ c.near.items → Moves slot Was (IsNoted c') turns0 turns'
 moves_far slot Was c c' turns0 turns turns' m f turned near =
     record {

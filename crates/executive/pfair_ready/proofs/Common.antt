@@ -4,7 +4,7 @@ pub use Rattle.pfair_order.proofs.RankLemmas.{IsSplit, at_place, first_within, l
 pub use Rattle.pfair_order.specs.Order.{pd2_cmp, tie_group_of}
 pub use Rattle.pfair_order.specs.Rank.{first_by_rank}
 pub use Rattle.pfair_order.specs.declared.Key.{Key}
-pub use Rattle.pfair_ready.specs.Calendar.{HasTurn, IsAmong, IsCovered, IsNear, IsNoted, Moves, dates_of, in_bucket, later_cmp, under}
+pub use Rattle.pfair_ready.specs.Calendar.{HasTurn, IsAmong, IsCovered, IsNear, IsNoted, Keeps, Moves, in_bucket, later_cmp, under}
 pub use Rattle.pfair_ready.specs.Names.{NameValue, name_cmp, name_eq}
 pub use Rattle.pfair_ready.specs.PlainList.{first_named, queue_of}
 pub use Rattle.pfair_ready.specs.Queue.{Content, Queue, released, without}
@@ -18,7 +18,7 @@ pub use Rattle.std.proofs.lemmas.Bool.{and_parts, cases_order, leb-false, leb-tr
 pub use Rattle.std.proofs.lemmas.List.{length-map, length-take, map-append, map_push, nil_from_length, take_all, take_more}
 pub use Rattle.std.proofs.lemmas.List.Elements.{All-contains, All-from_recursion, All-map, Contains-append_left, Contains-append_right}
 pub use Rattle.std.proofs.lemmas.Option.{none-some, same_Some, slice_get-get_or, slice_get-map, slice_get_past, slice_get_read}
-pub use Rattle.std.specs.BinaryHeap.{IsHeap, IsUpperBound, PopsGreatest, heap_items}
+pub use Rattle.std.specs.BinaryHeap.{IsHeap, IsUpperBound, KeepsHeap, PopsGreatest, heap_items}
 pub use Rattle.std.specs.Cmp.{Equal-is, IsTotalOrder, both_ways, eq_by_cmp_equiv, nat_cmp_total, tied_itself}
 pub use Rattle.std.specs.Cmp.Lexicographic.{bytes_decides, nat_list_cmp_total, nat_list_eq_equiv, pointwise}
 pub use Rattle.std.specs.FinMap.{IsAntisymmetric, entries-insert, entries_sorted, find, from_entries_push, get-empty, get-entries, get-from_entries, get-insert, get-remove, get-retain_keys, is_sorted, nat_cmp-IsAntisymmetric, put, same_map, slice_cmp-IsAntisymmetric}

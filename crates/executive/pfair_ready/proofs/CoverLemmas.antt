@@ -1,6 +1,6 @@
 -- What waits is in the calendar, or has a turn.
 use Rattle.std.proofs.Common.{◌≡◌, ℕ, ◌≤◌, ◌⊎◌, inl, inr, Bool, true, false, cond, List, ◌∷◌, refl, sym, ap, subst, ◌∙◌, arith, Option, Some, None, true≢false, Contains, is_some}
-use Rattle.pfair_ready.proofs.Common.{is_eq, eq_by_cmp, Equal-is, tied_itself, get-empty, get-insert, get-remove, same_map, none-some, same_Some, Key, Calendar, Date, NameValue, name_cmp, Queue, HasTurn, IsCovered, IsNoted, Moves, IsPermutation}
+use Rattle.pfair_ready.proofs.Common.{is_eq, eq_by_cmp, Equal-is, tied_itself, get-empty, get-insert, get-remove, same_map, none-some, same_Some, Key, Calendar, Date, NameValue, name_cmp, Queue, HasTurn, IsCovered, IsNoted, Keeps, Moves, IsHeap, IsPermutation, heap_items, later_cmp}
 use Rattle.std.specs.FinMap as finmap
 use Rattle.pfair_ready.proofs.HeapLemmas.{top_or_stays}
 use Rattle.pfair_ready.proofs.Names.{names_total, names_exact}
@@ -9,29 +9,32 @@ abbrev pub HasDate : Calendar → ℕ → Key → Type 0
 HasDate dates r k = (hint : ℕ) × IsNoted dates (record { release = r; hint = hint; key = k })
 
 -- nothing waits
-pub covered_none : (held : Queue) (dates : Calendar) (turns : List (Key × ℕ)) → held ≡ finmap.empty → dates.turned ≡ 0 → IsCovered 0 held dates turns
-covered_none held dates turns none turned =
+pub covered_none : (held : Queue) (dates : Calendar) (turns : List (Key × ℕ)) → held ≡ finmap.empty → dates.turned ≡ 0 → IsHeap later_cmp (heap_items dates.far) → IsCovered 0 held dates turns
+covered_none held dates turns none turned order =
     record {
       named = λ q r k at. absurd (none-some (r, k) (sym (ap (λ (h : Queue). finmap.get h q) none ∙ get-empty name_cmp q) ∙ at));
       turned = omega (arith, turned);
+      order = order;
       covered = λ q r k at. absurd (none-some (r, k) (sym (ap (λ (h : Queue). finmap.get h q) none ∙ get-empty name_cmp q) ∙ at));
     }
 
 -- dates and turns that have lost nothing
-pub covered_kept : (now : ℕ) (held : Queue) (dates dates' : Calendar) (turns turns' : List (Key × ℕ)) → ((d : Date) → IsNoted dates d → IsNoted dates' d) → dates'.turned ≡ dates.turned
+pub covered_kept : (now : ℕ) (held : Queue) (dates dates' : Calendar) (turns turns' : List (Key × ℕ)) → Keeps dates dates'
     → ((x : Key × ℕ) → Contains turns x → Contains turns' x) → IsCovered now held dates turns → IsCovered now held dates' turns'
-covered_kept now held dates dates' turns turns' noted turned kept c =
+covered_kept now held dates dates' turns turns' keeps kept c =
     record {
       named = c.named;
-      turned = let before = c.turned in omega (arith, turned, before);
-      covered = λ q r k at. elim (c.covered q r k at) [ inl d ↦ inl (d.0, noted (record { release = r; hint = d.0; key = k }) d.1) | inr t ↦ inr (t.0, (t.1.0, kept (k, t.1.0) t.1.1)) ];
+      turned = let before = c.turned in let same = keeps.turned in omega (arith, same, before);
+      order = keeps.order c.order;
+      covered = λ q r k at. elim (c.covered q r k at) [ inl d ↦ inl (d.0, keeps.noted (record { release = r; hint = d.0; key = k }) d.1) | inr t ↦ inr (t.0, (t.1.0, kept (k, t.1.0) t.1.1)) ];
     }
 
-pub covered_moved : (now slot : ℕ) (held : Queue) (dates dates' : Calendar) (turns turns' : List (Key × ℕ)) → IsCovered now held dates turns → now ≤ slot → Moves slot (IsNoted dates) (IsNoted dates') turns turns' → dates'.turned ≤ slot → IsCovered slot held dates' turns'
-covered_moved now slot held dates dates' turns turns' c within m turned =
+pub covered_moved : (now slot : ℕ) (held : Queue) (dates dates' : Calendar) (turns turns' : List (Key × ℕ)) → IsCovered now held dates turns → now ≤ slot → Moves slot (IsNoted dates) (IsNoted dates') turns turns' → dates'.turned ≤ slot → IsHeap later_cmp (heap_items dates'.far) → IsCovered slot held dates' turns'
+covered_moved now slot held dates dates' turns turns' c within m turned order =
     record {
       named = c.named;
       turned = turned;
+      order = order;
       covered = λ q r k at. elim (c.covered q r k at) [
         | inl d ↦ elim (m.moved (record { release = r; hint = d.0; key = k }) d.1) [ inl stays ↦ inl (d.0, stays) | inr gone ↦ inr gone ]
         | inr t ↦ inr (omega (arith, t.0, within), (t.1.0, m.kept (k, t.1.0) t.1.1))
@@ -50,6 +53,7 @@ covered_more now r k held dates turns here c =
         | inr other ↦ c.named q r' k' other
       ];
       turned = c.turned;
+      order = c.order;
       covered = λ q r' k' at. elim (one_or (eq_by_cmp name_cmp q k.name) (r, k) (r', k') (finmap.get held q) (sym (get-insert names_total held k.name (r, k) q) ∙ at)) [
         | inl own ↦
             subst (λ (x : ℕ × Key). HasDate dates x.0 x.1 ⊎ ((x.0 ≤ now) × HasTurn turns x.1)) own.1 here
@@ -91,6 +95,7 @@ covered_popped slot held dates turns turns' top p dead c =
     record {
       named = c.named;
       turned = c.turned;
+      order = c.order;
       covered = λ q r k at. elim (c.covered q r k at) [
         | inl there ↦ inl there
         | inr both ↦ elim (top_or_stays top (k, both.1.0) turns turns' p both.1.1) [

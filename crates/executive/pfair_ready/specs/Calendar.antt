@@ -1,8 +1,9 @@
 -- When the keys that wait are released, and what moves from there to the turns.
-use Rattle.std.specs.Prelude.{◌≡◌, ℕ, ◌+◌, ◌%◌, ◌≤◌, ◌<◌, ◌⊎◌, Vec, List, [], Option, Some, None, Contains, map, length, slice_get, slice_index_or}
+use Rattle.std.specs.Prelude.{◌≡◌, ℕ, ◌+◌, ◌%◌, ◌≤◌, ◌<◌, ◌⊎◌, Vec, List, [], Option, Some, None, Contains, length, slice_get, slice_index_or}
 use Rattle.std.specs.declared.alloc.Global.{Global}
 use Rattle.std.specs.declared.cmp.Ordering.{Ordering}
 use Rattle.std.specs.declared.cmp.Reverse.{Reverse}
+use Rattle.std.specs.BinaryHeap.{IsHeap, KeepsHeap, heap_items}
 use Rattle.std.specs.FinMap as finmap
 use Rattle.std.specs.Ordering.{nat_cmp, ordering_then}
 use Rattle.pfair_order.specs.declared.Key.{Key}
@@ -18,10 +19,6 @@ date_cmp a b = ordering_then (nat_cmp a.release b.release) (ordering_then (nat_c
 
 abbrev pub later_cmp : Reverse Date → Reverse Date → Ordering
 later_cmp a b = date_cmp b.0 a.0
-
--- the dates of the elements of a heap
-abbrev pub dates_of : List (Reverse Date) → List Date
-dates_of = map (λ r. r.0)
 
 -- the date is on top of the heap, and has come
 pub record IsFirstDate (slot : ℕ) (dates : List (Reverse Date)) (date : Date) : Type 0 where
@@ -44,12 +41,18 @@ pub record IsNear (turned : ℕ) (near : List (Vec Date Global)) (date : Date) :
   pub there : Contains (under near date.release) date
 
 -- or among the far ones
-abbrev pub IsAmong : List Date → Date → Type 0
-IsAmong far date = Contains far date
+abbrev pub IsAmong : List (Reverse Date) → Date → Type 0
+IsAmong far date = Contains far (record { 0 = date })
 
 -- a date is in the calendar
 abbrev pub IsNoted : Calendar → Date → Type 0
-IsNoted c date = IsNear c.turned c.near.items date ⊎ IsAmong c.far date
+IsNoted c date = IsNear c.turned c.near.items date ⊎ IsAmong (heap_items c.far) date
+
+-- a calendar loses nothing
+pub record Keeps (c c' : Calendar) : Type 0 where
+  pub noted : (d : Date) → IsNoted c d → IsNoted c' d
+  pub turned : c'.turned ≡ c.turned
+  pub order : KeepsHeap later_cmp (heap_items c.far) (heap_items c'.far)
 
 -- a key has a turn
 abbrev pub HasTurn : List (Key × ℕ) → Key → Type 0
@@ -64,4 +67,5 @@ pub record Moves (slot : ℕ) (Was Is : Date → Type 0) (turns turns' : List (K
 pub record IsCovered (now : ℕ) (held : Queue) (dates : Calendar) (turns : List (Key × ℕ)) : Type 0 where
   pub named : (q : NameValue) (r : ℕ) (k : Key) → finmap.get held q ≡ Some (r, k) → k.name ≡ q
   pub turned : dates.turned ≤ now
+  pub order : IsHeap later_cmp (heap_items dates.far)
   pub covered : (q : NameValue) (r : ℕ) (k : Key) → finmap.get held q ≡ Some (r, k) → ((hint : ℕ) × IsNoted dates (record { release = r; hint = hint; key = k })) ⊎ ((r ≤ now) × HasTurn turns k)

@@ -1,7 +1,7 @@
 //! When the keys that wait are released.
 ghost use Rattle.std.specs.Prelude.{◌≡◌, ◌≤◌, ◌<◌, ◌%◌, ◌+◌, [], Contains, IfSome, OnOk, OnSome, length, ◌∷◌, ℕ, All, IfNone, OnErr, Some};
 ghost use Rattle.pfair_ready.specs.declared.calendar.Date.{Date};
-ghost use Rattle.pfair_ready.specs.Calendar.{IsNoted, Moves, under, dates_of, later_cmp, HasTurn, IsAmong, IsFirstDate};
+ghost use Rattle.pfair_ready.specs.Calendar.{IsAmong, IsFirstDate, IsNoted, Keeps, Moves, later_cmp, under};
 ghost use Rattle.std.specs.BinaryHeap.{heap_items, IsHeap};
 ghost use Rattle.std.specs.FinMap as finmap;
 ghost use Rattle.std.specs.List.Sorted.{IsPermutation};
@@ -12,7 +12,6 @@ use pfair_order::Key;
 use std::alloc::{AllocError, Global};
 use std::cmp::Reverse;
 use std::collections::BinaryHeap;
-use std::marker::Model;
 
 // How many slots are near.
 const NEAR: u64 = 64;
@@ -27,7 +26,8 @@ pub(crate) struct Calendar {
     pub turned: u64,
     // that of a slot at its remainder by 64; no lists before the first date
     pub near: Vec<Vec<Date>>,
-    pub far: FarDates,
+    // the earliest on top
+    pub far: BinaryHeap<Reverse<Date>>,
 }
 
 impl Calendar {
@@ -35,32 +35,31 @@ impl Calendar {
     pub(crate) fn new(alloc: Global) -> Calendar
         ensures turned { result.turned ≡ 0 }
         ensures none { (d : Date) → IsNoted result d → ⊥ }
+        ensures order { IsHeap later_cmp (heap_items result.far) }
     {
         Calendar {
             turned: 0,
             near: Vec::new(alloc),
-            far: FarDates::new(alloc),
+            far: BinaryHeap::new(alloc),
         }
     }
 
     /// Notes a date.
     pub(crate) fn note(&mut self, alloc: Global, date: Date) -> Result<(), AllocError>
-        ensures kept { (d : Date) → IsNoted self.old d → IsNoted self.new d }
+        ensures keeps { Keeps self.old self.new }
         ensures there { OnOk result (IsNoted self.new date) }
-        ensures turned { self.new.turned ≡ self.old.turned }
     {
         self.make_near(alloc)?;
         match self.bucket_of(date.release) {
             Some(bucket) => self.near[bucket].push(date)?,
-            None => self.far.push(date)?,
+            None => self.far.push(Reverse(date))?,
         }
         Ok(())
     }
 
     // Makes the lists of near slots if there are none.
     fn make_near(&mut self, alloc: Global) -> Result<(), AllocError>
-        ensures kept { (d : Date) → IsNoted self.old d → IsNoted self.new d }
-        ensures turned { self.new.turned ≡ self.old.turned }
+        ensures keeps { Keeps self.old self.new }
         ensures far { self.new.far ≡ self.old.far }
     {
         if self.near.is_empty() {
@@ -82,23 +81,24 @@ impl Calendar {
 
     /// Reserves memory for that many dates, of any slots.
     pub(crate) fn reserve(&mut self, alloc: Global, dates: usize) -> Result<(), AllocError>
-        ensures kept { (d : Date) → IsNoted self.old d → IsNoted self.new d }
-        ensures turned { self.new.turned ≡ self.old.turned }
+        ensures { Keeps self.old self.new }
     {
         self.make_near(alloc)?;
-        self.far.reserve(dates)
+        self.far.reserve(dates.saturating_sub(self.far.len()))
     }
 
     /// Moves the keys whose release has come by the slot to the heap. If an allocation fails some have
     /// moved, and none is lost.
     pub(crate) fn release(&mut self, released: &mut Turns, slot: u64) -> Result<(), AllocError>
         requires turned { self.old.turned ≤ slot }
+        requires order { IsHeap later_cmp (heap_items self.old.far) }
         ensures moves { Moves slot (IsNoted self.old) (IsNoted self.new) released.old released.new }
         ensures turned { self.new.turned ≤ slot }
+        ensures order { IsHeap later_cmp (heap_items self.new.far) }
         ensures done { OnOk result ((d : Date) → IsNoted self.new d → slot < d.release) }
     {
         self.turn(released, slot)?;
-        self.far.release(released, slot)
+        release_far(&mut self.far, released, slot)
     }
 
     // Empties the lists of all slots up to one.
@@ -150,69 +150,16 @@ pub(crate) struct Date {
     pub key: Key,
 }
 
-/// Dates in a heap, the earliest on top.
-#[derive(Drop)]
-pub(crate) struct FarDates {
-    dates: BinaryHeap<Reverse<Date>>,
-}
-
-impl Model for FarDates {
-    ghost use Rattle.std.specs.Prelude.{List};
-    ghost use Rattle.pfair_ready.specs.declared.calendar.Date.{Date};
-
-    ghost Value = { List Date };
-
-    ghost use Rattle.std.specs.BinaryHeap.{heap_items, IsHeap};
-    ghost use Rattle.pfair_ready.specs.Calendar.{dates_of, later_cmp};
-
-    ghost view = { λ h. dates_of (heap_items h.dates) };
-
-    ghost invariant = { λ h. IsHeap later_cmp (heap_items h.dates) };
-}
-
-impl FarDates {
-    pub(crate) fn new(alloc: Global) -> FarDates
-        ensures { result ≡ [] }
-    {
-        FarDates {
-            dates: BinaryHeap::new(alloc),
-        }
-    }
-
-    /// Makes room for so many dates in all.
-    pub(crate) fn reserve(&mut self, dates: usize) -> Result<(), AllocError>
-        ensures { self.new ≡ self.old }
-    {
-        self.dates.reserve(dates.saturating_sub(self.dates.len()))
-    }
-
-    pub(crate) fn push(&mut self, date: Date) -> Result<(), AllocError>
-        ensures more { OnOk result (IsPermutation (date ∷ self.old) self.new) }
-        ensures same { OnErr result (self.new ≡ self.old) }
-    {
-        self.dates.push(Reverse(date))?;
-        Ok(())
-    }
-
-    /// Moves the keys whose release has come by the slot to the released ones.
-    pub(crate) fn release(&mut self, released: &mut Turns, slot: u64) -> Result<(), AllocError>
-        ensures moves { Moves slot (IsAmong self.old) (IsAmong self.new) released.old released.new }
-        ensures done { OnOk result (All (λ d. slot < d.release) self.new) }
-    {
-        release_come(&mut self.dates, released, slot)
-    }
-}
-
-// The same, of a heap of dates.
-fn release_come(
+// The same of the far dates.
+fn release_far(
     dates: &mut BinaryHeap<Reverse<Date>>,
     released: &mut Turns,
     slot: u64,
 ) -> Result<(), AllocError>
-    requires date_order { IsHeap later_cmp (heap_items dates.old) }
-    ensures moves { Moves slot (IsAmong (dates_of (heap_items dates.old))) (IsAmong (dates_of (heap_items dates.new))) released.old released.new }
-    ensures date_order { IsHeap later_cmp (heap_items dates.new) }
-    ensures done { OnOk result (All (λ d. slot < d.release) (dates_of (heap_items dates.new))) }
+    requires order { IsHeap later_cmp (heap_items dates.old) }
+    ensures moves { Moves slot (IsAmong (heap_items dates.old)) (IsAmong (heap_items dates.new)) released.old released.new }
+    ensures order { IsHeap later_cmp (heap_items dates.new) }
+    ensures done { OnOk result (All (λ e. slot < e.0.release) (heap_items dates.new)) }
 {
     while let Some(date) = first_come(dates, slot) {
         released.push(&date.key, date.hint)?;

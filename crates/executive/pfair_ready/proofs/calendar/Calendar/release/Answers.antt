@@ -5,5 +5,5 @@ use Rattle.pfair_ready.proofs.calendar.Calendar.release.Goals as goal
 
 pub returns-clause-moves : goal.returns-clause-moves
 returns-clause-moves c =
-    moves_far c.args.slot (IsNoted c.args.self.now) c.turn.new.self (record { turned = c.turn.new.self.turned; near = c.turn.new.self.near; far = c.release.new.self }) c.args.released.now c.turn.new.released c.release.new.released
-    c.turn.ensures.moves c.release.ensures.moves refl refl
+    moves_far c.args.slot (IsNoted c.args.self.now) c.turn.new.self (record { turned = c.turn.new.self.turned; near = c.turn.new.self.near; far = c.release_far.new.dates }) c.args.released.now c.turn.new.released c.release_far.new.released
+    c.turn.ensures.moves c.release_far.ensures.moves refl refl

@@ -10,7 +10,7 @@ use Rattle.pfair_ready.proofs.heap.HeapReady.select.Goals.{After-release, else-t
 moved : (g : Over) (c : After-release g) → IsCovered c.args.slot c.self.inside.waiting c.release.new.self c.release.new.released
 moved g c =
     covered_moved c.self.inside.now c.args.slot c.self.inside.waiting c.self.inside.calendar c.release.new.self c.self.inside.released c.release.new.released
-    c.self.invariant (subst (λ (v : Content). v.now ≤ c.args.slot) (sym c.self.view_is) c.requires) c.release.ensures.moves c.release.ensures.turned
+    c.self.invariant (subst (λ (v : Content). v.now ≤ c.args.slot) (sym c.self.view_is) c.requires) c.release.ensures.moves c.release.ensures.turned c.release.ensures.order
 
 pub invariant_of-self : goal.invariant_of-self
 invariant_of-self g c = moved g ((goal.at.invariant_of-self g c).After-release)

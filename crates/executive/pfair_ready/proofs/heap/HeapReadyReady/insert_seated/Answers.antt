@@ -27,12 +27,12 @@ noted c =
     elim c.if-release-self.branch [
       | then-release-self w ↦ rw (w.self-inside-is, w.noted-is) (
         refl,
-        covered_kept c.self.inside.now c.self.inside.waiting c.self.inside.calendar c.self.inside.calendar c.self.inside.released w.push-noted.new.self (λ d h. h) refl w.push-noted.ensures.kept c.self.invariant,
+        covered_kept c.self.inside.now c.self.inside.waiting c.self.inside.calendar c.self.inside.calendar c.self.inside.released w.push-noted.new.self (record { noted = λ d h. h; turned = refl; order = λ h. h }) w.push-noted.ensures.kept c.self.invariant,
         λ fine. inr (w.if-release-self.true, (c.in-Some.place, not_err w.push-noted.result fine w.push-noted.ensures.there)),
       )
       | else-release-self w ↦ rw (w.self-inside-is, w.noted-is) (
         refl,
-        covered_kept c.self.inside.now c.self.inside.waiting c.self.inside.calendar w.note-noted.new.self c.self.inside.released c.self.inside.released w.note-noted.ensures.kept w.note-noted.ensures.turned (λ x h. h) c.self.invariant,
+        covered_kept c.self.inside.now c.self.inside.waiting c.self.inside.calendar w.note-noted.new.self c.self.inside.released c.self.inside.released w.note-noted.ensures.keeps (λ x h. h) c.self.invariant,
         λ fine. inl (c.in-Some.place, not_err w.note-noted.result fine w.note-noted.ensures.there),
       )
     ]
