@@ -1,14 +1,14 @@
 -- The lists of a calendar's near slots, and what moves out of them.
-use Rattle.std.proofs.lemmas.Grind.{common_steps}
-use Rattle.std.proofs.Common.{◌≡◌, ℕ, zero, suc, ◌+◌, ◌<◌, ◌≤◌, ◌⊎◌, inl, inr, List, [], ◌∷◌, ◌++◌, Vec, Global, length, refl, sym, ap, subst, ◌∙◌, arith, Option, Some, Contains, slice_get, slice_set, slice_index_or, option_to_list, ◌%◌, ◌-◌}
-use Rattle.pfair_ready.proofs.Common.{cases_order, leb-true, leb-false, same_Some, slice_get_past, slice_get-get_or, Key, Calendar, Date, in_bucket, under, HasTurn, IsAmong, IsNear, IsNoted, Keeps, Moves, IsHeap, KeepsHeap, heap_items, later_cmp, Reverse}
+use Rattle.std.proofs.Common.{◌≡◌, ℕ, zero, suc, ◌+◌, ◌<◌, ◌≤◌, ◌⊎◌, inl, inr, List, [], ◌∷◌, Vec, Global, length, refl, sym, ap, subst, ◌∙◌, arith, Contains, slice_get, slice_set, slice_index_or, ◌%◌, ◌-◌}
+use Rattle.pfair_ready.proofs.Common.{cases_order, leb-true, leb-false, same_Some, slice_get_past, slice_get-get_or, Calendar, Date, in_bucket, under, HasTurn, IsAmong, IsNear, IsNoted, Keeps, Moves, IsHeap, KeepsHeap, heap_items, later_cmp, Reverse, Turn}
 use Rattle.std.proofs.Math.Nat.{div-add-mod}
+use Rattle.pfair_ready.proofs.TurnLemmas.{keeps_both, kept_turn}
 
 abbrev pub Buckets : Type 0
 Buckets = List (Vec Date Global)
 
 abbrev pub Turned : Type 0
-Turned = List (Key × ℕ)
+Turned = List Turn
 
 -- what stands in a list stands there still, or went with the one that was changed
 pub stays_or : (near : Buckets) (i j : ℕ) (d : Date) (b : Vec Date Global) (X : Type 0) → (i ≡ j → Contains (in_bucket (slice_get near i)) d → Contains b.items d ⊎ X) → Contains (in_bucket (slice_get near j)) d → Contains (in_bucket (slice_get (slice_set near i b) j)) d ⊎ X
@@ -87,7 +87,7 @@ pub moves_bucket : (slot s : ℕ) (Was : Date → Type 0) (c c' : Calendar) (b b
     → Moves slot Was (IsNoted c') turns0 turns'
 moves_bucket slot s Was c c' b b' turns0 turns turns' m after until come here e turned near far =
     record {
-      kept = λ x h. e.kept x (m.kept x h);
+      keeps = keeps_both m.keeps e.keeps;
       moved = λ d was. elim (m.moved d was) [
         | inl noted ↦ elim noted [
           | inl n ↦
@@ -102,7 +102,7 @@ moves_bucket slot s Was c c' b b' turns0 turns turns' m after until come here e 
               ]
           | inr f ↦ inl (inr (subst (λ x. IsAmong (heap_items x) d) (sym far) f))
         ]
-        | inr gone ↦ inr (gone.0, (gone.1.0, e.kept (d.key, gone.1.0) gone.1.1))
+        | inr gone ↦ inr (gone.0, kept_turn e.keeps gone.1)
       ];
     }
 
@@ -111,13 +111,13 @@ pub moves_far : (slot : ℕ) (Was : Date → Type 0) (c c' : Calendar) (turns0 t
     → c'.turned ≡ c.turned → c'.near.items ≡ c.near.items → Moves slot Was (IsNoted c') turns0 turns'
 moves_far slot Was c c' turns0 turns turns' m f turned near =
     record {
-      kept = λ x h. f.kept x (m.kept x h);
+      keeps = keeps_both m.keeps f.keeps;
       moved = λ d was. elim (m.moved d was) [
         | inl noted ↦ elim noted [
           | inl n ↦ inl (inl (still_near _ _ _ _ d turned (subst (λ (x : Buckets). Contains (under x d.release) d) (sym near) n.there) n))
           | inr among ↦ elim (f.moved d among) [ inl stays ↦ inl (inr stays) | inr gone ↦ inr gone ]
         ]
-        | inr gone ↦ inr (gone.0, (gone.1.0, f.kept (d.key, gone.1.0) gone.1.1))
+        | inr gone ↦ inr (gone.0, kept_turn f.keeps gone.1)
       ];
     }
 

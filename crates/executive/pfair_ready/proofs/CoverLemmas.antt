@@ -1,43 +1,48 @@
 -- What waits is in the calendar, or has a turn.
-use Rattle.std.proofs.Common.{◌≡◌, ℕ, ◌≤◌, ◌⊎◌, inl, inr, Bool, true, false, cond, List, ◌∷◌, refl, sym, ap, subst, ◌∙◌, arith, Option, Some, None, true≢false, Contains, is_some}
-use Rattle.pfair_ready.proofs.Common.{is_eq, eq_by_cmp, Equal-is, tied_itself, get-empty, get-insert, get-remove, same_map, none-some, same_Some, Key, Calendar, Date, NameValue, name_cmp, Queue, HasTurn, IsCovered, IsNoted, Keeps, Moves, IsHeap, IsPermutation, heap_items, later_cmp}
+use Rattle.std.proofs.Common.{◌≡◌, ℕ, ◌≤◌, ◌⊎◌, inl, inr, Bool, true, false, cond, List, ◌∷◌, refl, sym, ap, subst, ◌∙◌, arith, Option, Some, None, true≢false, is_some}
+use Rattle.pfair_ready.proofs.Common.{is_eq, eq_by_cmp, Equal-is, tied_itself, get-empty, get-insert, get-remove, same_map, none-some, same_Some, Key, Calendar, NameValue, name_cmp, Queue, HasTurn, IsCovered, IsNoted, Keeps, Moves, AreTurns, IsHeap, IsPermutation, KeepsTurns, Turn, heap_items, later_cmp, turn_of}
 use Rattle.std.specs.FinMap as finmap
+use Rattle.pfair_weight.specs.Name.{IsTaskName}
 use Rattle.pfair_ready.proofs.HeapLemmas.{top_or_stays}
+use Rattle.pfair_ready.proofs.TurnLemmas.{kept_turn}
 use Rattle.pfair_ready.proofs.Names.{names_total, names_exact}
 
 abbrev pub HasDate : Calendar → ℕ → Key → Type 0
 HasDate dates r k = (hint : ℕ) × IsNoted dates (record { release = r; hint = hint; key = k })
 
 -- nothing waits
-pub covered_none : (held : Queue) (dates : Calendar) (turns : List (Key × ℕ)) → held ≡ finmap.empty → dates.turned ≡ 0 → IsHeap later_cmp (heap_items dates.far) → IsCovered 0 held dates turns
-covered_none held dates turns none turned order =
+pub covered_none : (held : Queue) (dates : Calendar) (turns : List Turn) → held ≡ finmap.empty → dates.turned ≡ 0 → IsHeap later_cmp (heap_items dates.far) → AreTurns turns → IsCovered 0 held dates turns
+covered_none held dates turns none turned order sound =
     record {
       named = λ q r k at. absurd (none-some (r, k) (sym (ap (λ (h : Queue). finmap.get h q) none ∙ get-empty name_cmp q) ∙ at));
       turned = omega (arith, turned);
       order = order;
+      sound = sound;
       covered = λ q r k at. absurd (none-some (r, k) (sym (ap (λ (h : Queue). finmap.get h q) none ∙ get-empty name_cmp q) ∙ at));
     }
 
 -- dates and turns that have lost nothing
-pub covered_kept : (now : ℕ) (held : Queue) (dates dates' : Calendar) (turns turns' : List (Key × ℕ)) → Keeps dates dates'
-    → ((x : Key × ℕ) → Contains turns x → Contains turns' x) → IsCovered now held dates turns → IsCovered now held dates' turns'
-covered_kept now held dates dates' turns turns' keeps kept c =
+pub covered_kept : (now : ℕ) (held : Queue) (dates dates' : Calendar) (turns turns' : List Turn) → Keeps dates dates'
+    → KeepsTurns turns turns' → IsCovered now held dates turns → IsCovered now held dates' turns'
+covered_kept now held dates dates' turns turns' keeps loses_none c =
     record {
       named = c.named;
       turned = let before = c.turned in let same = keeps.turned in omega (arith, same, before);
       order = keeps.order c.order;
-      covered = λ q r k at. elim (c.covered q r k at) [ inl d ↦ inl (d.0, keeps.noted (record { release = r; hint = d.0; key = k }) d.1) | inr t ↦ inr (t.0, (t.1.0, kept (k, t.1.0) t.1.1)) ];
+      sound = loses_none.sound c.sound;
+      covered = λ q r k at. elim (c.covered q r k at) [ inl d ↦ inl (d.0, keeps.noted (record { release = r; hint = d.0; key = k }) d.1) | inr t ↦ inr (t.0, kept_turn loses_none t.1) ];
     }
 
-pub covered_moved : (now slot : ℕ) (held : Queue) (dates dates' : Calendar) (turns turns' : List (Key × ℕ)) → IsCovered now held dates turns → now ≤ slot → Moves slot (IsNoted dates) (IsNoted dates') turns turns' → dates'.turned ≤ slot → IsHeap later_cmp (heap_items dates'.far) → IsCovered slot held dates' turns'
+pub covered_moved : (now slot : ℕ) (held : Queue) (dates dates' : Calendar) (turns turns' : List Turn) → IsCovered now held dates turns → now ≤ slot → Moves slot (IsNoted dates) (IsNoted dates') turns turns' → dates'.turned ≤ slot → IsHeap later_cmp (heap_items dates'.far) → IsCovered slot held dates' turns'
 covered_moved now slot held dates dates' turns turns' c within m turned order =
     record {
       named = c.named;
       turned = turned;
       order = order;
+      sound = m.keeps.sound c.sound;
       covered = λ q r k at. elim (c.covered q r k at) [
         | inl d ↦ elim (m.moved (record { release = r; hint = d.0; key = k }) d.1) [ inl stays ↦ inl (d.0, stays) | inr gone ↦ inr gone ]
-        | inr t ↦ inr (omega (arith, t.0, within), (t.1.0, m.kept (k, t.1.0) t.1.1))
+        | inr t ↦ inr (omega (arith, t.0, within), kept_turn m.keeps t.1)
       ];
     }
 
@@ -45,7 +50,7 @@ one_or : {A : Type 0} (b : Bool) (x y : A) (o : Option A) → cond b (Some x) o 
 one_or b x y o e = grind (arith, same_Some)
 
 -- a key more, with its date or its turn
-pub covered_more : (now r : ℕ) (k : Key) (held : Queue) (dates : Calendar) (turns : List (Key × ℕ)) → HasDate dates r k ⊎ ((r ≤ now) × HasTurn turns k) → IsCovered now held dates turns → IsCovered now (finmap.insert held k.name (r, k)) dates turns
+pub covered_more : (now r : ℕ) (k : Key) (held : Queue) (dates : Calendar) (turns : List Turn) → HasDate dates r k ⊎ ((r ≤ now) × HasTurn turns k) → IsCovered now held dates turns → IsCovered now (finmap.insert held k.name (r, k)) dates turns
 covered_more now r k held dates turns here c =
     record {
       named = λ q r' k' at. elim (one_or (eq_by_cmp name_cmp q k.name) (r, k) (r', k') (finmap.get held q) (sym (get-insert names_total held k.name (r, k) q) ∙ at)) [
@@ -54,6 +59,7 @@ covered_more now r k held dates turns here c =
       ];
       turned = c.turned;
       order = c.order;
+      sound = c.sound;
       covered = λ q r' k' at. elim (one_or (eq_by_cmp name_cmp q k.name) (r, k) (r', k') (finmap.get held q) (sym (get-insert names_total held k.name (r, k) q) ∙ at)) [
         | inl own ↦
             subst (λ (x : ℕ × Key). HasDate dates x.0 x.1 ⊎ ((x.0 ≤ now) × HasTurn turns x.1)) own.1 here
@@ -73,7 +79,7 @@ still_there held s q v at =
     )
 
 -- a key less
-pub covered_less : (now : ℕ) (held : Queue) (s : NameValue) (dates : Calendar) (turns : List (Key × ℕ)) → IsCovered now held dates turns → IsCovered now (finmap.remove held s) dates turns
+pub covered_less : (now : ℕ) (held : Queue) (s : NameValue) (dates : Calendar) (turns : List Turn) → IsCovered now held dates turns → IsCovered now (finmap.remove held s) dates turns
 covered_less now held s dates turns c = grind (arith, still_there)
 
 none_at : {A : Type 0} (o : Option A) → is_some o ≡ false → o ≡ None
@@ -89,18 +95,20 @@ put_back held s v vacant = same_map names_total names_exact _ _ (λ q.
     at q false e = refl
 
 -- a turn less, of a key that isn't due
-pub covered_popped : (slot : ℕ) (held : Queue) (dates : Calendar) (turns turns' : List (Key × ℕ)) (top : Key × ℕ) → IsPermutation turns (top ∷ turns') → ((q : NameValue) (r : ℕ) → finmap.get held q ≡ Some (r, top.0) → r ≤ slot → ⊥)
+pub covered_popped : (slot : ℕ) (held : Queue) (dates : Calendar) (turns turns' : List Turn) (top : Turn) → IsPermutation turns (top ∷ turns') → AreTurns turns'
+    → ((q : NameValue) (r : ℕ) (k : Key) (hint : ℕ) → finmap.get held q ≡ Some (r, k) → r ≤ slot → IsTaskName k.name → top ≡ turn_of k hint → ⊥)
     → IsCovered slot held dates turns → IsCovered slot held dates turns'
-covered_popped slot held dates turns turns' top p dead c =
+covered_popped slot held dates turns turns' top p sound dead c =
     record {
       named = c.named;
       turned = c.turned;
       order = c.order;
+      sound = sound;
       covered = λ q r k at. elim (c.covered q r k at) [
         | inl there ↦ inl there
-        | inr both ↦ elim (top_or_stays top (k, both.1.0) turns turns' p both.1.1) [
-          | inl same ↦ absurd (dead q r (at ∙ sym (ap (λ (x : Key × ℕ). Some (r, x.0)) same)) both.0)
-          | inr stays ↦ inr (both.0, (both.1.0, stays))
+        | inr both ↦ elim (top_or_stays top (turn_of k both.1.hint) turns turns' p both.1.there) [
+          | inl same ↦ absurd (dead q r k both.1.hint at both.0 both.1.named same)
+          | inr stays ↦ inr (both.0, record { hint = both.1.hint; there = stays; named = both.1.named })
         ]
       ];
     }

@@ -1,8 +1,8 @@
 -- What a heap has after an element was put in or taken out.
 use Rattle.std.proofs.lemmas.Grind.{common_steps}
-use Rattle.std.proofs.Common.{◌≡◌, ℕ, ◌<◌, ◌⊎◌, List, [], ◌∷◌, length, map, refl, subst, arith, Option, Some, Contains, IfNone, IfSome, slice_get, slice_index_or}
-use Rattle.pfair_ready.proofs.Common.{IsPermutation, Reverse, Contains-append_right, same_Some, place_of, at_place}
-use Rattle.std.proofs.lemmas.List.Sorted.{Contains-permutation, IsPermutation-map}
+use Rattle.std.proofs.Common.{◌≡◌, ℕ, ◌<◌, ◌⊎◌, List, [], ◌∷◌, length, refl, arith, Option, Some, Contains, IfNone, IfSome, slice_get, slice_index_or}
+use Rattle.pfair_ready.proofs.Common.{IsPermutation, Contains-append_right, same_Some, place_of, at_place}
+use Rattle.std.proofs.lemmas.List.Sorted.{Contains-permutation}
 
 in_cons : {A : Type 0} (y : A) (xs : List A) (x : A) (i : ℕ) → slice_get (y ∷ xs) i ≡ Some x → (y ≡ x) ⊎ Contains xs x
 in_cons y xs x i e = grind (arith, same_Some, at_place)
@@ -23,11 +23,3 @@ pushed_top item xs ys p = Contains-permutation (item ∷ xs) ys item p (0, omega
 pub popped : {A : Type 0} (o : Option A) (xs ys : List A) (top : A) (n : ℕ) → n ≡ length xs → 0 < length xs → top ≡ slice_index_or xs 0 top
     → IfNone o (n ≡ 0) → IfSome o (λ x. x ≡ slice_index_or xs 0 x) → IfSome o (λ x. IsPermutation xs (x ∷ ys)) → IsPermutation xs (top ∷ ys)
 popped o xs ys top n e some t none at p = grind (arith, common_steps)
-
--- an item more in a heap of reversed ones
-pub given : {A : Type 0} (item : A) (xs ys : List (Reverse A)) (all : List A) → map (λ (r : Reverse A). r.0) xs ≡ all → IsPermutation (record { 0 = item } ∷ xs) ys → IsPermutation (item ∷ all) (map (λ (r : Reverse A). r.0) ys)
-given item xs ys all is p = subst (λ l. IsPermutation (item ∷ l) (map (λ r. r.0) ys)) is (IsPermutation-map (λ r. r.0) (record { 0 = item } ∷ xs) ys p)
-
--- and one less
-pub taken : {A : Type 0} (top : Reverse A) (xs ys : List (Reverse A)) (all : List A) → map (λ (r : Reverse A). r.0) xs ≡ all → IsPermutation xs (top ∷ ys) → IsPermutation all (top.0 ∷ map (λ (r : Reverse A). r.0) ys)
-taken top xs ys all is p = subst (λ l. IsPermutation l (top.0 ∷ map (λ r. r.0) ys)) is (IsPermutation-map (λ r. r.0) xs (top ∷ ys) p)

@@ -1,17 +1,18 @@
 -- How far a selection has come over the turns, and its steps.
-use Rattle.std.proofs.Common.{◌≡◌, ℕ, ◌+◌, ◌<◌, ◌≤◌, inl, inr, true, false, List, [], ◌∷◌, ◌++◌, length, map, min, refl, sym, ap, subst, ◌∙◌, arith, Option, Some, None, length-append, Contains, nat_le}
-use Rattle.pfair_ready.proofs.Common.{AllByRecursion, Less, is_lt, is_eq, Equal-is, tied_itself, IsPermutation, map_push, All-contains, true≢false, and_parts, Key, pd2_cmp, first_by_rank, keys_total, keys_exact, IsSplit, less_of, split_more, Calendar, Date, NameValue, Queue, released, without, HasTurn, IsCovered, IsNoted, IsFirst, is_due}
+use Rattle.std.proofs.Common.{◌≡◌, ℕ, ◌+◌, ◌<◌, ◌≤◌, inl, inr, true, false, List, [], ◌∷◌, ◌++◌, length, map, min, refl, sym, ap, subst, ◌∙◌, arith, Some, length-append, Contains, nat_le}
+use Rattle.pfair_ready.proofs.Common.{AllByRecursion, Less, is_lt, is_eq, Equal-is, IsPermutation, map_push, All-contains, true≢false, and_parts, Key, pd2_cmp, first_by_rank, keys_total, keys_exact, IsSplit, less_of, split_more, Calendar, Date, NameValue, Queue, released, without, HasTurn, IsCovered, IsNoted, IsKeyIn, All-from_recursion, PopsGreatest, Turn, is_due, is_turn_of, leb-true, turn_cmp, turn_of}
 use Rattle.std.specs.FinMap as finmap
-use Rattle.std.proofs.lemmas.List.Sorted.{IsPermutation-sym}
-use Rattle.std.proofs.lemmas.Bool.Decides.{nat_tests}
+use Rattle.std.proofs.lemmas.List.Sorted.{IsPermutation-sym, length_permutation}
 use Rattle.pfair_order.proofs.ByRank.{by_rank_of_split}
 use Rattle.pfair_order.proofs.InOrder.{each_trivial}
-use Rattle.pfair_ready.specs.TurnOrder.{task_cmp}
+use Rattle.pfair_weight.specs.Name.{IsTaskName}
+use Rattle.pfair_weight.specs.Number.{name_of}
+use Rattle.pfair_weight.proofs.ByteOrder.{name_back}
 use Rattle.pfair_ready.proofs.CoverLemmas.{covered_less, covered_popped, still_there}
-use Rattle.pfair_ready.proofs.TurnLemmas.{same_order}
+use Rattle.pfair_ready.proofs.TurnLemmas.{due_of, own_turn, popped_turns, same_order, top_number}
 use Rattle.pfair_ready.proofs.Released.{IsReleased, each_released, released_remove, without_none, without_push}
 
-pub record IsTaking (slot m room : ℕ) (start held : Queue) (dates : Calendar) (turns : List (Key × ℕ)) (first : List Key) : Type 0 where
+pub record IsTaking (slot m room : ℕ) (start held : Queue) (dates : Calendar) (turns : List Turn) (first : List Key) : Type 0 where
   -- what is given, and what is released of what waits still
   pub split : IsSplit keys_total (released slot start) first (released slot held)
   pub left : held ≡ without first start
@@ -32,18 +33,11 @@ no_elements : {A : Type 0} (xs : List A) → AllByRecursion (λ _. ⊥) xs → x
 no_elements [] h = refl
 no_elements (x ∷ xs) h = absurd h.0
 
--- a key that is due waits, and is released
-pub due_held : (k : Key) (slot : ℕ) (o : Option (ℕ × Key)) → is_due k slot o ≡ true → (r : ℕ) × (o ≡ Some (r, k)) × (nat_le r slot ≡ true)
-due_held k slot None e = absurd (true≢false (sym e))
-due_held k slot (Some d) e =
-    let parts : (nat_le d.0 slot ≡ true) × (is_eq (pd2_cmp d.1 k) ≡ true) = and_parts (nat_le d.0 slot) (is_eq (pd2_cmp d.1 k)) e in
-    (d.0, ap (λ (x : Key). Some (d.0, x)) (keys_exact d.1 k ((Equal-is (pd2_cmp d.1 k)).0 parts.1)), parts.0)
-
-held_due : (k : Key) (slot r : ℕ) → r ≤ slot → is_due k slot (Some (r, k)) ≡ true
-held_due k slot r within = grind (arith, nat_tests, tied_itself, keys_total)
+due_parts : (t : Turn) (slot r : ℕ) (k : Key) → is_due t slot (Some (r, k)) ≡ true → (nat_le r slot ≡ true) × (is_turn_of k t ≡ true)
+due_parts t slot r k e = and_parts (nat_le r slot) (is_turn_of k t) e
 
 -- at the start nothing is given
-pub taking_none : (slot m : ℕ) (start : Queue) (dates : Calendar) (turns : List (Key × ℕ))
+pub taking_none : (slot m : ℕ) (start : Queue) (dates : Calendar) (turns : List Turn)
     → IsCovered slot start dates turns → ((d : Date) → IsNoted dates d → slot < d.release) → IsTaking slot m (length turns) start start dates turns []
 taking_none slot m start dates turns c later =
     record {
@@ -55,7 +49,7 @@ taking_none slot m start dates turns c later =
       counted = omega arith;
     }
 
-module _ (slot m room : ℕ) (start held : Queue) (dates : Calendar) (turns : List (Key × ℕ)) (first : List Key) (t : IsTaking slot m room start held dates turns first) where
+module _ (slot m room : ℕ) (start held : Queue) (dates : Calendar) (turns : List Turn) (first : List Key) (t : IsTaking slot m room start held dates turns first) where
   -- what waits and is released has a turn
   has_turn : (q : NameValue) (r : ℕ) (k : Key) → finmap.get held q ≡ Some (r, k) → r ≤ slot → HasTurn turns k
   has_turn q r k at due =
@@ -65,7 +59,7 @@ module _ (slot m room : ℕ) (start held : Queue) (dates : Calendar) (turns : Li
       ]
 
   no_released : length turns ≡ 0 → (k : Key) → IsReleased slot held k → ⊥
-  no_released empty k w = let turn = has_turn w.name w.release k w.at w.due in none_in_empty turns (k, turn.0) empty turn.1
+  no_released empty k w = let turn = has_turn w.name w.release k w.at w.due in none_in_empty turns (turn_of k turn.hint) empty turn.there
 
   -- if m are given, or there is no turn left, what is given is the first m
   pub first_taken : (length first < m → length turns ≡ 0) → first ≡ first_by_rank pd2_cmp m (released slot start)
@@ -73,54 +67,62 @@ module _ (slot m room : ℕ) (start held : Queue) (dates : Calendar) (turns : Li
       by_rank_of_split keys_total (released slot start) first (released slot held) t.split m t.few
       (λ less. no_elements (released slot held) (weaker (IsReleased slot held) (λ _. ⊥) (no_released (empty less)) (released slot held) (each_released slot held)))
 
-  module _ (top : Key × ℕ) (turns' : List (Key × ℕ)) (p : IsPermutation turns (top ∷ turns')) (shorter : length turns' + 1 ≡ length turns) where
+  module _ (top : Turn) (turns' : List Turn) (p : IsPermutation turns (top ∷ turns')) (greatest : PopsGreatest turn_cmp turns top turns') where
+    -- a turn of a key stands for its name
+    named_by : (k : Key) (hint : ℕ) → IsTaskName k.name → top ≡ turn_of k hint → name_of top.name.0 ≡ k.name
+    named_by k hint named same = ap (λ (x : Turn). name_of x.name.0) same ∙ name_back k.name named
+
     -- the turn of a key that doesn't wait any more covers nothing
-    pub taking_dead : is_due top.0 slot (finmap.get held top.0.name) ≡ false → IsTaking slot m room start held dates turns' first
+    pub taking_dead : is_due top slot (finmap.get held (name_of top.name.0)) ≡ false → IsTaking slot m room start held dates turns' first
     taking_dead dead =
         record {
           split = t.split;
           left = t.left;
-          covered = covered_popped slot held dates turns turns' top p (λ q r at due.
-              let own : finmap.get held top.0.name ≡ Some (r, top.0) = ap (finmap.get held) (t.covered.named q r top.0 at) ∙ at in
-              true≢false (sym (ap (is_due top.0 slot) own ∙ held_due top.0 slot r due) ∙ dead)) t.covered;
+          covered = covered_popped slot held dates turns turns' top p (popped_turns top p greatest t.covered.sound) (λ q r k hint at due named same.
+              let own : finmap.get held (name_of top.name.0) ≡ Some (r, k) = ap (finmap.get held) (named_by k hint named same ∙ t.covered.named q r k at) ∙ at in
+              true≢false (sym (due_of k hint slot r due) ∙ ap (λ (x : Turn). is_due x slot (Some (r, k))) (sym same) ∙ ap (is_due top slot) (sym own) ∙ dead)) t.covered;
           later = t.later;
           few = t.few;
-          counted = let c = t.counted in omega arith;
+          counted = let c = t.counted in let l = length_permutation turns (top ∷ turns') p in omega arith;
         }
 
     -- no key that waits still is the one that is given
-    after_top : IsFirst top turns → (k : Key) → IsReleased slot (finmap.remove held top.0.name) k → pd2_cmp top.0 k ≡ Less
-    after_top least k w =
-        let kept = still_there held top.0.name w.name (w.release, k) w.at in
-        let named : k.name ≡ w.name = t.covered.named w.name w.release k kept.1 in
+    after_top : (key : Key) → key.name ≡ name_of top.name.0 → IsTaskName key.name → top ≡ turn_of key top.hint → (k : Key) → IsReleased slot (finmap.remove held (name_of top.name.0)) k → pd2_cmp key k ≡ Less
+    after_top key own named is k w =
+        let kept = still_there held (name_of top.name.0) w.name (w.release, k) w.at in
         let turn = has_turn w.name w.release k kept.1 w.due in
-        let apart : k.name ≡ top.0.name → ⊥ = λ same. kept.0 (sym named ∙ same) in
-        let not_before : is_lt (pd2_cmp k top.0) ≡ false = ap is_lt (same_order k top.0 apart) ∙ All-contains (λ (y : Key × ℕ). is_lt (task_cmp y.0 top.0) ≡ false) turns (k, turn.0) least turn.1 in
-        let not_same : is_eq (pd2_cmp k top.0) ≡ false =
-        elim (is_eq (pd2_cmp k top.0)) as (λ b. is_eq (pd2_cmp k top.0) ≡ b → b ≡ false) [
-          | true ↦ λ v. absurd (apart (ap (λ (x : Key). x.name) (keys_exact k top.0 ((Equal-is (pd2_cmp k top.0)).0 v))))
+        let apart : k.name ≡ key.name → ⊥ = λ same. kept.0 (sym (t.covered.named w.name w.release k kept.1) ∙ same ∙ own) in
+        let least : is_lt (turn_cmp top (turn_of k turn.hint)) ≡ false =
+        All-contains (λ (y : Turn). is_lt (turn_cmp top y) ≡ false) turns (turn_of k turn.hint) (All-from_recursion (λ (y : Turn). is_lt (turn_cmp top y) ≡ false) turns (greatest t.covered.sound.order).1) turn.there in
+        let not_before : is_lt (pd2_cmp k key) ≡ false = ap is_lt (same_order k key top.hint turn.hint turn.named named apart) ∙ subst (λ (x : Turn). is_lt (turn_cmp x (turn_of k turn.hint)) ≡ false) is least in
+        let not_same : is_eq (pd2_cmp k key) ≡ false =
+        elim (is_eq (pd2_cmp k key)) as (λ b. is_eq (pd2_cmp k key) ≡ b → b ≡ false) [
+          | true ↦ λ v. absurd (apart (ap (λ (x : Key). x.name) (keys_exact k key ((Equal-is (pd2_cmp k key)).0 v))))
           | false ↦ λ _. refl
         ] refl in
-        less_of keys_total (pd2_cmp k top.0) (pd2_cmp top.0 k) (keys_total.antisymm k top.0) not_before not_same
+        less_of keys_total (pd2_cmp k key) (pd2_cmp key k) (keys_total.antisymm k key) not_before not_same
 
     -- a key that is due is given, and waits no more
-    pub taking_live : (held' : Queue) → held' ≡ finmap.remove held top.0.name → length first < m → IsFirst top turns → is_due top.0 slot (finmap.get held top.0.name) ≡ true → IsTaking slot m room start held' dates turns' (first ++ top.0 ∷ [])
-    taking_live held' taken few least live =
-        let due = due_held top.0 slot (finmap.get held top.0.name) live in
-        let rest : Queue = finmap.remove held top.0.name in
-        let moved : IsPermutation (top.0 ∷ released slot rest) (released slot held) = released_remove slot held rest top.0.name due.0 top.0 due.1 due.2 refl in
-        subst (λ (h : Queue). IsTaking slot m room start h dates turns' (first ++ top.0 ∷ [])) (sym taken) (record {
+    pub taking_live : (key : Key) (held' : Queue) → held' ≡ finmap.remove held (name_of top.name.0) → length first < m → IsKeyIn held (name_of top.name.0) key → is_due top slot (finmap.get held (name_of top.name.0)) ≡ true → IsTaking slot m room start held' dates turns' (first ++ key ∷ [])
+    taking_live key held' taken few at live =
+        let due = due_parts top slot at.0 key (ap (is_due top slot) (sym at.1) ∙ live) in
+        let own : key.name ≡ name_of top.name.0 = t.covered.named (name_of top.name.0) at.0 key at.1 in
+        let named : IsTaskName key.name = (has_turn (name_of top.name.0) at.0 key at.1 (leb-true at.0 slot due.0)).named in
+        let is : top ≡ turn_of key top.hint = own_turn top key (top_number top p t.covered.sound) own due.1 in
+        let rest : Queue = finmap.remove held (name_of top.name.0) in
+        let moved : IsPermutation (key ∷ released slot rest) (released slot held) = released_remove slot held rest (name_of top.name.0) at.0 key at.1 due.0 refl in
+        subst (λ (h : Queue). IsTaking slot m room start h dates turns' (first ++ key ∷ [])) (sym taken) (record {
           split =
-              split_more keys_total (released slot start) first (released slot held) (released slot rest) top.0 t.split
-              (IsPermutation-sym (top.0 ∷ released slot rest) (released slot held) moved)
-              (weaker (IsReleased slot rest) (λ k. pd2_cmp top.0 k ≡ Less) (after_top least) (released slot rest) (each_released slot rest));
-          left = ap (λ x. finmap.remove x top.0.name) t.left ∙ sym (without_push first top.0 start);
-          covered = covered_popped slot rest dates turns turns' top p (λ q r at _.
-              let kept = still_there held top.0.name q (r, top.0) at in
-              kept.0 (sym (t.covered.named q r top.0 kept.1))) (covered_less slot held top.0.name dates turns t.covered);
+              split_more keys_total (released slot start) first (released slot held) (released slot rest) key t.split
+              (IsPermutation-sym (key ∷ released slot rest) (released slot held) moved)
+              (weaker (IsReleased slot rest) (λ k. pd2_cmp key k ≡ Less) (after_top key own named is) (released slot rest) (each_released slot rest));
+          left = ap (λ x. finmap.remove x (name_of top.name.0)) t.left ∙ ap (finmap.remove (without first start)) (sym own) ∙ sym (without_push first key start);
+          covered = covered_popped slot rest dates turns turns' top p (popped_turns top p greatest t.covered.sound) (λ q r k hint got _ called same.
+              let kept = still_there held (name_of top.name.0) q (r, k) got in
+              kept.0 (sym (named_by k hint called same ∙ t.covered.named q r k kept.1))) (covered_less slot held (name_of top.name.0) dates turns t.covered);
           later = t.later;
-          few = omega (arith, length-append first (top.0 ∷ []));
-          counted = let c = t.counted in omega (arith, length-append first (top.0 ∷ []));
+          few = omega (arith, length-append first (key ∷ []));
+          counted = let c = t.counted in omega (arith, length-append first (key ∷ []), length_permutation turns (top ∷ turns') p);
         })
 
 -- room for as many as there are and are wanted

@@ -1,23 +1,58 @@
 -- The turns of a heap, and their order.
-use Rattle.std.proofs.Common.{◌≡◌, ℕ, false, List, refl, ap}
-use Rattle.pfair_ready.proofs.Common.{IsUpperBound, Less, Equal, Greater, Reverse, nat_cmp, is_lt, ordering_then, All-from_recursion, All-map, Key, pd2_cmp, tie_group_of, name_cmp, turn_cmp, reverse_cmp, turns_of, IsFirst}
+use Rattle.std.proofs.Common.{◌≡◌, ℕ, ◌≤◌, true, ◌&&◌, nat_eq, List, ◌∷◌, refl, sym, ap, ◌∙◌, arith, Some}
+use Rattle.pfair_ready.proofs.Common.{IsPermutation, Key, Less, Equal, Greater, NameValue, PopsGreatest, and_parts, is_due, is_turn_of, name_cmp, nat_cmp, ordering_then, pd2_cmp, tie_group_of, AreTurns, HasTurn, KeepsTurns, Turn, turn_cmp, turn_of}
 use Rattle.std.specs.declared.cmp.Ordering.{Ordering}
-use Rattle.pfair_ready.specs.TurnOrder.{task_cmp}
+use Rattle.std.proofs.lemmas.Bool.Decides.{nat_tests}
+use Rattle.std.proofs.lemmas.List.Elements.{All-tail}
+use Rattle.std.proofs.lemmas.List.Sorted.{All-permutation}
+use Rattle.pfair_weight.specs.Name.{IsTaskName}
+use Rattle.pfair_weight.specs.Number.{IsNumber, name_of, number_of}
+use Rattle.pfair_weight.proofs.ByteOrder.{is_number, name_back, numbers_order}
 use Rattle.pfair_ready.proofs.Names.{names_exact}
-
--- no turn of a heap goes before that of its top
-pub top_first : (top : Reverse (Key × ℕ)) (heap : List (Reverse (Key × ℕ))) → IsUpperBound reverse_cmp top heap → IsFirst top.0 (turns_of heap)
-top_first top heap h =
-    All-map (λ (t : Key × ℕ). is_lt (task_cmp t.0 top.0.0) ≡ false) (λ (r : Reverse (Key × ℕ)). r.0) heap
-    (All-from_recursion (λ (r : Reverse (Key × ℕ)). is_lt (turn_cmp r.0 top.0) ≡ false) heap h)
 
 decided : (r s : Ordering) → (r ≡ Equal → ⊥) → ordering_then r s ≡ r
 decided Less s apart = refl
 decided Equal s apart = absurd (apart refl)
 decided Greater s apart = refl
 
+number_cmp : (a b : NameValue) → IsTaskName a → IsTaskName b → nat_cmp (number_of a) (number_of b) ≡ name_cmp a b
+number_cmp a b p q = numbers_order (number_of a) (number_of b) (is_number a p) (is_number b q) ∙ (λ i. name_cmp (name_back a p i) (name_back b q i))
+
 -- of keys of different names the order of turns is that of the keys
-pub same_order : (k l : Key) → (k.name ≡ l.name → ⊥) → pd2_cmp k l ≡ task_cmp k l
-same_order k l apart =
+pub same_order : (k l : Key) (h i : ℕ) → IsTaskName k.name → IsTaskName l.name → (k.name ≡ l.name → ⊥) → pd2_cmp k l ≡ turn_cmp (turn_of l h) (turn_of k i)
+same_order k l h i p q apart =
+    let other : name_cmp k.name l.name ≡ Equal → ⊥ = λ e. apart (names_exact k.name l.name e) in
     ap (λ r. ordering_then (nat_cmp k.d l.d) (ordering_then (nat_cmp l.b k.b) (ordering_then (nat_cmp (tie_group_of l) (tie_group_of k)) r)))
-    (decided (name_cmp k.name l.name) (nat_cmp k.group l.group) (λ e. apart (names_exact k.name l.name e)))
+    (decided (name_cmp k.name l.name) (nat_cmp k.group l.group) other
+    ∙ sym (ap (λ r. ordering_then r (nat_cmp h i)) (number_cmp k.name l.name p q) ∙ decided (name_cmp k.name l.name) (nat_cmp h i) other))
+
+same_parts : (a b c d e f : ℕ) → (nat_eq a b && (nat_eq c d && nat_eq e f)) ≡ true → (a ≡ b) × (c ≡ d) × (e ≡ f)
+same_parts a b c d e f same =
+    let one = and_parts (nat_eq a b) (nat_eq c d && nat_eq e f) same in
+    let two = and_parts (nat_eq c d) (nat_eq e f) one.1 in (grind (arith, nat_tests), grind (arith, nat_tests), grind (arith, nat_tests))
+
+-- a turn that is a key's is the one that the key makes
+pub own_turn : (t : Turn) (k : Key) → IsNumber t.name.0 → k.name ≡ name_of t.name.0 → is_turn_of k t ≡ true → t ≡ turn_of k t.hint
+own_turn t k n named is =
+    let same = same_parts k.d t.d.0 k.b t.b (tie_group_of k) t.group is in
+    let number : t.name.0 ≡ number_of k.name = sym (ap number_of named ∙ n.same) in
+    λ i. record { d = record { 0 = sym same.0 i }; b = sym same.1 i; group = sym same.2 i; name = record { 0 = number i }; hint = t.hint }
+
+pub due_of : (k : Key) (hint slot r : ℕ) → r ≤ slot → is_due (turn_of k hint) slot (Some (r, k)) ≡ true
+due_of k hint slot r within = grind (arith, nat_tests)
+
+module _ {turns turns' : List Turn} where
+  pub kept_turn : {k : Key} → KeepsTurns turns turns' → HasTurn turns k → HasTurn turns' k
+  kept_turn {k} keeps h = record { hint = h.hint; there = keeps.kept (turn_of k h.hint) h.there; named = h.named }
+
+  pub keeps_both : {more : List Turn} → KeepsTurns turns turns' → KeepsTurns turns' more → KeepsTurns turns more
+  keeps_both a b = record { kept = λ t h. b.kept t (a.kept t h); sound = λ h. b.sound (a.sound h) }
+
+  pub popped_turns : (top : Turn) → IsPermutation turns (top ∷ turns') → PopsGreatest turn_cmp turns top turns' → AreTurns turns → AreTurns turns'
+  popped_turns top p greatest h = record {
+    order = (greatest h.order).0;
+    numbered = All-tail (λ t. IsNumber t.name.0) top turns' (All-permutation (λ t. IsNumber t.name.0) turns (top ∷ turns') p h.numbered);
+  }
+
+  pub top_number : (top : Turn) → IsPermutation turns (top ∷ turns') → AreTurns turns → IsNumber top.name.0
+  top_number top p h = All-permutation (λ t. IsNumber t.name.0) turns (top ∷ turns') p h.numbered 0 top (omega arith)

@@ -12,6 +12,8 @@ use Rattle.pfair_ready.specs.declared.calendar.Date.{Date}
 use Rattle.pfair_order.specs.Order.{pd2_cmp}
 use Rattle.pfair_ready.specs.Names.{NameValue}
 use Rattle.pfair_ready.specs.Queue.{Queue}
+use Rattle.pfair_ready.specs.Turns.{AreTurns, HasTurn, KeepsTurns}
+use Rattle.pfair_ready.specs.declared.heap.Turn.{Turn}
 
 -- the earlier date first
 abbrev pub date_cmp : Date → Date → Ordering
@@ -54,18 +56,15 @@ pub record Keeps (c c' : Calendar) : Type 0 where
   pub turned : c'.turned ≡ c.turned
   pub order : KeepsHeap later_cmp (heap_items c.far) (heap_items c'.far)
 
--- a key has a turn
-abbrev pub HasTurn : List (Key × ℕ) → Key → Type 0
-HasTurn turns k = (hint : ℕ) × Contains turns (k, hint)
-
 -- what moved to the turns, which lose nothing: a date that was in one place, and isn't in another, has come, and its key has a turn
-pub record Moves (slot : ℕ) (Was Is : Date → Type 0) (turns turns' : List (Key × ℕ)) : Type 0 where
-  pub kept : (x : Key × ℕ) → Contains turns x → Contains turns' x
+pub record Moves (slot : ℕ) (Was Is : Date → Type 0) (turns turns' : List Turn) : Type 0 where
+  pub keeps : KeepsTurns turns turns'
   pub moved : (d : Date) → Was d → Is d ⊎ ((d.release ≤ slot) × HasTurn turns' d.key)
 
 -- each key stands under its own name, and is in the calendar at its release, or released and has a turn
-pub record IsCovered (now : ℕ) (held : Queue) (dates : Calendar) (turns : List (Key × ℕ)) : Type 0 where
+pub record IsCovered (now : ℕ) (held : Queue) (dates : Calendar) (turns : List Turn) : Type 0 where
   pub named : (q : NameValue) (r : ℕ) (k : Key) → finmap.get held q ≡ Some (r, k) → k.name ≡ q
   pub turned : dates.turned ≤ now
   pub order : IsHeap later_cmp (heap_items dates.far)
+  pub sound : AreTurns turns
   pub covered : (q : NameValue) (r : ℕ) (k : Key) → finmap.get held q ≡ Some (r, k) → ((hint : ℕ) × IsNoted dates (record { release = r; hint = hint; key = k })) ⊎ ((r ≤ now) × HasTurn turns k)

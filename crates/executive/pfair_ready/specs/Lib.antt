@@ -2,6 +2,5 @@ pub mod Calendar
 pub mod Names
 pub mod PlainList
 pub mod Queue
-pub mod TurnOrder
 pub mod Turns
 pub mod Waiting

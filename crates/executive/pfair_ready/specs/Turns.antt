@@ -1,41 +1,38 @@
--- Turns: released keys, each with a hint where its name stands.
-use Rattle.std.specs.Prelude.{◌≡◌, ℕ, List, All, map, false}
-use Rattle.std.specs.Coded.{Coded, coded×, coded_ℕ, coded_list}
+-- Turns: what the order looks at in released keys, each with a hint where the key's name stands.
+use Rattle.std.specs.Prelude.{ℕ, List, All, Contains}
 use Rattle.std.specs.declared.cmp.Ordering.{Ordering}
-use Rattle.std.specs.declared.cmp.Reverse.{Reverse}
-use Rattle.std.specs.Ordering.{is_lt, on}
-use Rattle.std.specs.Cmp.{IsTotalOrder, on_total}
+use Rattle.std.specs.BinaryHeap.{IsHeap}
+use Rattle.std.specs.Ordering.{nat_cmp, ordering_then}
 use Rattle.pfair_order.specs.declared.Key.{Key}
-use Rattle.pfair_order.specs.KeyCode.{key_code}
-use Rattle.pfair_weight.specs.Number.{name_of}
-use Rattle.pfair_ready.specs.TurnOrder.{task_cmp, tasks_total}
+use Rattle.pfair_order.specs.Order.{tie_group_of}
+use Rattle.pfair_weight.specs.Name.{IsTaskName}
+use Rattle.pfair_weight.specs.Number.{IsNumber, number_of}
+use Rattle.pfair_ready.specs.declared.heap.Turn.{Turn}
 
--- a key of which the name's number is given
-abbrev pub key_numbered : ℕ → ℕ → ℕ → ℕ → Key
-key_numbered d b group number = record { d = d; b = b; group = group; name = name_of number }
+-- the turn of a key
+abbrev pub turn_of : Key → ℕ → Turn
+turn_of k hint = record { d = record { 0 = k.d }; b = k.b; group = tie_group_of k; name = record { 0 = number_of k.name }; hint = hint }
 
--- a turn is stored as its key and its hint
-abbrev pub turn_code : Coded (Key × ℕ)
-turn_code = coded× key_code coded_ℕ
+-- the first turn is the greatest
+abbrev pub turn_cmp : Turn → Turn → Ordering
+turn_cmp t u =
+    ordering_then (nat_cmp u.d.0 t.d.0)
+    (ordering_then (nat_cmp t.b u.b)
+    (ordering_then (nat_cmp t.group u.group)
+    (ordering_then (nat_cmp u.name.0 t.name.0) (nat_cmp t.hint u.hint))))
 
--- in the order of the keys, up to the names
-abbrev pub turn_cmp : Key × ℕ → Key × ℕ → Ordering
-turn_cmp = on (λ t. t.0) task_cmp
+-- turns in a heap
+pub record AreTurns (turns : List Turn) : Type 0 where
+  pub order : IsHeap turn_cmp turns
+  pub numbered : All (λ t. IsNumber t.name.0) turns
 
-pub turns_total : IsTotalOrder turn_cmp
-turns_total = on_total (λ (t : Key × ℕ). t.0) tasks_total
+-- a heap of turns loses none
+pub record KeepsTurns (turns turns' : List Turn) : Type 0 where
+  pub kept : (t : Turn) → Contains turns t → Contains turns' t
+  pub sound : AreTurns turns → AreTurns turns'
 
-abbrev pub reverse_cmp : Reverse (Key × ℕ) → Reverse (Key × ℕ) → Ordering
-reverse_cmp a b = turn_cmp b.0 a.0
-
--- the turns of the elements of a heap
-abbrev pub turns_of : List (Reverse (Key × ℕ)) → List (Key × ℕ)
-turns_of = map (λ r. r.0)
-
--- no turn goes before this one
-abbrev pub IsFirst : Key × ℕ → List (Key × ℕ) → Type 0
-IsFirst turn turns = All (λ t. is_lt (task_cmp t.0 turn.0) ≡ false) turns
-
--- turns are stored as the list that they are
-abbrev pub turns_code : Coded (List (Key × ℕ))
-turns_code = coded_list turn_code
+-- a key has a turn
+pub record HasTurn (turns : List Turn) (k : Key) : Type 0 where
+  pub hint : ℕ
+  pub there : Contains turns (turn_of k hint)
+  pub named : IsTaskName k.name

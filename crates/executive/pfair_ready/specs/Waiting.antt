@@ -1,10 +1,10 @@
 -- What waits under names, as a map of entries has it.
-use Rattle.std.specs.Prelude.{◌≡◌, ℕ, Bool, false, ◌&&◌, nat_le, Option, Some, None, List, [], ◌∷◌, slice_get}
+use Rattle.std.specs.Prelude.{◌≡◌, ℕ, Bool, false, ◌&&◌, nat_eq, nat_le, Option, Some, None, List, [], ◌∷◌, slice_get}
 use Rattle.std.specs.FinMap as finmap
 use Rattle.std.specs.Option.{option_map, option_map_or}
-use Rattle.std.specs.Ordering.{eq_by_cmp}
 use Rattle.pfair_order.specs.declared.Key.{Key}
-use Rattle.pfair_order.specs.Order.{pd2_cmp}
+use Rattle.pfair_order.specs.Order.{tie_group_of}
+use Rattle.pfair_ready.specs.declared.heap.Turn.{Turn}
 use Rattle.pfair_ready.specs.declared.waiting.Entry.{Entry}
 use Rattle.pfair_ready.specs.declared.waiting.HeldKey.{HeldKey}
 use Rattle.pfair_ready.specs.Names.{NameValue}
@@ -39,6 +39,14 @@ queue_in es = finmap.from_entries (live es)
 abbrev pub IsEntryOf : Entries → NameValue → ℕ → Type 0
 IsEntryOf es name i = (entry : Entry) × (slice_get es i ≡ Some (name, entry))
 
--- whether the contents are the key, and released by the slot
-abbrev pub is_due : Key → ℕ → Option (ℕ × Key) → Bool
-is_due key slot held = option_map_or (λ e. nat_le e.0 slot && eq_by_cmp pd2_cmp e.1 key) held false
+-- the key waits under the name
+abbrev pub IsKeyIn : Queue → NameValue → Key → Type 0
+IsKeyIn held name k = (r : ℕ) × (finmap.get held name ≡ Some (r, k))
+
+-- whether a turn of the key's name is the key's
+abbrev pub is_turn_of : Key → Turn → Bool
+is_turn_of k t = nat_eq k.d t.d.0 && (nat_eq k.b t.b && nat_eq (tie_group_of k) t.group)
+
+-- whether a turn is that of the contents of its name, and these released by the slot
+abbrev pub is_due : Turn → ℕ → Option (ℕ × Key) → Bool
+is_due turn slot held = option_map_or (λ e. nat_le e.0 slot && is_turn_of e.1 turn) held false

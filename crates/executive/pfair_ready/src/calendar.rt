@@ -1,13 +1,10 @@
 //! When the keys that wait are released.
-ghost use Rattle.std.specs.Prelude.{◌≡◌, ◌≤◌, ◌<◌, ◌%◌, ◌+◌, [], Contains, IfSome, OnOk, OnSome, length, ◌∷◌, ℕ, All, IfNone, OnErr, Some};
+ghost use Rattle.std.specs.Prelude.{◌≡◌, ◌≤◌, ◌<◌, ◌%◌, ◌+◌, [], Contains, All, IfNone, IfSome, OnOk, OnSome, length};
 ghost use Rattle.pfair_ready.specs.declared.calendar.Date.{Date};
 ghost use Rattle.pfair_ready.specs.Calendar.{IsAmong, IsFirstDate, IsNoted, Keeps, Moves, later_cmp, under};
 ghost use Rattle.std.specs.BinaryHeap.{heap_items, IsHeap};
-ghost use Rattle.std.specs.FinMap as finmap;
-ghost use Rattle.std.specs.List.Sorted.{IsPermutation};
-ghost use Rattle.pfair_order.specs.declared.Key.{Key};
 
-use crate::heap::Turns;
+use crate::heap::{Turn, add_turn};
 use pfair_order::Key;
 use std::alloc::{AllocError, Global};
 use std::cmp::Reverse;
@@ -89,10 +86,14 @@ impl Calendar {
 
     /// Moves the keys whose release has come by the slot to the heap. If an allocation fails some have
     /// moved, and none is lost.
-    pub(crate) fn release(&mut self, released: &mut Turns, slot: u64) -> Result<(), AllocError>
+    pub(crate) fn release(
+        &mut self,
+        released: &mut BinaryHeap<Turn>,
+        slot: u64,
+    ) -> Result<(), AllocError>
         requires turned { self.old.turned ≤ slot }
         requires order { IsHeap later_cmp (heap_items self.old.far) }
-        ensures moves { Moves slot (IsNoted self.old) (IsNoted self.new) released.old released.new }
+        ensures moves { Moves slot (IsNoted self.old) (IsNoted self.new) (heap_items released.old) (heap_items released.new) }
         ensures turned { self.new.turned ≤ slot }
         ensures order { IsHeap later_cmp (heap_items self.new.far) }
         ensures done { OnOk result ((d : Date) → IsNoted self.new d → slot < d.release) }
@@ -102,9 +103,9 @@ impl Calendar {
     }
 
     // Empties the lists of all slots up to one.
-    fn turn(&mut self, released: &mut Turns, slot: u64) -> Result<(), AllocError>
+    fn turn(&mut self, released: &mut BinaryHeap<Turn>, slot: u64) -> Result<(), AllocError>
         requires turned { self.old.turned ≤ slot }
-        ensures moves { Moves slot (IsNoted self.old) (IsNoted self.new) released.old released.new }
+        ensures moves { Moves slot (IsNoted self.old) (IsNoted self.new) (heap_items released.old) (heap_items released.new) }
         ensures turned { self.new.turned ≤ slot }
         ensures done { OnOk result (self.new.turned ≡ slot) }
         ensures far { self.new.far ≡ self.old.far }
@@ -131,12 +132,16 @@ fn empty_lists(alloc: Global) -> Result<Vec<Vec<Date>>, AllocError> {
 }
 
 // Moves the keys of a list of dates that have come to the heap.
-fn release_all(dates: &mut Vec<Date>, released: &mut Turns, slot: u64) -> Result<(), AllocError>
-    ensures moves { Moves slot (λ d. (d.release ≤ slot) × Contains dates.old.items d) (Contains dates.new.items) released.old released.new }
+fn release_all(
+    dates: &mut Vec<Date>,
+    released: &mut BinaryHeap<Turn>,
+    slot: u64,
+) -> Result<(), AllocError>
+    ensures moves { Moves slot (λ d. (d.release ≤ slot) × Contains dates.old.items d) (Contains dates.new.items) (heap_items released.old) (heap_items released.new) }
     ensures done { OnOk result (dates.new.items ≡ []) }
 {
     for date in dates.iter() {
-        released.push(&date.key, date.hint)?;
+        add_turn(released, &date.key, date.hint)?;
     }
     dates.clear();
     Ok(())
@@ -153,16 +158,16 @@ pub(crate) struct Date {
 // The same of the far dates.
 fn release_far(
     dates: &mut BinaryHeap<Reverse<Date>>,
-    released: &mut Turns,
+    released: &mut BinaryHeap<Turn>,
     slot: u64,
 ) -> Result<(), AllocError>
     requires order { IsHeap later_cmp (heap_items dates.old) }
-    ensures moves { Moves slot (IsAmong (heap_items dates.old)) (IsAmong (heap_items dates.new)) released.old released.new }
+    ensures moves { Moves slot (IsAmong (heap_items dates.old)) (IsAmong (heap_items dates.new)) (heap_items released.old) (heap_items released.new) }
     ensures order { IsHeap later_cmp (heap_items dates.new) }
     ensures done { OnOk result (All (λ e. slot < e.0.release) (heap_items dates.new)) }
 {
     while let Some(date) = first_come(dates, slot) {
-        released.push(&date.key, date.hint)?;
+        add_turn(released, &date.key, date.hint)?;
         let _ = dates.pop();
     }
     Ok(())

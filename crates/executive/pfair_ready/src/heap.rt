@@ -1,16 +1,12 @@
 //! A ready structure of one heap and one calendar. The heap has turns, the first in the PD2 order first.
-ghost use Rattle.std.specs.Prelude.{◌≡◌, ◌≤◌, IfOk, OnErr, map, ◌&&◌, ℕ, ◌+◌, ◌∷◌, [], Contains, IfNone, IfSome, OnOk, length, nat_eq};
+ghost use Rattle.std.specs.Prelude.{◌≡◌, ◌≤◌, IfOk, OnErr, OnOk, map};
+ghost use Rattle.std.specs.BinaryHeap.{heap_items};
 ghost use Rattle.pfair_order.specs.declared.Key.{Key};
-ghost use Rattle.pfair_order.specs.Order.{pd2_cmp, tie_group_of};
+ghost use Rattle.pfair_order.specs.Order.{pd2_cmp};
 ghost use Rattle.pfair_order.specs.Rank.{first_by_rank};
 ghost use Rattle.pfair_ready.specs.Queue.{released, without};
-ghost use Rattle.std.specs.List.Sorted.{IsPermutation};
-ghost use Rattle.std.proofs.Common.{rules};
-ghost use Rattle.std.specs.Cmp.{eq_by_cmp_equiv, partial_equiv_from_equiv, partial_order_from_total};
-ghost use Rattle.std.specs.Cmp.Rules.{comparing};
-ghost use Rattle.std.specs.Ordering.{as_partial_cmp, eq_by_cmp};
-ghost use Rattle.pfair_ready.specs.Names.{name_eq};
-ghost use Rattle.pfair_ready.specs.Turns.{turn_cmp, turns_total, IsFirst};
+ghost use Rattle.pfair_ready.specs.Turns.{HasTurn, KeepsTurns, turn_of};
+ghost use Rattle.pfair_weight.specs.Name.{IsTaskName};
 
 use crate::calendar::{Calendar, Date};
 use crate::waiting::Waiting;
@@ -18,7 +14,7 @@ use crate::{Ready, Seated, Seats};
 use pfair_order::Key;
 use pfair_weight::TaskName;
 use std::alloc::{AllocError, Global};
-use std::cmp::{Ordering, Reverse};
+use std::cmp::Reverse;
 use std::collections::BinaryHeap;
 use std::marker::Model;
 
@@ -42,7 +38,7 @@ pub struct HeapReady {
     now: u64,
     waiting: Waiting,
     calendar: Calendar,
-    released: Turns,
+    released: BinaryHeap<Turn>,
 }
 
 impl Model for HeapReady {
@@ -52,11 +48,12 @@ impl Model for HeapReady {
 
     ghost coded = { content_code };
 
+    ghost use Rattle.std.specs.BinaryHeap.{heap_items};
     ghost use Rattle.pfair_ready.specs.Calendar.{IsCovered};
 
     ghost view = { λ a. record { now = a.now; held = a.waiting } };
 
-    ghost invariant = { λ a. IsCovered a.now a.waiting a.calendar a.released };
+    ghost invariant = { λ a. IsCovered a.now a.waiting a.calendar (heap_items a.released) };
 }
 
 // What a selection gives for a key that it takes out.
@@ -124,7 +121,7 @@ impl Ready for HeapReady {
             now: 0,
             waiting: Waiting::new(alloc),
             calendar: Calendar::new(alloc),
-            released: Turns::new(alloc),
+            released: BinaryHeap::new(alloc),
         }
     }
 
@@ -145,7 +142,7 @@ impl Ready for HeapReady {
             return Ok(false);
         };
         let noted = if release <= self.now {
-            self.released.push(&key, place)
+            add_turn(&mut self.released, &key, place)
         } else {
             let date = Date {
                 release,
@@ -181,195 +178,49 @@ impl Ready for HeapReady {
     fn reserve(&mut self, keys: usize) -> Result<(), AllocError> {
         let room = keys.saturating_mul(2);
         self.waiting.reserve(keys)?;
-        self.released.reserve(room)?;
+        self.released
+            .reserve(room.saturating_sub(self.released.len()))?;
         self.calendar.reserve(self.alloc, room)
     }
 }
 
-/// What the order looks at in a released key, with its name as the number that orders names, and a hint
-/// where the name stands.
-#[derive(Debug, Drop)]
+/// What the order looks at in a released key, with a hint where its name stands. The first in the PD2
+/// order is the greatest.
+#[derive(Debug, Drop, PartialEq, Eq, PartialOrd, Ord)]
 pub(crate) struct Turn {
-    d: u64,
-    b: u64,
-    group: u64,
-    hint: usize,
-    name: u128,
-}
-
-impl Model for Turn {
-    ghost use Rattle.std.specs.Prelude.{ℕ};
-    ghost use Rattle.pfair_order.specs.declared.Key.{Key};
-    ghost use Rattle.pfair_weight.specs.Number.{IsNumber};
-    ghost use Rattle.pfair_ready.specs.Turns.{key_numbered, turn_code};
-
-    ghost Value = { Key × ℕ };
-
-    ghost coded = { turn_code };
-
-    ghost view = { λ t. (key_numbered t.d t.b t.group t.name, t.hint) };
-
-    ghost invariant = { λ t. IsNumber t.name };
+    pub d: Reverse<u64>,
+    pub b: u64,
+    // the group deadline if the order looks at it, else 0
+    pub group: u64,
+    // the number that orders names
+    pub name: Reverse<u128>,
+    pub hint: usize,
 }
 
 impl Turn {
     fn of(key: &Key, hint: usize) -> Turn
-        ensures { result ≡ (key.now, hint) }
+        ensures turn { result ≡ turn_of key.now hint }
+        ensures name { IsTaskName key.now.name }
     {
         Turn {
-            d: key.d,
+            d: Reverse(key.d),
             b: key.b,
-            group: key.group,
+            group: if key.b == 1 { key.group } else { 0 },
+            name: Reverse(key.name.number()),
             hint,
-            name: key.name.number(),
         }
     }
-
-    pub(crate) fn hint(&self) -> usize
-        ensures { result ≡ self.now.1 }
-    {
-        self.hint
-    }
-
-    /// Returns the name of the key, from its number.
-    pub(crate) fn name(&self) -> TaskName
-        ensures { result ≡ self.now.0.name }
-    {
-        TaskName::of_number(self.name)
-    }
-
-    /// Whether the name is that of the key.
-    pub(crate) fn is_named(&self, name: &TaskName) -> bool
-        ensures { result ≡ name_eq name.now self.now.0.name }
-    {
-        name.number() == self.name
-    }
-
-    /// Whether the key has these fields, beside its name.
-    pub(crate) fn is_at(&self, d: u64, b: u64, group: u64) -> bool
-        ensures { result ≡ (nat_eq d self.now.0.d && (nat_eq b self.now.0.b && nat_eq group self.now.0.group)) }
-    {
-        d == self.d && b == self.b && group == self.group
-    }
-
-    // The group deadline if the order looks at it, else 0.
-    fn tie_group(&self) -> u64
-        ensures { result ≡ tie_group_of self.now.0 }
-    {
-        if self.b == 1 { self.group } else { 0 }
-    }
 }
 
-impl PartialEq for Turn {
-    ghost eq = { eq_by_cmp turn_cmp };
-
-    ghost laws = { partial_equiv_from_equiv (eq_by_cmp_equiv turns_total) };
-
-    fn eq(&self, other: &Turn) -> bool {
-        self.cmp(other) == Ordering::Equal
-    }
-}
-
-impl Eq for Turn {
-    ghost laws = { eq_by_cmp_equiv turns_total };
-}
-
-impl Ord for Turn {
-    ghost cmp = { turn_cmp };
-
-    ghost total = { turns_total };
-
-    ghost matches_partial_cmp = { Prim.search (comparing, rules) };
-
-    ghost matches_eq = { Prim.search (comparing, rules) };
-
-    // The PD2 order of the keys, up to the names: a name has at most one key that waits.
-    fn cmp(&self, other: &Turn) -> Ordering {
-        if self.d != other.d {
-            return self.d.cmp(&other.d);
-        }
-        if self.b != other.b {
-            return other.b.cmp(&self.b);
-        }
-        let groups = other.tie_group().cmp(&self.tie_group());
-        if groups != Ordering::Equal {
-            return groups;
-        }
-        self.name.cmp(&other.name)
-    }
-}
-
-impl PartialOrd for Turn {
-    ghost partial_cmp = { as_partial_cmp turn_cmp };
-
-    ghost laws = { partial_order_from_total turns_total };
-
-    fn partial_cmp(&self, other: &Turn) -> Option<Ordering> {
-        Some(self.cmp(other))
-    }
-}
-
-/// The turns of released keys in a heap.
-#[derive(Drop)]
-pub(crate) struct Turns {
-    heap: BinaryHeap<Reverse<Turn>>,
-}
-
-impl Model for Turns {
-    ghost use Rattle.std.specs.Prelude.{List, ℕ};
-    ghost use Rattle.pfair_order.specs.declared.Key.{Key};
-
-    ghost Value = { List (Key × ℕ) };
-
-    ghost use Rattle.std.specs.BinaryHeap.{heap_items, IsHeap};
-    ghost use Rattle.pfair_ready.specs.Turns.{reverse_cmp, turns_code, turns_of};
-
-    ghost coded = { turns_code };
-
-    ghost view = { λ t. turns_of (heap_items t.heap) };
-
-    ghost invariant = { λ t. IsHeap reverse_cmp (heap_items t.heap) };
-}
-
-impl Turns {
-    pub(crate) fn new(alloc: Global) -> Turns
-        ensures { result ≡ [] }
-    {
-        Turns {
-            heap: BinaryHeap::new(alloc),
-        }
-    }
-
-    pub(crate) fn len(&self) -> usize
-        ensures { result ≡ length self.now }
-    {
-        self.heap.len()
-    }
-
-    /// Makes room for so many turns in all.
-    pub(crate) fn reserve(&mut self, turns: usize) -> Result<(), AllocError>
-        ensures { self.new ≡ self.old }
-    {
-        self.heap.reserve(turns.saturating_sub(self.heap.len()))
-    }
-
-    pub(crate) fn push(&mut self, key: &Key, hint: usize) -> Result<(), AllocError>
-        ensures kept { (turn : Key × ℕ) → Contains self.old turn → Contains self.new turn }
-        ensures there { OnOk result (Contains self.new (key.now, hint)) }
-    {
-        self.heap.push(Reverse(Turn::of(key, hint)))?;
-        Ok(())
-    }
-
-    /// Takes out the first turn.
-    pub(crate) fn pop(&mut self) -> Option<Turn>
-        ensures some { IfSome result (λ turn. IsPermutation self.old (turn ∷ self.new)) }
-        ensures first { IfSome result (λ turn. IsFirst turn self.old) }
-        ensures shorter { IfSome result (λ turn. length self.new + 1 ≡ length self.old) }
-        ensures none { IfNone result (length self.old ≡ 0) }
-        ensures same { IfNone result (self.new ≡ self.old) }
-    {
-        let Reverse(turn) = self.heap.pop()?;
-        Some(turn)
-    }
+/// Adds the turn of a key to a heap of turns.
+pub(crate) fn add_turn(
+    turns: &mut BinaryHeap<Turn>,
+    key: &Key,
+    hint: usize,
+) -> Result<(), AllocError>
+    ensures keeps { KeepsTurns (heap_items turns.old) (heap_items turns.new) }
+    ensures there { OnOk result (HasTurn (heap_items turns.new) key.now) }
+{
+    turns.push(Turn::of(key, hint))?;
+    Ok(())
 }

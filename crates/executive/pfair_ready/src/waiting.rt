@@ -1,9 +1,10 @@
 //! What waits under each name.
-ghost use Rattle.std.specs.Prelude.{◌≡◌, ℕ, IfOk, IfSome, IfNone, OnErr, OnOk, None, Some, false, is_some, not, if◌then◌else◌};
+ghost use Rattle.std.specs.Prelude.{◌≡◌, IfOk, IfSome, IfNone, OnErr, OnOk, None, Some, false, is_some, not, if◌then◌else◌};
 ghost use Rattle.std.specs.FinMap as finmap;
-ghost use Rattle.indexmap.specs.IndexMap.{get as at_name, IsUnique, Updates};
+ghost use Rattle.indexmap.specs.IndexMap.{get as at_name, IsUnique};
 ghost use Rattle.pfair_ready.specs.Names.{NameValue, name_eq};
-ghost use Rattle.pfair_ready.specs.Waiting.{is_due, key_under, queue_in, IsEntryOf};
+ghost use Rattle.pfair_ready.specs.Waiting.{IsEntryOf, IsKeyIn, is_due, key_under, queue_in};
+ghost use Rattle.pfair_weight.specs.Number.{IsNumber, name_of};
 
 use crate::heap::Turn;
 use crate::{Seated, Seats};
@@ -45,11 +46,12 @@ impl HeldKey {
         }
     }
 
-    // Whether the key is the turn's, of the same name, and released by the slot.
+    // Whether a turn of the same name is the key's, and the key released by the slot.
     fn is_due(&self, slot: u64, turn: &Turn) -> bool
-        ensures { result ≡ is_due turn.now.0 slot (Some (self.now.release, key_under turn.now.0.name self.now)) }
+        ensures { (name : NameValue) → result ≡ is_due turn.now slot (Some (self.now.release, key_under name self.now)) }
     {
-        self.release <= slot && turn.is_at(self.d, self.b, self.group)
+        let group = if self.b == 1 { self.group } else { 0 };
+        self.release <= slot && self.d == turn.d.0 && self.b == turn.b && group == turn.group
     }
 }
 
@@ -145,11 +147,12 @@ impl Waiting {
         Ok(index)
     }
 
-    /// Removes the key of a turn if it is the one under its name, and released by the slot.
+    /// Removes the key under a turn's name if the turn is that key's, and the key released by the slot.
     pub(crate) fn take(&mut self, slot: u64, turn: &Turn) -> Option<Seated>
-        ensures answer { is_some result ≡ is_due turn.now.0 slot (finmap.get self.old turn.now.0.name) }
-        ensures key { IfSome result (λ seated. seated.key ≡ turn.now.0) }
-        ensures content { self.new ≡ (if is_some result then finmap.remove self.old turn.now.0.name else self.old) }
+        requires { IsNumber turn.now.name.0 }
+        ensures answer { is_some result ≡ is_due turn.now slot (finmap.get self.old (name_of turn.now.name.0)) }
+        ensures key { IfSome result (λ seated. IsKeyIn self.old (name_of turn.now.name.0) seated.key) }
+        ensures content { self.new ≡ (if is_some result then finmap.remove self.old (name_of turn.now.name.0) else self.old) }
     {
         let ready = find_turn(&self.entries, turn)?;
         vacate(&mut self.entries, ready, slot, turn)
@@ -227,26 +230,27 @@ fn fill(entries: &mut Entries, index: usize, member: usize, release: u64, key: &
 
 // Where the name of a turn stands.
 fn find_turn(entries: &Entries, turn: &Turn) -> Option<usize>
-    ensures some { IfSome result (IsEntryOf entries.now.entries turn.now.0.name) }
-    ensures none { IfNone result (at_name name_eq entries.now turn.now.0.name ≡ None) }
+    requires { IsNumber turn.now.name.0 }
+    ensures some { IfSome result (IsEntryOf entries.now.entries (name_of turn.now.name.0)) }
+    ensures none { IfNone result (at_name name_eq entries.now (name_of turn.now.name.0) ≡ None) }
     ensures unique { IsUnique name_eq entries.now }
 {
     // no name stands twice
     prove!(entries.len() < usize::MAX);
-    match entries.get_index(turn.hint()) {
-        Some((there, _)) if turn.is_named(there) => Some(turn.hint()),
-        _ => entries.get_index_of(&turn.name()),
+    match entries.get_index(turn.hint) {
+        Some((there, _)) if there.number() == turn.name.0 => Some(turn.hint),
+        _ => entries.get_index_of(&TaskName::of_number(turn.name.0)),
     }
 }
 
-// Takes out what waits under a turn's name, whose entry is at the index, if it is the turn's key,
-// released by the slot.
+// Takes out what waits under a turn's name, whose entry is at the index, if the turn is that key's, and
+// the key released by the slot.
 fn vacate(entries: &mut Entries, ready: usize, slot: u64, turn: &Turn) -> Option<Seated>
-    requires { IsEntryOf entries.old.entries turn.now.0.name ready }
-    ensures answer { is_some result ≡ is_due turn.now.0 slot (finmap.get (queue_in entries.old.entries) turn.now.0.name) }
-    ensures key { IfSome result (λ seated. seated.key ≡ turn.now.0) }
+    requires { IsEntryOf entries.old.entries (name_of turn.now.name.0) ready }
+    ensures answer { is_some result ≡ is_due turn.now slot (finmap.get (queue_in entries.old.entries) (name_of turn.now.name.0)) }
+    ensures key { IfSome result (λ seated. IsKeyIn (queue_in entries.old.entries) (name_of turn.now.name.0) seated.key) }
     ensures content { queue_in entries.new.entries ≡
-        (if is_some result then finmap.remove (queue_in entries.old.entries) turn.now.0.name else queue_in entries.old.entries) }
+        (if is_some result then finmap.remove (queue_in entries.old.entries) (name_of turn.now.name.0) else queue_in entries.old.entries) }
 {
     let name = *entries.get_index(ready)?.0;
     let entry = entries.get_index_mut(ready)?;

@@ -9,16 +9,16 @@ loop-date-preserved c =
     let next = c.in-Some.ensures.some in
     let top : Reverse Date = record { 0 = c.in-Some.date } in
     record {
-      moves = moves_more c.args.slot c.in-Some.date _ _ (IsAmong (heap_items c.pop.new.self)) _ _ c.push.new.self c.loop-date.invariant.moves
-          c.push.ensures.kept
+      moves = moves_more c.args.slot c.in-Some.date _ _ (IsAmong (heap_items c.pop.new.self)) _ _ (heap_items c.add_turn.new.turns) c.loop-date.invariant.moves
+          c.add_turn.ensures.keeps
           (λ d among. elim (top_or_stays top (record { 0 = d }) _ (heap_items c.pop.new.self)
-            (popped c.pop.result (heap_items c.loop-date.dates) (heap_items c.pop.new.self) top _ c.loop-date.dates.data.ok.0 next.some next.top c.pop.ensures.none c.pop.ensures.top c.pop.ensures.permutation) among) [
+          (popped c.pop.result (heap_items c.loop-date.dates) (heap_items c.pop.new.self) top _ c.loop-date.dates.data.ok.0 next.some next.top c.pop.ensures.none c.pop.ensures.top c.pop.ensures.permutation) among) [
             | inl same ↦ inl (ap (λ (r : Reverse Date). r.0) same)
             | inr stays ↦ inr stays
           ])
-          (λ _. (next.due, (c.in-Some.date.hint, c.in_ok-push.ensures.there)));
+          (λ _. (next.due, c.in_ok-add_turn.ensures.there));
       order = popped_order c.pop.result (heap_items c.loop-date.dates) (heap_items c.pop.new.self) _ c.loop-date.dates.data.ok.0 next.some c.pop.ensures.none c.pop.ensures.heap_order c.loop-date.invariant.order;
     }
 
-pub returns-in_err-push-clause-moves : goal.returns-in_err-push-clause-moves
-returns-in_err-push-clause-moves c = moves_kept c.args.slot _ _ _ c.loop-date.released c.push.new.self c.loop-date.invariant.moves c.push.ensures.kept
+pub returns-in_err-add_turn-clause-moves : goal.returns-in_err-add_turn-clause-moves
+returns-in_err-add_turn-clause-moves c = moves_kept c.args.slot _ _ _ (heap_items c.loop-date.released) (heap_items c.add_turn.new.turns) c.loop-date.invariant.moves c.add_turn.ensures.keeps

@@ -1,5 +1,5 @@
 use Rattle.std.proofs.Common.{◌<◌, ◌≤◌, ◌+◌, refl, ap, arith, ℕ, length, ◌%◌}
-use Rattle.pfair_ready.proofs.Common.{slice_get_read, Calendar, in_bucket, IsNoted}
+use Rattle.pfair_ready.proofs.Common.{slice_get_read, Calendar, heap_items, in_bucket, IsNoted}
 use Rattle.std.specs.Vec.{with_item}
 use Rattle.pfair_ready.proofs.CalendarLemmas.{emptied_next, emptied_past, moves_bucket, moves_turned}
 use Rattle.pfair_ready.proofs.calendar.Calendar.turn.Goals as goal
@@ -12,7 +12,7 @@ returns-in_err-release_all-clause-moves c =
     let inside : bucket < length was.near.items = omega (arith, c.if-bucket-len.true, c.len.ensures, was.near.ok.0) in
     let same = c.loop-ahead.invariant.turned in
     moves_bucket c.args.slot (c.args.self.now.turned + 1 + c.loop-ahead.ahead) (IsNoted c.args.self.now) was (record { turned = was.turned; near = with_item was.near bucket c.release_all.new.dates; far = was.far }) c.index_mut.result.now c.release_all.new.dates
-    c.args.released.now c.loop-ahead.released c.release_all.new.released c.loop-ahead.invariant.moves (omega (arith, same)) (omega (arith, same, c.loop-ahead-test.true, c.min-ahead-end.ensures)) (omega (arith, c.loop-ahead-test.true, c.min-ahead-end.ensures))
+    (heap_items c.args.released.now) (heap_items c.loop-ahead.released) (heap_items c.release_all.new.released) c.loop-ahead.invariant.moves (omega (arith, same)) (omega (arith, same, c.loop-ahead-test.true, c.min-ahead-end.ensures)) (omega (arith, c.loop-ahead-test.true, c.min-ahead-end.ensures))
     (ap in_bucket (slice_get_read was.near.items (length was.near.items) bucket c.index_mut.result.now refl inside c.index_mut.ensures.value)) c.release_all.ensures.moves refl refl refl
 
 pub loop-ahead-preserved : goal.loop-ahead-preserved
@@ -26,7 +26,7 @@ loop-ahead-preserved c =
           let inside : bucket < length was.near.items = omega (arith, w.if-bucket-len.true, c.len.ensures, was.near.ok.0) in
           rw (w.self-is, w.released-is) (record {
             moves = moves_bucket c.args.slot (from + 1 + c.loop-ahead.ahead) (IsNoted c.args.self.now) was (record { turned = was.turned; near = with_item was.near bucket w.release_all.new.dates; far = was.far }) w.index_mut.result.now w.release_all.new.dates
-                c.args.released.now c.loop-ahead.released w.release_all.new.released c.loop-ahead.invariant.moves (omega (arith, same)) (omega (arith, same, c.loop-ahead-test.true, c.min-ahead-end.ensures)) (omega (arith, c.loop-ahead-test.true, c.min-ahead-end.ensures))
+                (heap_items c.args.released.now) (heap_items c.loop-ahead.released) (heap_items w.release_all.new.released) c.loop-ahead.invariant.moves (omega (arith, same)) (omega (arith, same, c.loop-ahead-test.true, c.min-ahead-end.ensures)) (omega (arith, c.loop-ahead-test.true, c.min-ahead-end.ensures))
                 (ap in_bucket (slice_get_read was.near.items (length was.near.items) bucket w.index_mut.result.now refl inside w.index_mut.ensures.value)) w.release_all.ensures.moves refl refl refl;
             turned = same;
             far = c.loop-ahead.invariant.far;

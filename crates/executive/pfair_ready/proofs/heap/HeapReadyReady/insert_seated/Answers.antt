@@ -1,5 +1,5 @@
 use Rattle.std.proofs.Common.{◌≡◌, ◌≤◌, ◌⊎◌, inl, inr, refl, sym, ap, ◌∙◌, false, not, cond, ℕ, Option, OnOk, Ok, Err, Result, true≢false, is_some}
-use Rattle.pfair_ready.proofs.Common.{Content, Queue, HasTurn, IsCovered}
+use Rattle.pfair_ready.proofs.Common.{Content, Queue, HasTurn, IsCovered, heap_items}
 use Rattle.std.specs.Result.{is_err}
 use Rattle.std.specs.FinMap as finmap
 use Rattle.pfair_ready.proofs.CoverLemmas.{HasDate, covered_kept, covered_more, put_back}
@@ -21,18 +21,18 @@ put c =
 
 -- nothing is lost, and unless an allocation fails the key has its date or its turn
 noted : (c : Joined-release-self) → let s = c.if-release-self.self-inside in
-    (s.waiting ≡ c.put.new.self) × IsCovered s.now c.self.inside.waiting s.calendar s.released
-    × (is_err c.if-release-self.noted ≡ false → HasDate s.calendar c.args.release c.args.key ⊎ ((c.args.release ≤ s.now) × HasTurn s.released c.args.key))
+    (s.waiting ≡ c.put.new.self) × IsCovered s.now c.self.inside.waiting s.calendar (heap_items s.released)
+    × (is_err c.if-release-self.noted ≡ false → HasDate s.calendar c.args.release c.args.key ⊎ ((c.args.release ≤ s.now) × HasTurn (heap_items s.released) c.args.key))
 noted c =
     elim c.if-release-self.branch [
       | then-release-self w ↦ rw (w.self-inside-is, w.noted-is) (
         refl,
-        covered_kept c.self.inside.now c.self.inside.waiting c.self.inside.calendar c.self.inside.calendar c.self.inside.released w.push-noted.new.self (record { noted = λ d h. h; turned = refl; order = λ h. h }) w.push-noted.ensures.kept c.self.invariant,
-        λ fine. inr (w.if-release-self.true, (c.in-Some.place, not_err w.push-noted.result fine w.push-noted.ensures.there)),
+        covered_kept c.self.inside.now c.self.inside.waiting c.self.inside.calendar c.self.inside.calendar (heap_items c.self.inside.released) (heap_items w.add_turn-noted.new.turns) (record { noted = λ d h. h; turned = refl; order = λ h. h }) w.add_turn-noted.ensures.keeps c.self.invariant,
+        λ fine. inr (w.if-release-self.true, not_err w.add_turn-noted.result fine w.add_turn-noted.ensures.there),
       )
       | else-release-self w ↦ rw (w.self-inside-is, w.noted-is) (
         refl,
-        covered_kept c.self.inside.now c.self.inside.waiting c.self.inside.calendar w.note-noted.new.self c.self.inside.released c.self.inside.released w.note-noted.ensures.keeps (λ x h. h) c.self.invariant,
+        covered_kept c.self.inside.now c.self.inside.waiting c.self.inside.calendar w.note-noted.new.self (heap_items c.self.inside.released) (heap_items c.self.inside.released) w.note-noted.ensures.keeps (record { kept = λ t h. h; sound = λ h. h }) c.self.invariant,
         λ fine. inl (c.in-Some.place, not_err w.note-noted.result fine w.note-noted.ensures.there),
       )
     ]
@@ -58,4 +58,4 @@ invariant_of-self-else-is_err c =
     let joined = (goal.at.invariant_of-self-else-is_err c).Joined-release-self in
     let all = noted joined in
     rw (all.0 ∙ put joined)
-    (covered_more s.now c.args.release c.args.key c.self.inside.waiting s.calendar s.released (all.2 (sym c.is_err.ensures.value ∙ c.if-is_err.false)) all.1)
+    (covered_more s.now c.args.release c.args.key c.self.inside.waiting s.calendar (heap_items s.released) (all.2 (sym c.is_err.ensures.value ∙ c.if-is_err.false)) all.1)
