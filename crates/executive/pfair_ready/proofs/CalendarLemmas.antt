@@ -106,21 +106,6 @@ moves_bucket slot s Was c c' b b' turns0 turns turns' m after until come here e 
       ];
     }
 
--- and then far dates moved
-pub moves_far : (slot : ℕ) (Was : Date → Type 0) (c c' : Calendar) (turns0 turns turns' : Turned) → Moves slot Was (IsNoted c) turns0 turns → Moves slot (IsAmong (heap_items c.far)) (IsAmong (heap_items c'.far)) turns turns'
-    → c'.turned ≡ c.turned → c'.near.items ≡ c.near.items → Moves slot Was (IsNoted c') turns0 turns'
-moves_far slot Was c c' turns0 turns turns' m f turned near =
-    record {
-      keeps = keeps_both m.keeps f.keeps;
-      moved = λ d was. elim (m.moved d was) [
-        | inl noted ↦ elim noted [
-          | inl n ↦ inl (inl (still_near _ _ _ _ d turned (subst (λ (x : Buckets). Contains (under x d.release) d) (sym near) n.there) n))
-          | inr among ↦ elim (f.moved d among) [ inl stays ↦ inl (inr stays) | inr gone ↦ inr gone ]
-        ]
-        | inr gone ↦ inr (gone.0, kept_turn f.keeps gone.1)
-      ];
-    }
-
 -- the near slots are those after a later one, if the lists up to that are empty
 pub moves_turned : (slot : ℕ) (Was : Date → Type 0) (c c' : Calendar) (turns turns' : Turned) → Moves slot Was (IsNoted c) turns turns' → c.turned ≤ slot → ((s : ℕ) → c.turned < s → s ≤ c.turned + 64 → s ≤ slot → under c.near.items s ≡ [])
     → c'.turned ≡ slot → c'.near.items ≡ c.near.items → c'.far ≡ c.far → Moves slot Was (IsNoted c') turns turns'

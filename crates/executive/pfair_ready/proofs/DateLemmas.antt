@@ -1,5 +1,5 @@
 -- Dates in a heap, and what moves from there to the turns.
-use Rattle.std.proofs.Common.{◌≡◌, ℕ, ◌<◌, ◌≤◌, ◌⊎◌, inl, inr, List, length, subst, arith, Option, IfNone, IfSome}
+use Rattle.std.proofs.Common.{◌≡◌, ℕ, ◌<◌, ◌≤◌, ◌⊎◌, List, length, arith, Option, IfNone, IfSome}
 use Rattle.pfair_ready.proofs.Common.{IsHeap, PopsGreatest, Reverse, Date, later_cmp, HasTurn, KeepsTurns, Moves, Turn}
 use Rattle.pfair_ready.proofs.TurnLemmas.{keeps_both, kept_turn}
 
@@ -10,18 +10,8 @@ popped_order o xs ys n e some none h up = grind arith
 pub moves_more : (slot : ℕ) (date : Date) (Was Is Is' : Date → Type 0) (turns0 turns turns' : List Turn) → Moves slot Was Is turns0 turns
     → KeepsTurns turns turns' → ((d : Date) → Is d → (date ≡ d) ⊎ Is' d) → (Was date → (date.release ≤ slot) × HasTurn turns' date.key)
     → Moves slot Was Is' turns0 turns'
-moves_more slot date Was Is Is' turns0 turns turns' m keeps left there =
-    record {
-      keeps = keeps_both m.keeps keeps;
-      moved = λ d was. elim (m.moved d was) [
-        | inl is ↦ elim (left d is) [ inl same ↦ inr (subst (λ (x : Date). Was x → (x.release ≤ slot) × HasTurn turns' x.key) same there was) | inr stays ↦ inl stays ]
-        | inr gone ↦ inr (gone.0, kept_turn keeps gone.1)
-      ];
-    }
+moves_more slot date Was Is Is' turns0 turns turns' m keeps left there = grind (arith, keeps_both, kept_turn)
 
 -- and none
 pub moves_kept : (slot : ℕ) (Was Is : Date → Type 0) (turns0 turns turns' : List Turn) → Moves slot Was Is turns0 turns → KeepsTurns turns turns' → Moves slot Was Is turns0 turns'
-moves_kept slot Was Is turns0 turns turns' m keeps = record {
-  keeps = keeps_both m.keeps keeps;
-  moved = λ d was. elim (m.moved d was) [ inl is ↦ inl is | inr gone ↦ inr (gone.0, kept_turn keeps gone.1) ];
-}
+moves_kept slot Was Is turns0 turns turns' m keeps = grind (arith, keeps_both, kept_turn)

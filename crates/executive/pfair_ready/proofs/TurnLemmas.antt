@@ -43,10 +43,10 @@ due_of k hint slot r within = grind (arith, nat_tests)
 
 module _ {turns turns' : List Turn} where
   pub kept_turn : {k : Key} → KeepsTurns turns turns' → HasTurn turns k → HasTurn turns' k
-  kept_turn {k} keeps h = record { hint = h.hint; there = keeps.kept (turn_of k h.hint) h.there; named = h.named }
+  kept_turn {k} keeps h = grind arith
 
   pub keeps_both : {more : List Turn} → KeepsTurns turns turns' → KeepsTurns turns' more → KeepsTurns turns more
-  keeps_both a b = record { kept = λ t h. b.kept t (a.kept t h); sound = λ h. b.sound (a.sound h) }
+  keeps_both a b = grind arith
 
   pub popped_turns : (top : Turn) → IsPermutation turns (top ∷ turns') → PopsGreatest turn_cmp turns top turns' → AreTurns turns → AreTurns turns'
   popped_turns top p greatest h = record {

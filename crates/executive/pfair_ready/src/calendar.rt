@@ -1,7 +1,7 @@
 //! When the keys that wait are released.
 ghost use Rattle.std.specs.Prelude.{◌≡◌, ◌≤◌, ◌<◌, ◌%◌, ◌+◌, [], Contains, All, IfNone, IfSome, OnOk, OnSome, length};
 ghost use Rattle.pfair_ready.specs.declared.calendar.Date.{Date};
-ghost use Rattle.pfair_ready.specs.Calendar.{IsAmong, IsFirstDate, IsNoted, Keeps, Moves, later_cmp, under};
+ghost use Rattle.pfair_ready.specs.Calendar.{IsFirstDate, IsNoted, Keeps, Moves, later_cmp, under};
 ghost use Rattle.std.specs.BinaryHeap.{heap_items, IsHeap};
 
 use crate::heap::{Turn, add_turn};
@@ -60,7 +60,11 @@ impl Calendar {
         ensures far { self.new.far ≡ self.old.far }
     {
         if self.near.is_empty() {
-            self.near = empty_lists(alloc)?;
+            let mut near = Vec::with_capacity(alloc, NEAR as usize)?;
+            for _ in 0..NEAR {
+                near.push(Vec::with_capacity(alloc, NEAR_MOST)?)?;
+            }
+            self.near = near;
         }
         Ok(())
     }
@@ -99,7 +103,11 @@ impl Calendar {
         ensures done { OnOk result ((d : Date) → IsNoted self.new d → slot < d.release) }
     {
         self.turn(released, slot)?;
-        release_far(&mut self.far, released, slot)
+        while let Some(date) = first_come(&self.far, slot) {
+            add_turn(released, &date.key, date.hint)?;
+            let _ = self.far.pop();
+        }
+        Ok(())
     }
 
     // Empties the lists of all slots up to one.
@@ -120,15 +128,6 @@ impl Calendar {
         self.turned = slot;
         Ok(())
     }
-}
-
-// An empty list for each near slot.
-fn empty_lists(alloc: Global) -> Result<Vec<Vec<Date>>, AllocError> {
-    let mut near = Vec::with_capacity(alloc, NEAR as usize)?;
-    for _ in 0..NEAR {
-        near.push(Vec::with_capacity(alloc, NEAR_MOST)?)?;
-    }
-    Ok(near)
 }
 
 // Moves the keys of a list of dates that have come to the heap.
@@ -153,24 +152,6 @@ pub(crate) struct Date {
     pub release: u64,
     pub hint: usize,
     pub key: Key,
-}
-
-// The same of the far dates.
-fn release_far(
-    dates: &mut BinaryHeap<Reverse<Date>>,
-    released: &mut BinaryHeap<Turn>,
-    slot: u64,
-) -> Result<(), AllocError>
-    requires order { IsHeap later_cmp (heap_items dates.old) }
-    ensures moves { Moves slot (IsAmong (heap_items dates.old)) (IsAmong (heap_items dates.new)) (heap_items released.old) (heap_items released.new) }
-    ensures order { IsHeap later_cmp (heap_items dates.new) }
-    ensures done { OnOk result (All (λ e. slot < e.0.release) (heap_items dates.new)) }
-{
-    while let Some(date) = first_come(dates, slot) {
-        add_turn(released, &date.key, date.hint)?;
-        let _ = dates.pop();
-    }
-    Ok(())
 }
 
 // The first date if it has come.

@@ -1,7 +1,6 @@
 //! A ready structure that is one list, to compare faster ones with.
 ghost use Rattle.std.specs.Prelude.{◌≡◌, IfOk, map, filter, nat_le, not};
 ghost use Rattle.std.specs.List.{list_any};
-ghost use Rattle.std.specs.Vec.Iter.{into_iter_items};
 ghost use Rattle.itertools.specs.Extremes.{IsKLeast, by_cmp};
 ghost use Rattle.pfair_order.specs.Order.{pd2_cmp};
 ghost use Rattle.pfair_ready.specs.Names.{name_eq};
@@ -13,7 +12,6 @@ use pfair_order::Key;
 use pfair_weight::TaskName;
 use std::alloc::{AllocError, Global};
 use std::marker::Model;
-use std::vec::IntoIter;
 
 // A key that waits for its release or its turn.
 #[derive(Clone, Copy, Debug)]
@@ -86,7 +84,7 @@ impl Ready for PlainReady {
     fn take_first(&mut self, slot: u64, m: usize) -> Result<Vec<Key>, AllocError> {
         self.now = slot;
         let released = released_keys(self.alloc, &self.waiting, slot)?;
-        let first = listed(self.alloc, least_keys(self.alloc, &released, m)?)?;
+        let first = least_keys(self.alloc, &released, m)?;
         keep_others(&mut self.waiting, &first);
         Ok(first)
     }
@@ -115,18 +113,11 @@ fn released_keys(alloc: Global, waiting: &[PlainEntry], slot: u64) -> Result<Vec
 }
 
 // The m least keys, in order.
-fn least_keys(alloc: Global, keys: &[Key], m: usize) -> Result<IntoIter<Key>, AllocError>
-    ensures { IfOk result (λ least.
-        IsKLeast (by_cmp pd2_cmp) m keys.now (into_iter_items least)) }
+fn least_keys(alloc: Global, keys: &[Key], m: usize) -> Result<Vec<Key>, AllocError>
+    ensures { IfOk result (λ least. IsKLeast (by_cmp pd2_cmp) m keys.now least.items) }
 {
-    keys.iter().copied().k_smallest(alloc, m)
-}
-
-// The keys that are left, as a list.
-fn listed(alloc: Global, keys: IntoIter<Key>) -> Result<Vec<Key>, AllocError>
-    ensures { IfOk result (λ list. list.items ≡ into_iter_items keys) }
-{
-    keys.collect(alloc)
+    let least = keys.iter().copied().k_smallest(alloc, m)?;
+    least.collect(alloc)
 }
 
 // Removes the keys under these names.

@@ -125,10 +125,7 @@ impl Waiting {
         let Some(index) = find(&self.entries, seats.ready, &key.name) else {
             return Ok(Some(self.put_new(seats.member, release, key)?));
         };
-        if !fill(&mut self.entries, index, seats.member, release, key) {
-            return Ok(None);
-        }
-        Ok(Some(index))
+        Ok(fill(&mut self.entries, index, seats.member, release, key).then_some(index))
     }
 
     // The same of a name that has no entry.

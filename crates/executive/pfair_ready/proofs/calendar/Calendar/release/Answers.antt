@@ -1,9 +1,30 @@
-use Rattle.std.proofs.Common.{refl}
-use Rattle.pfair_ready.proofs.Common.{IsNoted, heap_items}
-use Rattle.pfair_ready.proofs.CalendarLemmas.{moves_far}
+use Rattle.std.proofs.Common.{inl, inr, ap}
+use Rattle.pfair_ready.proofs.Common.{Calendar, Date, IsNoted, Reverse, heap_items}
+use Rattle.pfair_ready.proofs.DateLemmas.{moves_kept, moves_more, popped_order}
+use Rattle.pfair_ready.proofs.HeapLemmas.{popped, top_or_stays}
 use Rattle.pfair_ready.proofs.calendar.Calendar.release.Goals as goal
 
-pub returns-clause-moves : goal.returns-clause-moves
-returns-clause-moves c =
-    moves_far c.args.slot (IsNoted c.args.self.now) c.turn.new.self (record { turned = c.turn.new.self.turned; near = c.turn.new.self.near; far = c.release_far.new.dates }) (heap_items c.args.released.now) (heap_items c.turn.new.released) (heap_items c.release_far.new.released)
-    c.turn.ensures.moves c.release_far.ensures.moves refl refl
+pub loop-date-preserved : goal.loop-date-preserved
+loop-date-preserved c =
+    let next = c.in-Some.ensures.some in
+    let top : Reverse Date = record { 0 = c.in-Some.date } in
+    let was : Calendar = c.loop-date.self in
+    let rest : Calendar = record { turned = was.turned; near = was.near; far = c.pop.new.self } in
+    record {
+      moves = moves_more c.args.slot c.in-Some.date (IsNoted c.args.self.now) (IsNoted was) (IsNoted rest) (heap_items c.args.released.now) (heap_items c.loop-date.released) (heap_items c.add_turn.new.turns) c.loop-date.invariant.moves
+          c.add_turn.ensures.keeps
+          (λ d noted. elim noted [
+            | inl near ↦ inr (inl near)
+            | inr among ↦ elim (top_or_stays top (record { 0 = d }) (heap_items was.far) (heap_items c.pop.new.self)
+                (popped c.pop.result (heap_items was.far) (heap_items c.pop.new.self) top _ was.far.data.ok.0 next.some next.top c.pop.ensures.none c.pop.ensures.top c.pop.ensures.permutation) among) [
+                  | inl same ↦ inl (ap (λ (r : Reverse Date). r.0) same)
+                  | inr stays ↦ inr (inr stays)
+                ]
+          ])
+          (λ _. (next.due, c.in_ok-add_turn.ensures.there));
+      turned = c.loop-date.invariant.turned;
+      order = popped_order c.pop.result (heap_items was.far) (heap_items c.pop.new.self) _ was.far.data.ok.0 next.some c.pop.ensures.none c.pop.ensures.heap_order c.loop-date.invariant.order;
+    }
+
+pub returns-in_err-add_turn-clause-moves : goal.returns-in_err-add_turn-clause-moves
+returns-in_err-add_turn-clause-moves c = moves_kept c.args.slot _ _ (heap_items c.args.released.now) (heap_items c.loop-date.released) (heap_items c.add_turn.new.turns) c.loop-date.invariant.moves c.add_turn.ensures.keeps

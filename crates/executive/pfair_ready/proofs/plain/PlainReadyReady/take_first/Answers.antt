@@ -1,4 +1,4 @@
-use Rattle.std.proofs.Common.{◌≡◌, not, List, sym, ap, subst, ◌∙◌}
+use Rattle.std.proofs.Common.{◌≡◌, not, List, ap, subst, ◌∙◌}
 use Rattle.pfair_ready.proofs.Common.{apart_filter, name_eq, list_any, Key, pd2_cmp, first_by_rank, released, without, queue_of}
 use Rattle.itertools.specs.Extremes.{IsKLeast, by_cmp}
 use Rattle.pfair_ready.proofs.PlainListLemmas.{name_of, queue_of_filter, first_from_least, released_of}
@@ -12,8 +12,7 @@ returns-clause-first c =
     let keys : c.deref-2.result.now ≡ released_of c.args.slot c.self.inside.waiting.items =
     c.deref-2.ensures.value ∙ c.in_ok-released.ensures ∙ ap (released_of c.args.slot) c.deref.ensures.value in
     let least : IsKLeast (by_cmp pd2_cmp) c.args.m (released_of c.args.slot c.self.inside.waiting.items) c.in_ok-first.first.items =
-    subst (λ (l : List Key). IsKLeast (by_cmp pd2_cmp) c.args.m l c.in_ok-first.first.items) keys
-    (subst (λ (f : List Key). IsKLeast (by_cmp pd2_cmp) c.args.m c.deref-2.result.now f) (sym c.in_ok-first.ensures) c.in_ok-least_keys.ensures) in
+    subst (λ (l : List Key). IsKLeast (by_cmp pd2_cmp) c.args.m l c.in_ok-first.first.items) keys c.in_ok-first.ensures in
     subst (λ v. c.in_ok-first.first.items ≡ first_by_rank pd2_cmp c.args.m (released c.args.slot v.held)) c.self.view_is
     (first_from_least c.args.slot c.args.m c.self.inside.waiting.items c.in_ok-first.first.items c.self.invariant least)
 
