@@ -33,9 +33,6 @@ no_elements : {A : Type 0} (xs : List A) → AllByRecursion (λ _. ⊥) xs → x
 no_elements [] h = refl
 no_elements (x ∷ xs) h = absurd h.0
 
-due_parts : (t : Turn) (slot r : ℕ) (k : Key) → is_due t slot (Some (r, k)) ≡ true → (nat_le r slot ≡ true) × (is_turn_of k t ≡ true)
-due_parts t slot r k e = and_parts (nat_le r slot) (is_turn_of k t) e
-
 -- at the start nothing is given
 pub taking_none : (slot m : ℕ) (start : Queue) (dates : Calendar) (turns : List Turn)
     → IsCovered slot start dates turns → ((d : Date) → IsNoted dates d → slot < d.release) → IsTaking slot m (length turns) start start dates turns []
@@ -105,7 +102,7 @@ module _ (slot m room : ℕ) (start held : Queue) (dates : Calendar) (turns : Li
     -- a key that is due is given, and waits no more
     pub taking_live : (key : Key) (held' : Queue) → held' ≡ finmap.remove held (name_of top.name.0) → length first < m → IsKeyIn held (name_of top.name.0) key → is_due top slot (finmap.get held (name_of top.name.0)) ≡ true → IsTaking slot m room start held' dates turns' (first ++ key ∷ [])
     taking_live key held' taken few at live =
-        let due = due_parts top slot at.0 key (ap (is_due top slot) (sym at.1) ∙ live) in
+        let due : (nat_le at.0 slot ≡ true) × (is_turn_of key top ≡ true) = and_parts (nat_le at.0 slot) (is_turn_of key top) (ap (is_due top slot) (sym at.1) ∙ live) in
         let own : key.name ≡ name_of top.name.0 = t.covered.named (name_of top.name.0) at.0 key at.1 in
         let named : IsTaskName key.name = (has_turn (name_of top.name.0) at.0 key at.1 (leb-true at.0 slot due.0)).named in
         let is : top ≡ turn_of key top.hint = own_turn top key (top_number top p t.covered.sound) own due.1 in

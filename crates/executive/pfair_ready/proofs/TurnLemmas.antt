@@ -1,6 +1,6 @@
 -- The turns of a heap, and their order.
 use Rattle.std.proofs.Common.{◌≡◌, ℕ, ◌≤◌, true, ◌&&◌, nat_eq, List, ◌∷◌, refl, sym, ap, ◌∙◌, arith, Some}
-use Rattle.pfair_ready.proofs.Common.{IsPermutation, Key, Less, Equal, Greater, NameValue, PopsGreatest, and_parts, is_due, is_turn_of, name_cmp, nat_cmp, ordering_then, pd2_cmp, tie_group_of, AreTurns, HasTurn, KeepsTurns, Turn, turn_cmp, turn_of}
+use Rattle.pfair_ready.proofs.Common.{IsPermutation, Key, Less, Equal, Greater, NameValue, PopsGreatest, is_due, is_turn_of, name_cmp, nat_cmp, ordering_then, pd2_cmp, tie_group_of, AreTurns, HasTurn, KeepsTurns, Turn, turn_cmp, turn_of}
 use Rattle.std.specs.declared.cmp.Ordering.{Ordering}
 use Rattle.std.proofs.lemmas.Bool.Decides.{nat_tests}
 use Rattle.std.proofs.lemmas.List.Elements.{All-tail}
@@ -27,9 +27,7 @@ same_order k l h i p q apart =
     ∙ sym (ap (λ r. ordering_then r (nat_cmp h i)) (number_cmp k.name l.name p q) ∙ decided (name_cmp k.name l.name) (nat_cmp h i) other))
 
 same_parts : (a b c d e f : ℕ) → (nat_eq a b && (nat_eq c d && nat_eq e f)) ≡ true → (a ≡ b) × (c ≡ d) × (e ≡ f)
-same_parts a b c d e f same =
-    let one = and_parts (nat_eq a b) (nat_eq c d && nat_eq e f) same in
-    let two = and_parts (nat_eq c d) (nat_eq e f) one.1 in (grind (arith, nat_tests), grind (arith, nat_tests), grind (arith, nat_tests))
+same_parts a b c d e f same = (grind (arith, nat_tests), grind (arith, nat_tests), grind (arith, nat_tests))
 
 -- a turn that is a key's is the one that the key makes
 pub own_turn : (t : Turn) (k : Key) → IsNumber t.name.0 → k.name ≡ name_of t.name.0 → is_turn_of k t ≡ true → t ≡ turn_of k t.hint

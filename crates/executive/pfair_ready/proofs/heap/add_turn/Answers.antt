@@ -1,18 +1,11 @@
-use Rattle.std.proofs.Common.{◌≡◌, sym, subst, List, Contains}
-use Rattle.pfair_ready.proofs.Common.{AreTurns, Turn, heap_items}
+use Rattle.std.proofs.Common.{arith, sym, subst}
+use Rattle.pfair_ready.proofs.Common.{Turn, heap_items}
 use Rattle.std.proofs.lemmas.List.Elements.{All-cons}
 use Rattle.std.proofs.lemmas.List.Sorted.{All-permutation}
 use Rattle.pfair_weight.specs.Number.{IsNumber}
 use Rattle.pfair_weight.proofs.ByteOrder.{is_number}
 use Rattle.pfair_ready.proofs.HeapLemmas.{pushed_more, pushed_top}
 use Rattle.pfair_ready.proofs.heap.add_turn.Goals as goal
-
-pub returns-in_err-push-clause-keeps : goal.returns-in_err-push-clause-keeps
-returns-in_err-push-clause-keeps c =
-    let same : heap_items c.push.new.self ≡ heap_items c.args.turns.now = c.in_err-push.ensures.unchanged.0 in record {
-      kept = λ t h. subst (λ (l : List Turn). Contains l t) (sym same) h;
-      sound = subst AreTurns (sym same);
-    }
 
 pub returns-clause-keeps : goal.returns-clause-keeps
 returns-clause-keeps c =
@@ -25,8 +18,4 @@ returns-clause-keeps c =
     }
 
 pub returns-clause-there : goal.returns-clause-there
-returns-clause-there c = record {
-  hint = c.args.hint;
-  there = subst (Contains (heap_items c.push.new.self)) c.of.ensures.turn (pushed_top c.of.result (heap_items c.args.turns.now) (heap_items c.push.new.self) c.in_ok-push.ensures.permutation);
-  named = c.of.ensures.name;
-}
+returns-clause-there c = grind (arith, pushed_top)

@@ -1,9 +1,9 @@
-use Rattle.std.proofs.Common.{ap, arith, length}
+use Rattle.std.proofs.Common.{arith}
+use Rattle.std.proofs.lemmas.Grind.{common_steps}
 use Rattle.pfair_ready.proofs.Common.{heap_items}
 use Rattle.pfair_ready.proofs.CoverLemmas.{covered_none}
 use Rattle.pfair_ready.proofs.heap.HeapReadyReady.new.Goals as goal
 
 pub invariant_of-result : goal.invariant_of-result
 invariant_of-result c =
-    let none = ap length c.new-3.ensures.items in
-    covered_none c.new.result c.new-2.result (heap_items c.new-3.result) c.new.ensures c.new-2.ensures.turned c.new-2.ensures.order (record { order = c.new-3.ensures.heap_order; numbered = λ k d within. absurd (omega (arith, none, within)) })
+    covered_none c.new.result c.new-2.result (heap_items c.new-3.result) c.new.ensures c.new-2.ensures.turned c.new-2.ensures.order (record { order = c.new-3.ensures.heap_order; numbered = grind (arith, common_steps) })
