@@ -1,10 +1,10 @@
 //! The decisions of several slots, in rows.
-ghost use Rattle.std.specs.Prelude.{◌≡◌, ◌≤◌, ◌+◌, ◌++◌, length, map, min, take, drop};
+ghost use Rattle.std.specs.Prelude.{◌≡◌, ◌≤◌, ◌<◌, ◌+◌, ◌++◌, length, map, min, take, drop};
 ghost use Rattle.pfair_c.specs.Answered.{Reads};
 ghost use Rattle.pfair_c.specs.Rows.{slot_of, decision_row, decisions_at, decisions_of, written_over};
 ghost use Rattle.pfair_c.specs.RowsGiven.{AreGiven, rows_counted, decisions_between};
 
-use crate::answer::{DONE, NOT_PLANNED};
+use crate::answer::NOT_PLANNED;
 use crate::entry::{PfairName, name_row};
 use crate::open::{are_readable, fits, give_rows, lay_rows};
 use pfair_admission::Decision;
@@ -49,10 +49,6 @@ pub extern "C" fn pfair_decisions(
         if !are_readable(dispatcher, from, to) {
             return NOT_PLANNED;
         }
-        if from >= to {
-            *count = 0;
-            return DONE;
-        }
         let wanted = write_decisions(dispatcher, from, to, &mut []);
         lay_rows(wanted, count, rows, |rows| {
             write_decisions(dispatcher, from, to, rows);
@@ -69,7 +65,7 @@ fn write_decisions<R: Ready>(
     to: u64,
     rows: &mut [PfairDecision],
 ) -> u64
-    requires { dispatcher.now.forgotten ≤ from }
+    requires { from < to → dispatcher.now.forgotten ≤ from }
     ensures count { result ≡ min (length (decisions_of dispatcher.now.decided from to)) 18446744073709551615 }
     ensures rows { length (decisions_of dispatcher.now.decided from to) ≤ length rows.old →
         rows.new ≡ written_over (decisions_of dispatcher.now.decided from to) rows.old }

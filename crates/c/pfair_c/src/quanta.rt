@@ -1,11 +1,10 @@
 //! The quanta of several slots, in rows.
-ghost use Rattle.std.specs.Prelude.{◌≡◌, ◌≤◌, ◌+◌, ◌*◌, ◌++◌, length, take, drop, slice_get};
+ghost use Rattle.std.specs.Prelude.{◌≡◌, ◌≤◌, ◌+◌, ◌*◌, ◌++◌, ◌<◌, length, take, drop, slice_get};
 ghost use Rattle.pfair_c.specs.Answered.{Reads};
-ghost use Rattle.pfair_table.specs.Places.{places_in};
 ghost use Rattle.pfair_c.specs.Rows.{slot_of, quantum_row, quanta_in, quanta_at, quanta_of, written_over};
 ghost use Rattle.pfair_c.specs.RowsGiven.{AreGiven, rows_count, quanta_between};
 
-use crate::answer::{DONE, NOT_PLANNED};
+use crate::answer::NOT_PLANNED;
 use crate::entry::{PfairName, name_row};
 use crate::open::{are_readable, fits, give_rows, lay_rows};
 use pfair_handle::Handle;
@@ -47,10 +46,6 @@ pub extern "C" fn pfair_quanta(
         if !are_readable(dispatcher, from, to) {
             return NOT_PLANNED;
         }
-        if from >= to {
-            *count = 0;
-            return DONE;
-        }
         let wanted = write_quanta(dispatcher, from, to, &mut []);
         lay_rows(wanted, count, rows, |rows| {
             write_quanta(dispatcher, from, to, rows);
@@ -67,7 +62,7 @@ fn write_quanta<R: Ready>(
     to: u64,
     rows: &mut [PfairQuantum],
 ) -> u64
-    requires unforgotten { dispatcher.now.forgotten ≤ from }
+    requires unforgotten { from < to → dispatcher.now.forgotten ≤ from }
     requires few { to ≤ Settings.MAX_SLOTS }
     ensures count { result ≡ length (quanta_of dispatcher.now.origin dispatcher.now.tables from to) }
     ensures rows { length (quanta_of dispatcher.now.origin dispatcher.now.tables from to) ≤ length rows.old →
@@ -95,24 +90,14 @@ fn write_slot<R: Ready>(
     ensures rows { at + length (slot_of dispatcher.now.tables slot) ≤ length rows.old →
         rows.new ≡ take at rows.old ++ written_over (quanta_at dispatcher.now.origin dispatcher.now.tables slot) (drop at rows.old) }
 {
-    let (table, places) = planned_at(dispatcher, slot);
+    // the contract of places bounds the rows of all tables by the processors
+    prove!(dispatcher.settings().processors() <= Settings::MAX_PROCESSORS);
+    let places = dispatcher.places(slot).unwrap_or(&[]);
+    let table = dispatcher.table(slot).unwrap_or(&[]);
     if fits(table.len(), at, rows.len()) {
         write_rows(slot, table, places, &mut rows[at as usize..]);
     }
     at + table.len() as u64
-}
-
-// The table of a slot, and its places; none if it isn't planned.
-fn planned_at<R: Ready>(dispatcher: &Dispatcher<R>, slot: u64) -> (&[Pick], &[u8])
-    requires { dispatcher.now.forgotten ≤ slot }
-    ensures table { result.0.now ≡ slot_of dispatcher.now.tables slot }
-    ensures places { result.1.now ≡ slot_of (places_in dispatcher.now.origin dispatcher.now.tables) slot }
-    ensures few { length result.0.now ≤ Settings.MAX_PROCESSORS }
-{
-    // the contract of places bounds the rows of all tables by the processors
-    prove!(dispatcher.settings().processors() <= Settings::MAX_PROCESSORS);
-    let places = dispatcher.places(slot).unwrap_or(&[]);
-    (dispatcher.table(slot).unwrap_or(&[]), places)
 }
 
 // Writes the quanta of a table over the first rows.
