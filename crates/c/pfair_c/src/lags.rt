@@ -3,12 +3,12 @@ ghost use Rattle.std.specs.Prelude.{◌≡◌, ◌≤◌, ◌+◌, ◌++◌, [],
 ghost use Rattle.pfair_weight.specs.Name.{NameValue};
 ghost use Rattle.pfair_lag.specs.Book.{Tally};
 ghost use Rattle.pfair_c.specs.Answered.{Reads};
-ghost use Rattle.pfair_c.specs.Lags.{lag_row, book_rows, book_after, lags_of};
+ghost use Rattle.pfair_c.specs.Lags.{lag_row, book_rows, lags_of};
 ghost use Rattle.pfair_c.specs.RowsGiven.{AreLagsGiven};
 
-use crate::answer::{DONE, MEMORY, NO_ROOM, NOT_PLANNED};
+use crate::answer::{DONE, MEMORY, NOT_PLANNED};
 use crate::entry::{PfairName, name_row};
-use crate::open::{fits, give_rows};
+use crate::open::{fits, give_rows, lay_rows};
 use pfair_handle::Handle;
 use pfair_lag::LagBook;
 use pfair_output::{book_slots, first_book};
@@ -77,12 +77,9 @@ fn copy_lags(
     let Ok((wanted, lags)) = collect_lags(alloc, dispatcher, from, to, rows.len()) else {
         return MEMORY;
     };
-    *count = wanted;
-    if wanted > rows.len() as u64 {
-        return NO_ROOM;
-    }
-    rows[..lags.len()].copy_from_slice(&lags);
-    DONE
+    lay_rows(wanted, count, rows, |rows| {
+        rows[..lags.len()].copy_from_slice(&lags)
+    })
 }
 
 // Returns how many lags the slots `from` to `to` - 1 have, but no more than fit into 64 bits; and these lags, if they
@@ -102,7 +99,8 @@ fn collect_lags<R: Ready>(
 {
     // as many slots have decisions as have tables
     prove!(to <= dispatcher.next_slot());
-    let mut book = book_after(alloc, dispatcher, from)?;
+    let mut book = first_book(alloc, dispatcher)?;
+    book_slots(&mut book, dispatcher, from)?;
     let mut lags = Vec::new(alloc);
     let mut count: u64 = 0;
     for slot in from..to {
@@ -111,20 +109,6 @@ fn collect_lags<R: Ready>(
         push_lags(&book, room, &mut lags)?;
     }
     Ok((count, lags))
-}
-
-// The book after the first `slots` slots.
-fn book_after<R: Ready>(
-    alloc: Global,
-    dispatcher: &Dispatcher<R>,
-    slots: u64,
-) -> Result<LagBook, AllocError>
-    requires unforgotten { dispatcher.now.forgotten ≡ 0 }
-    ensures { IfOk result (λ book. book ≡ book_after dispatcher.now slots) }
-{
-    let mut book = first_book(alloc, dispatcher)?;
-    book_slots(&mut book, dispatcher, slots)?;
-    Ok(book)
 }
 
 // Appends the lags of a book, if there are at most `room` then.

@@ -5,8 +5,8 @@ ghost use Rattle.pfair_state.specs.Reading.{IsWritable};
 ghost use Rattle.pfair_state.specs.Rows.{state_text};
 ghost use Rattle.pfair_c.specs.Answered.{Reads};
 
-use crate::answer::{DONE, FILE_TOO_LONG, MEMORY, NO_ROOM, OPEN_ALREADY, OUT_OF_RANGE};
-use crate::open::{give_rows, put_new};
+use crate::answer::{FILE_TOO_LONG, MEMORY, OPEN_ALREADY, OUT_OF_RANGE};
+use crate::open::{give_rows, lay_rows, put_new};
 use pfair_admission::RestoreFault;
 use pfair_file::LONGEST_FILE;
 use pfair_handle::Handle;
@@ -130,12 +130,9 @@ fn copy_state(
     let Ok(text) = began_text(alloc, dispatcher) else {
         return MEMORY;
     };
-    *length = text.len() as u64;
-    if text.len() > bytes.len() {
-        return NO_ROOM;
-    }
-    bytes[..text.len()].copy_from_slice(&text);
-    DONE
+    lay_rows(text.len() as u64, length, bytes, |bytes| {
+        bytes[..text.len()].copy_from_slice(&text)
+    })
 }
 
 // The text of the state in which the run began.

@@ -58,7 +58,7 @@ pub extern "C" fn pfair_places(
             return NOT_PLANNED;
         };
         lay_rows(places.len() as u64, count, rows, |rows| {
-            write_places(places, rows)
+            rows[..places.len()].copy_from_slice(places)
         })
     })
 }
@@ -74,12 +74,4 @@ fn write_table(table: &[Pick], rows: &mut [PfairPick])
             index: pick.index,
         };
     }
-}
-
-/// Writes places over the first rows. O(rows).
-fn write_places(places: &[u8], rows: &mut [u8])
-    requires { length places.now ≤ length rows.old }
-    ensures { rows.new ≡ written_over places.now rows.old }
-{
-    rows[..places.len()].copy_from_slice(places);
 }

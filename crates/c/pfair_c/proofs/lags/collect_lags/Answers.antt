@@ -1,15 +1,31 @@
-use Rattle.std.proofs.Common.{◌+◌, ◌-◌, ◌<◌, List, length, arith, rules, sym}
+use Rattle.std.proofs.Common.{◌+◌, ◌-◌, ◌<◌, List, length, ap, arith, rules, sym, ◌∙◌}
 use Rattle.std.proofs.lemmas.List.{length-map}
+use Rattle.pfair_lag.specs.Book.{Book}
+use Rattle.pfair_output.proofs.BookFacts.{first_time}
 use Rattle.pfair_table.specs.Refinement.{Dispatch}
 use Rattle.pfair_c.specs.declared.lags.PfairLag.{PfairLag}
 use Rattle.pfair_c.specs.Lags.{book_rows, lag_row, lags_at}
 use Rattle.pfair_c.specs.Rows.{rows_of}
-use Rattle.pfair_c.proofs.LagFacts.{as-many-more, book_time, next_booked, one-more-slot, pushed}
+use Rattle.pfair_c.proofs.LagFacts.{as-many-more, book_time, booked_first, next_booked, one-more-slot, pushed}
 use Rattle.pfair_c.proofs.SlotRows.{counted-within}
 use Rattle.pfair_c.proofs.lags.collect_lags.Goals as goal
 
 pub book_slots-requires-clause-to : goal.book_slots-requires-clause-to
 book_slots-requires-clause-to g c =
+    let none = ap (λ (b : Book). b.time) c.in_ok-book.ensures ∙ first_time c.args.dispatcher.now.origin in
+    omega (arith, none)
+
+pub loop-slot-init : goal.loop-slot-init
+loop-slot-init g c = (
+  omega arith,
+  omega (arith, c.requires.forward),
+  booked_first c.args.dispatcher.now c.args.from c.in_ok-book.book c.book_slots.new.book c.in_ok-book.ensures c.in_ok-book_slots.ensures,
+  grind arith,
+  λ room. grind arith,
+)
+
+pub book_slots-requires-in-loop-slot-clause-to : goal.book_slots-requires-in-loop-slot-clause-to
+book_slots-requires-in-loop-slot-clause-to g c =
     let time =
     book_time c.args.dispatcher.now c.loop-slot.slot c.loop-slot.book (omega (arith, c.loop-slot-test.true, c.requires.planned, c.next_slot.ensures.decided, c.next_slot.ensures.value))
     (omega (arith, c.loop-slot-test.true, c.requires.planned)) c.loop-slot.invariant.2 in
@@ -21,10 +37,10 @@ loop-slot-preserved g c =
     let from = c.args.from in
     let slot = c.loop-slot.slot in
     let after = c.loop-slot.invariant.0 in
-    let book = c.book_slots.new.book in
+    let book = c.book_slots-in-loop-slot.new.book in
     let inside : slot < length d.decided = omega (arith, c.loop-slot-test.true, c.requires.planned, c.next_slot.ensures.decided, c.next_slot.ensures.value) in
     let inside' : slot < length d.tables = omega (arith, c.loop-slot-test.true, c.requires.planned) in
-    let given = next_booked d slot c.loop-slot.book book inside inside' c.loop-slot.invariant.2 c.in_ok-book_slots.ensures in
+    let given = next_booked d slot c.loop-slot.book book inside inside' c.loop-slot.invariant.2 c.in_ok-book_slots-2.ensures in
     let before : List PfairLag = rows_of (lags_at d) from (slot - from) in
     let all : List PfairLag = rows_of (lags_at d) from (slot + 1 - from) in
     let more = as-many-more d from slot book after given in (
