@@ -52,13 +52,11 @@ pub extern "C" fn pfair_take(
     let done = with_open(alloc, handle, |dispatcher| {
         take_as(dispatcher, processor, number, entry, before)
     });
-    match done {
-        Some((answer, how)) => {
-            *taken = how;
-            answer
-        }
-        None => NOT_OPEN,
-    }
+    let Some((answer, how)) = done else {
+        return NOT_OPEN;
+    };
+    *taken = how;
+    answer
 }
 
 // Takes an entry under a number, and returns the answer, and how it was taken, or `before` if it wasn't.
@@ -102,16 +100,15 @@ pub extern "C" fn pfair_take_log(
     let taken = with_open(alloc, handle, |dispatcher| {
         take_log(dispatcher, processor, first, entries)
     });
-    match taken {
-        Some((answer, taken)) => {
-            *counted = taken;
-            answer
-        }
-        None => NOT_OPEN,
-    }
+    let Some((answer, taken)) = taken else {
+        return NOT_OPEN;
+    };
+    *counted = taken;
+    answer
 }
 
-// Takes the entries, if the log is there and has such a number, and counts them.
+// Takes the entries, if the log is there and has such a number, up to the first that is refused, and
+// counts them.
 fn take_log(
     dispatcher: &mut Dispatcher<HeapReady>,
     processor: u8,
@@ -131,44 +128,15 @@ fn take_log(
     if answer != DONE {
         return (answer, counted);
     }
-    match take_entries(dispatcher, processor, first, entries, &mut counted) {
-        Ok(()) => (DONE, counted),
-        Err(number) => (number, counted),
-    }
-}
-
-// Takes entries of the log of a processor, the first of them under the number `first` and each next
-// one under the next, up to the first that is refused, and counts them. The cost is that of
-// [`Dispatcher::take`] for each.
-//
-// The error is the number of what is wrong with the entry after those that were taken, as of
-// [`read_entry`]; or that of the fault with which the dispatcher refused it. The entries before it
-// stay taken.
-fn take_entries<R: Ready>(
-    dispatcher: &mut Dispatcher<R>,
-    processor: u8,
-    first: u32,
-    entries: &[PfairEntry],
-    counted: &mut PfairTakenLog,
-) -> Result<(), u32>
-    ensures taken { IsTakenTo processor first entries.now counted.new dispatcher.old dispatcher.new }
-    ensures all { OnOk result (counted.new.taken ≡ length entries.now) }
-    ensures refused { IfErr result (λ answer. IsRefusedAt dispatcher.new.replica processor (first + counted.new.taken) entries.now counted.new.taken answer) }
-    ensures numbered { IfErr result (λ answer. (0 < answer) × (answer ≤ 100)) }
-{
-    *counted = PfairTakenLog {
-        taken: 0,
-        fresh: 0,
-        known: 0,
-        torn: 0,
-    };
     let mut number = first;
     for entry in entries {
-        let how = take_one(dispatcher, processor, number, entry)?;
-        *counted = one_more(how, *counted);
+        match take_one(dispatcher, processor, number, entry) {
+            Ok(how) => counted = one_more(how, counted),
+            Err(number) => return (number, counted),
+        }
         number += 1;
     }
-    Ok(())
+    (DONE, counted)
 }
 
 // Takes an entry under a number, or gives the number of the fault.
@@ -190,10 +158,9 @@ fn take_one<R: Ready>(
     // the contract of the capacity bounds every number of a log
     prove!(dispatcher.replica().capacity() > 0);
     let entry = read_entry(entry)?;
-    match dispatcher.take(processor, number, entry) {
-        Ok(how) => Ok(how),
-        Err(fault) => Err(fault.number() as u32),
-    }
+    dispatcher
+        .take(processor, number, entry)
+        .map_err(|fault| fault.number() as u32)
 }
 
 // One more is taken, which met this.
