@@ -16,15 +16,3 @@ pub record GivesRows {F A B : Type 0}
   pub met : g.post f (shown, (shown_a, (shown_b, tt))) (answer, (left_a, (left_b, tt)))
   pub shows : (shown.now ≡ d) × (shown_a.now ≡ a) × (shown_b.now ≡ b)
   pub leaves : (left_a.now ≡ a') × (left_b.now ≡ b')
-
--- f at the dispatcher d and a may give this answer, and leave e and a'
-pub record Changes {F A : Type 0}
-    (g : Once F (MutBor Dispatch × (MutBor A × Unit {0})) (ℕ × (MutBor Dispatch × (MutBor A × Unit {0}))))
-    (f : F) (d : Dispatch) (a : A) (answer : ℕ) (e : Dispatch) (a' : A) : Type 0 where
-  pub shown : MutBor Dispatch
-  pub shown_a : MutBor A
-  pub left : MutBor Dispatch
-  pub left_a : MutBor A
-  pub met : g.post f (shown, (shown_a, tt)) (answer, (left, (left_a, tt)))
-  pub shows : (shown.now ≡ d) × (shown_a.now ≡ a)
-  pub leaves : (left.now ≡ e) × (left_a.now ≡ a')

@@ -51,10 +51,7 @@ pub extern "C" fn pfair_open(
 pub extern "C" fn pfair_next_run(alloc: Global, handle: &mut Handle, slots: u64) -> u32
     ensures { Changes handle.old.owner.kept handle.new.owner.kept result nothing nothing (λ d e answer _ _. IsNextRunAnswer slots d e answer) }
 {
-    match with_open(alloc, handle, |dispatcher| go_on(dispatcher, slots)) {
-        Some(answer) => answer,
-        None => NOT_OPEN,
-    }
+    with_open(alloc, handle, |dispatcher| go_on(dispatcher, slots)).unwrap_or(NOT_OPEN)
 }
 
 // Puts the dispatcher of the next run in the place of this one, and answers as the call does.

@@ -1,7 +1,7 @@
 //! Entries and names, as C has them.
 ghost use Rattle.std.specs.Prelude.{◌≡◌, ◌≤◌, ◌<◌, IfOk, IfErr, OnOk};
 ghost use Rattle.pfair_entry.specs.Notice.{unchecked};
-ghost use Rattle.pfair_c.specs.EntryRows.{entry_row, silent_row, announced_row};
+ghost use Rattle.pfair_c.specs.EntryRows.{entry_row, silent_row};
 ghost use Rattle.pfair_c.specs.Entries.{spelled, change_of, logged_of, IsInRange, IsWhole, IsMeant, IsUnreadable, IsEntryFault};
 ghost use Rattle.pfair_c.specs.Rows.{name_row};
 
@@ -68,24 +68,16 @@ fn read_change(entry: &PfairEntry) -> Result<Option<Change>, u32>
 {
     match entry.kind {
         0 => Ok(None),
-        1 => {
-            let early = match entry.early {
-                0 => false,
-                1 => true,
-                _ => return Err(OUT_OF_RANGE),
-            };
-            let (cost, period) = (entry.cost, entry.period);
-            Ok(Some(Change::Arrive {
-                cost,
-                period,
-                early,
-            }))
-        }
+        1 if entry.early <= 1 => Ok(Some(Change::Arrive {
+            cost: entry.cost,
+            period: entry.period,
+            early: entry.early == 1,
+        })),
         2 => Ok(Some(Change::Depart)),
-        3 => {
-            let (index, by) = (entry.index, entry.by);
-            Ok(Some(Change::Late { index, by }))
-        }
+        3 => Ok(Some(Change::Late {
+            index: entry.index,
+            by: entry.by,
+        })),
         _ => Err(OUT_OF_RANGE),
     }
 }
@@ -105,37 +97,10 @@ fn read_name(name: &PfairName) -> Result<&[u8], u32>
 pub(crate) fn entry_row(entry: &Entry) -> PfairEntry
     ensures { result ≡ entry_row entry.now }
 {
-    match entry.said() {
-        None => silent_row(entry.floor()),
-        Some((at, announcement)) => announced_row(entry.floor(), at, announcement),
-    }
-}
-
-// An entry that announces nothing.
-fn silent_row(floor: u64) -> PfairEntry
-    ensures { result ≡ silent_row floor }
-{
-    PfairEntry {
-        floor,
-        kind: 0,
-        at: 0,
-        name: PfairName {
-            bytes: [0; 16],
-            length: 0,
-        },
-        cost: 0,
-        period: 0,
-        early: 0,
-        index: 0,
-        by: 0,
-    }
-}
-
-// An entry that announces this, stamped `at`.
-fn announced_row(floor: u64, at: u64, announcement: Announcement) -> PfairEntry
-    ensures { result ≡ announced_row floor at announcement }
-{
-    let silent = silent_row(floor);
+    let silent = silent_row(entry.floor());
+    let Some((at, announcement)) = entry.said() else {
+        return silent;
+    };
     match announcement {
         Announcement::Arrive {
             name,
@@ -164,6 +129,26 @@ fn announced_row(floor: u64, at: u64, announcement: Announcement) -> PfairEntry
             by,
             ..silent
         },
+    }
+}
+
+// An entry that announces nothing.
+fn silent_row(floor: u64) -> PfairEntry
+    ensures { result ≡ silent_row floor }
+{
+    PfairEntry {
+        floor,
+        kind: 0,
+        at: 0,
+        name: PfairName {
+            bytes: [0; 16],
+            length: 0,
+        },
+        cost: 0,
+        period: 0,
+        early: 0,
+        index: 0,
+        by: 0,
     }
 }
 

@@ -1,6 +1,6 @@
 //! Task files, read into dispatchers.
 ghost use Rattle.std.specs.Prelude.{◌≡◌};
-ghost use Rattle.pfair_c.specs.Files.{IsReadAnswer, at_key, fault_row, field_number};
+ghost use Rattle.pfair_c.specs.Files.{IsReadAnswer, fault_row, field_number};
 
 use crate::answer::{FILE_TOO_LONG, MEMORY, OPEN_ALREADY};
 use crate::open::put_new;
@@ -72,9 +72,13 @@ fn fault_row(fault: FileFault) -> PfairFileFault
     ensures { result ≡ fault_row fault }
 {
     match fault {
-        FileFault::Missing { place, field } => at_key(place, field),
-        FileFault::WrongKind { place, field } => at_key(place, field),
-        FileFault::Range { place, field } => at_key(place, field),
+        FileFault::Missing { place, field }
+        | FileFault::WrongKind { place, field }
+        | FileFault::Range { place, field } => PfairFileFault {
+            place,
+            field: field_number(field),
+            ..NOWHERE
+        },
         FileFault::Entry {
             proc,
             number,
@@ -85,20 +89,7 @@ fn fault_row(fault: FileFault) -> PfairFileFault
             cause: cause.number() as u64,
             ..NOWHERE
         },
-        FileFault::NotToml => NOWHERE,
-        FileFault::Version => NOWHERE,
-        FileFault::Memory => NOWHERE,
-    }
-}
-
-// The place at a key.
-fn at_key(place: u64, field: Field) -> PfairFileFault
-    ensures { result ≡ at_key place field }
-{
-    PfairFileFault {
-        place,
-        field: field_number(field),
-        ..NOWHERE
+        FileFault::NotToml | FileFault::Version | FileFault::Memory => NOWHERE,
     }
 }
 

@@ -13,9 +13,7 @@ use crate::entry::{PfairEntry, entry_row};
 use crate::open::with_open;
 use pfair_handle::Handle;
 use pfair_lattice::Flat;
-use pfair_ready::HeapReady;
 use pfair_replica::{EntryKey, Faults, Replica};
-use pfair_table::Dispatcher;
 use std::alloc::Global;
 
 /// Under which processor and number an entry is held.
@@ -53,24 +51,20 @@ pub extern "C" fn pfair_settings(
 ) -> u32
     ensures { Reads handle.old.owner.kept handle.new.owner.kept result settings.old settings.new (IsGiven settings_row) }
 {
-    let Some(row) = with_open(alloc, handle, |dispatcher| settings_row(dispatcher)) else {
+    let row = with_open(alloc, handle, |dispatcher| {
+        let settings = dispatcher.settings();
+        PfairSettings {
+            processors: settings.processors() as u64,
+            frame: settings.frame(),
+            slots: settings.slots(),
+            capacity: dispatcher.replica().capacity() as u64,
+        }
+    });
+    let Some(row) = row else {
         return NOT_OPEN;
     };
     *settings = row;
     DONE
-}
-
-// The settings of a dispatcher, and its capacity.
-fn settings_row(dispatcher: &Dispatcher<HeapReady>) -> PfairSettings
-    ensures { result ≡ settings_row dispatcher.now }
-{
-    let settings = dispatcher.settings();
-    PfairSettings {
-        processors: settings.processors() as u64,
-        frame: settings.frame(),
-        slots: settings.slots(),
-        capacity: dispatcher.replica().capacity() as u64,
-    }
 }
 
 /// Writes the contents at number `number` (from 1) of the log of `processor` (from 0): 0 nothing, 1

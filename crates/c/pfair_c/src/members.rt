@@ -72,10 +72,7 @@ pub extern "C" fn pfair_members(
 fn time_of(dispatcher: &Dispatcher<HeapReady>) -> u64
     ensures { result ≡ time_of dispatcher.now }
 {
-    let began = match dispatcher.state() {
-        Some(state) => state.slot(),
-        None => 0,
-    };
+    let began = dispatcher.state().map_or(0, |state| state.slot());
     began + dispatcher.next_slot()
 }
 

@@ -75,10 +75,7 @@ fn asked_weight(cost: u64, period: u64, horizon: u64) -> Result<Weight, u32>
     ensures refused { IfErr result (λ answer.
         (answer ≡ asked_answer cost period horizon) × (answer ≡ 0 → ⊥) × (answer ≡ 40 → ⊥) × (answer ≡ 41 → ⊥)) }
 {
-    let weight = match Weight::new(cost, period) {
-        Ok(weight) => weight,
-        Err(fault) => return Err(fault.number() as u32),
-    };
+    let weight = Weight::new(cost, period).map_err(|fault| fault.number() as u32)?;
     if horizon > MAX_HORIZON {
         return Err(OUT_OF_RANGE);
     }
