@@ -115,23 +115,12 @@ pub extern "C" fn pfair_state(
     ensures { Reads handle.old.owner.kept handle.new.owner.kept result (length.old, bytes.old) (length.new, bytes.new) AreBytesGiven }
 {
     give_rows(alloc, handle, length, bytes, |dispatcher, length, bytes| {
-        copy_state(alloc, dispatcher, length, bytes)
-    })
-}
-
-fn copy_state(
-    alloc: Global,
-    dispatcher: &Dispatcher<HeapReady>,
-    length: &mut u64,
-    bytes: &mut [u8],
-) -> u32
-    ensures { AreBytesGiven dispatcher.now result (length.old, bytes.old) (length.new, bytes.new) }
-{
-    let Ok(text) = began_text(alloc, dispatcher) else {
-        return MEMORY;
-    };
-    lay_rows(text.len() as u64, length, bytes, |bytes| {
-        bytes[..text.len()].copy_from_slice(&text)
+        let Ok(text) = began_text(alloc, dispatcher) else {
+            return MEMORY;
+        };
+        lay_rows(text.len() as u64, length, bytes, |bytes| {
+            bytes[..text.len()].copy_from_slice(&text)
+        })
     })
 }
 
