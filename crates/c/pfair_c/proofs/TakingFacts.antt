@@ -1,5 +1,5 @@
 -- One entry more of a log is taken.
-use Rattle.std.proofs.Common.{Result, Ok, Err, IfErr, IsErrAnd, ◌≡◌, ◌∙◌, ◌+◌, ℕ, zero, suc, ◌<◌, ◌∷◌, [], List, Bool, true, false, length, take, get_or, ap, sym, refl, subst, true≢false, arith, if◌then◌else◌, slice_get}
+use Rattle.std.proofs.Common.{◌≡◌, ◌∙◌, ◌+◌, ℕ, zero, suc, ◌<◌, ◌∷◌, [], List, Bool, true, false, length, take, get_or, ap, sym, refl, subst, true≢false, arith, if◌then◌else◌, slice_get}
 use Rattle.pfair_lattice.specs.declared.join_map.Flat.TheVariants.{One, Torn as TornContent}
 use Rattle.std.specs.declared.option.Option.TheVariants.{None, Some}
 use Rattle.pfair_lattice.specs.Held.{Held}
@@ -71,10 +71,6 @@ pub counted-more : (how : Taken) (c d : PfairTakenLog) (i : ℕ) → d ≡ one_m
 counted-more how c d i is at sum = grind arith
 
 -- ---- what is refused
-
-pub err-of : {T E : Type 0} (r : Result T E) (f : E) (P : E → Type 0) → IsErrAnd r (λ e. e ≡ f) → P f → IfErr r P
-err-of (Ok v) f P same holds = absurd same
-err-of (Err e) f P same holds = subst P (sym same) holds
 
 pub refused-at : (x : ReplicaRows) (k n : ℕ) (es : List PfairEntry) (i j place answer : ℕ) (d : PfairEntry) → i < length es → j ≡ n → place ≡ i
     → IsRefusal x k j (get_or es i d) answer → IsRefusedAt x k n es place answer
