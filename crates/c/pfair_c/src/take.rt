@@ -132,7 +132,7 @@ fn take_log(
     for entry in entries {
         match take_one(dispatcher, processor, number, entry) {
             Ok(how) => counted = one_more(how, counted),
-            Err(number) => return (number, counted),
+            Err(refusal) => return (refusal, counted),
         }
         number += 1;
     }

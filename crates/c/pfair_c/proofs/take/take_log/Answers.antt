@@ -11,11 +11,11 @@ returns-in-Err-clause-answer c =
     let inside : i < length c.args.entries.now = omega (arith, c.loop-entry-test.true, c.loop-entry.auto.entry-index-end) in
     let at : c.loop-entry.number ≡ c.args.first + c.loop-entry.counted.taken = omega (arith, c.loop-entry.invariant.0, taken) in
     let positive = c.in-Err.ensures.numbered.0 in
-    let refused = refused-at c.loop-entry.dispatcher.replica c.args.processor (c.args.first + c.loop-entry.counted.taken) c.args.entries.now i c.loop-entry.number c.loop-entry.counted.taken c.in-Err.number _ inside at taken c.in-Err.ensures.refused in
+    let refused = refused-at c.loop-entry.dispatcher.replica c.args.processor (c.args.first + c.loop-entry.counted.taken) c.args.entries.now i c.loop-entry.number c.loop-entry.counted.taken c.in-Err.refusal _ inside at taken c.in-Err.ensures.refused in
     record {
       first = record { no_more = omega (arith, inside, taken); sound = grind arith; after = grind arith; rest = grind arith };
       no_key = λ none. absurd (none (search rules));
-      all = λ is. (let zero : c.in-Err.number ≡ 0 = is in absurd (omega arith));
+      all = λ is. (let zero : c.in-Err.refusal ≡ 0 = is in absurd (omega arith));
       refused = λ failed key. rw c.in-Err.ensures.unchanged refused;
     }
 
