@@ -1,5 +1,5 @@
 -- Books of lags that are notified of some slots, and then of more.
-use Rattle.std.proofs.Common.{ℕ, zero, suc, ◌<◌, map, ◌+◌, ◌-◌, ◌≤◌, ◌≡◌, refl, sym, ap, subst, ◌∙◌, arith, List, [], ◌∷◌, ◌++◌, length, min, take, drop, append_assoc, Option, None, Some, max}
+use Rattle.std.proofs.Common.{ℕ, ◌+◌, ◌-◌, ◌≤◌, ◌≡◌, refl, sym, ap, subst, ◌∙◌, arith, List, [], ◌∷◌, ◌++◌, length, min, take, drop, append_assoc, Option, None, Some, max}
 use Rattle.pfair_feed.proofs.Common.{cases_order, drop_all, length-take, take_all, take-append-drop, take-append-le, IsPrefixOf, Origin, Table, Dispatch, IsGrown, IsBookIfAny, IsBookOf, book_before, rows_in}
 use Rattle.std.proofs.Math.Seq.{take-add}
 use Rattle.pfair_lag.specs.Book.{Book}
@@ -66,7 +66,7 @@ book_first o slot ts ds book is =
 
 module _ (o : Origin) (ds : List (List Decided)) (ts : List Table) (same : length ts ≡ length ds) where
   -- a book that catches up to a slot
-  pub caught_up : (slot : ℕ) (b0 b1 : Book) → IsBookOf o slot ts ds b0 → b1 ≡ all_slots_booked b0 (take (slot - b0.time) (drop b0.time ds)) (take (slot - b0.time) (drop b0.time ts)) → b1 ≡ book_before o slot ts ds
+  caught_up : (slot : ℕ) (b0 b1 : Book) → IsBookOf o slot ts ds b0 → b1 ≡ all_slots_booked b0 (take (slot - b0.time) (drop b0.time ds)) (take (slot - b0.time) (drop b0.time ts)) → b1 ≡ book_before o slot ts ds
   caught_up slot b0 b1 b e = e ∙ ap (λ (book : Book). all_slots_booked book (take (slot - b0.time) (drop b0.time ds)) (take (slot - b0.time) (drop b0.time ts))) b.booked_is ∙ from b0.time b.early
     where
       from : (early : ℕ) → early ≤ slot → all_slots_booked (book_before o early ts ds) (take (slot - early) (drop early ds)) (take (slot - early) (drop early ts)) ≡ book_before o slot ts ds
@@ -80,8 +80,9 @@ module _ (o : Origin) (ds : List (List Decided)) (ts : List Table) (same : lengt
   time_before slot = grind (arith, length-take, time-booked, first_time)
 
   -- the rows from there on
-  pub rows_on : (slot : ℕ) (b1 : Book) → b1 ≡ book_before o slot ts ds → rows_booked b1 (drop b1.time ds) (drop b1.time ts) ≡ rows_in o Lags slot ts ds
-  rows_on slot b1 e = grind (arith, e, time_before, left_at)
+  pub rows_on : (slot : ℕ) (b0 b1 : Book) → IsBookOf o slot ts ds b0 → b1 ≡ all_slots_booked b0 (take (slot - b0.time) (drop b0.time ds)) (take (slot - b0.time) (drop b0.time ts))
+      → rows_booked b1 (drop b1.time ds) (drop b1.time ts) ≡ rows_in o Lags slot ts ds
+  rows_on slot b0 b1 b e = let caught = caught_up slot b0 b1 b e in grind (arith, caught, time_before, left_at)
 
   -- the book after all slots
   pub all_booked_before : (slot : ℕ) → all_slots_booked (book_before o slot ts ds) (drop slot ds) (drop slot ts) ≡ all_slots_booked (first_book o) ds ts
@@ -91,5 +92,6 @@ module _ (o : Origin) (ds : List (List Decided)) (ts : List Table) (same : lengt
       sym (booked-append (first_book o) (take slot ds) (drop slot ds) (take slot ts) (drop slot ts) (omega arith))
       ∙ (λ i. all_slots_booked (first_book o) (take-append-drop slot ds i) (take-append-drop slot ts i))
 
-  pub book_whole : (slot : ℕ) (b1 b2 : Book) → b1 ≡ book_before o slot ts ds → b2 ≡ all_slots_booked b1 (drop b1.time ds) (drop b1.time ts) → IsBookOf o (max slot (length ts)) ts ds b2
-  book_whole slot b1 b2 e e' = grind (arith, e, time_before, left_at, all_booked_before, time-booked, first_time, take_all)
+  pub book_whole : (slot : ℕ) (b0 b1 b2 : Book) → IsBookOf o slot ts ds b0 → b1 ≡ all_slots_booked b0 (take (slot - b0.time) (drop b0.time ds)) (take (slot - b0.time) (drop b0.time ts))
+      → b2 ≡ all_slots_booked b1 (drop b1.time ds) (drop b1.time ts) → IsBookOf o (max slot (length ts)) ts ds b2
+  book_whole slot b0 b1 b2 b e e' = let caught = caught_up slot b0 b1 b e in grind (arith, caught, time_before, left_at, all_booked_before, time-booked, first_time, take_all)

@@ -1,5 +1,5 @@
 -- The rows of what was planned, from a slot on.
-use Rattle.std.specs.Prelude.{ℕ, ◌≡◌, ◌≤◌, IfSome, List, Option, None, length, max, take, drop}
+use Rattle.std.specs.Prelude.{ℕ, ◌≡◌, ◌≤◌, IfSome, List, Option, length, max, take, drop}
 use Rattle.pfair_lag.specs.Book.{Book}
 use Rattle.pfair_table.specs.declared.slot.Decided.{Decided}
 use Rattle.pfair_table.specs.Refinement.{Dispatch}

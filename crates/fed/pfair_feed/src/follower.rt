@@ -11,21 +11,19 @@ ghost use Rattle.pfair_table.specs.Limits.{settings_from};
 ghost use Rattle.pfair_table.specs.NextRun.{IsResumeFault};
 ghost use Rattle.pfair_table.specs.Refinement.{IsWholePlan, course_of};
 ghost use Rattle.pfair_feed.specs.Missing.{is_past};
-ghost use Rattle.pfair_feed.specs.Rows.{header_of, IsBookIfAny, IsBookOf};
+ghost use Rattle.pfair_feed.specs.Rows.{header_of};
 ghost use Rattle.pfair_feed.specs.RoundTrip.{IsBegun};
 ghost use Rattle.pfair_feed.specs.Follow.{HasFollowed, HaveWrittenAlike, IsPlannedOut, IsSameRun, IsStopOf, missing_of, news, IsGrown, IsEndOfPlans};
 ghost use Rattle.pfair_file.specs.declared.program_fault.ProgramFault.TheVariants.{Memory, WriteFailed};
 ghost use Rattle.pfair_feed.specs.declared.output.Output.TheVariants.{Lags};
 ghost use Rattle.pfair_replica.specs.Replica.{has_torn};
 
-use crate::output::{Output, send_now, write_rows};
+use crate::output::{Output, add_rows, send_now};
 use pfair_entry::Entry;
 use pfair_file::ProgramFault;
 use pfair_lag::LagBook;
 use pfair_lattice::Flat;
-use pfair_output::{
-    add_decisions_header, add_lags_header, add_placed_header, add_replay_header, first_book,
-};
+use pfair_output::{add_decisions_header, add_lags_header, add_placed_header, add_replay_header};
 use pfair_ready::Ready;
 use pfair_replica::Taken;
 use pfair_table::{Dispatcher, NextRunFault, PlanFault, Settings, State, Step};
@@ -205,25 +203,22 @@ impl<R: Ready> Follower<R> {
         if next <= self.unwritten {
             return Ok(());
         }
-        let written = write_rows(
+        // after a fault there is no book: it is made anew when it is needed
+        let book = self.book.take();
+        let mut text = new_text(self.alloc);
+        let book = add_rows(
             self.alloc,
+            &mut text,
             self.output,
             &self.dispatcher,
             self.unwritten,
-            &mut self.book,
-            writer,
-        );
-        match written {
-            Ok(()) => {
-                self.unwritten = next;
-                Ok(())
-            }
-            Err(fault) => {
-                // the book was notified of some slots: it is made anew when it is needed
-                self.book = None;
-                Err(fault)
-            }
-        }
+            book,
+        )?;
+        let text = finish(text)?;
+        send_now(writer, text.as_slice())?;
+        self.book = book;
+        self.unwritten = next;
+        Ok(())
     }
 
     // Forgets the slots whose rows are written or left out. Lags are counted from slot 0 on.
@@ -321,21 +316,4 @@ fn plan_all<R: Ready>(dispatcher: &mut Dispatcher<R>) -> Result<(), PlanFault>
 {
     'slots: while let Step::Planned(_) = dispatcher.plan_next()? {}
     Ok(())
-}
-
-/// Returns the book, or the one before the run's first slot if there is none: it has the lags of the
-/// members that were carried into the run. O(n) for n members.
-pub(crate) fn known_book<R: Ready>(
-    alloc: Global,
-    dispatcher: &Dispatcher<R>,
-    from: u64,
-    book: Option<LagBook>,
-) -> Result<LagBook, AllocError>
-    requires { IsBookIfAny dispatcher.now.origin from dispatcher.now.tables dispatcher.now.decided book }
-    ensures { IfOk result (IsBookOf dispatcher.now.origin from dispatcher.now.tables dispatcher.now.decided) }
-{
-    match book {
-        Some(book) => Ok(book),
-        None => first_book(alloc, dispatcher),
-    }
 }

@@ -4,7 +4,7 @@ use Rattle.pfair_output.specs.Booked.{first_book}
 use Rattle.std.proofs.Common.{◌≡◌}
 use Rattle.pfair_feed.proofs.Common.{IsBookOf}
 use Rattle.pfair_feed.proofs.Books.{book_first}
-use Rattle.pfair_feed.proofs.follower.known_book.Goals as goal
+use Rattle.pfair_feed.proofs.output.known_book.Goals as goal
 
 pub returns-in-None : goal.returns-in-None
 returns-in-None g c =
