@@ -9,12 +9,9 @@ use Rattle.pfair_file.specs.ProgramFaults.{is_refusal}
 use Rattle.pfair_file.specs.declared.program_fault.ProgramFault.{ProgramFault}
 use Rattle.pfair_file.specs.declared.program_fault.ProgramFault.TheVariants.{ReadFailed}
 use Rattle.pfair_feed.proofs.Going.{gone_trans, stays}
+use Rattle.pfair_feed.proofs.ScriptRows.{all_append}
 
 -- ---- how bytes are cut into lines
-
-all_more : {A : Type 0} (P : A → Type 0) (xs : List A) (y : A) → AllByRecursion P xs → P y → AllByRecursion P (xs ++ y ∷ [])
-all_more P [] y a p = (p, tt)
-all_more P (x ∷ xs) y a p = (a.0, all_more P xs y a.1 p)
 
 lines_none : AreLines [] [] []
 lines_none = record { bytes_are = refl; whole = tt; open_end = tt }
@@ -25,7 +22,7 @@ module _ (bytes : List ℕ) (lines : List (List ℕ)) (rest : List ℕ) (a : Are
   lines_inside byte inside = record {
     bytes_are = ap (λ l. l ++ byte ∷ []) a.bytes_are ∙ append_assoc (flat_map ended lines) rest (byte ∷ []);
     whole = a.whole;
-    open_end = all_more (λ b. b ≢ 10) rest byte a.open_end inside;
+    open_end = all_append (λ b. b ≢ 10) rest (byte ∷ []) a.open_end (inside, tt);
   }
 
   -- the end of a line
@@ -33,7 +30,7 @@ module _ (bytes : List ℕ) (lines : List (List ℕ)) (rest : List ℕ) (a : Are
   lines_end = record {
     bytes_are = ap (λ l. l ++ 10 ∷ []) a.bytes_are ∙ append_assoc (flat_map ended lines) rest (10 ∷ [])
         ∙ ap (λ l. flat_map ended lines ++ l) (sym (append-nil (ended rest))) ∙ sym (flat_map-append ended lines (rest ∷ [])) ∙ sym (append-nil (flat_map ended (lines ++ rest ∷ [])));
-    whole = all_more IsOneLine lines rest a.whole a.open_end;
+    whole = all_append IsOneLine lines (rest ∷ []) a.whole (a.open_end, tt);
     open_end = tt;
   }
 
@@ -174,7 +171,7 @@ module _ (s : Bool) (given : Option (List ℕ)) (before : Follow) (u : Option (L
           };
         };
         shape = (a.shape.0 ∙ shape.0, a.shape.1 ∙ shape.1);
-        welcome = λ strict. all_more (IsWelcome before.dispatch.replica.processors before.dispatch.replica.capacity) a.fed.lines a.rest (a.welcome strict) (last (welcome strict));
+        welcome = λ strict. all_append (IsWelcome before.dispatch.replica.processors before.dispatch.replica.capacity) a.fed.lines (a.rest ∷ []) (a.welcome strict) (last (welcome strict), tt);
       }
         where
           last : IsWelcome f.dispatch.replica.processors f.dispatch.replica.capacity line → IsWelcome before.dispatch.replica.processors before.dispatch.replica.capacity a.rest
@@ -183,35 +180,27 @@ module _ (s : Bool) (given : Option (List ℕ)) (before : Follow) (u : Option (L
               (subst (λ (l : List ℕ). IsWelcome before.dispatch.replica.processors before.dispatch.replica.capacity l) (is ∙ a.kept_is)
               (subst (λ (n : ℕ). IsWelcome before.dispatch.replica.processors n line) (sym a.shape.1) (subst (λ (n : ℕ). IsWelcome n f.dispatch.replica.capacity line) (sym a.shape.0) here)))
 
-      -- a fault
-      pub stopped_at : (more : List ℕ) (e : ProgramFault) (g : Follow) (w : Option (List ℕ)) → IsFedBut s more given left kept before f u v → length more ≤ 4096 → (e ≡ ReadFailed → more ≡ [])
-          → IsLeft kept (slice_get more 0) e f g v w → (is_refusal e ≡ true → kept ≢ question) → (bytes : List ℕ) × Consumes given left bytes × IsStopped bytes e before g u w
-      stopped_at more e g w a near all_read is_left asked = (
-        a.bytes ++ more,
+      -- a fault at a byte of a piece
+      pub stopped_in : (piece line : List ℕ) (i byte : ℕ) (e : ProgramFault) (g : Follow) (w : Option (List ℕ)) → i < length piece → length piece ≤ 4096 → get_or piece i 0 ≡ byte → line ≡ kept
+          → IsFedBut s (drop i piece) given left kept before f u v → IsLeft line (Some byte) e f g v w → (is_refusal e ≡ true → line ≢ question) → (bytes : List ℕ) × Consumes given left bytes × IsStopped bytes e before g u w
+      stopped_in piece line i byte e g w inside few at is a is_left asked = (
+        a.bytes ++ drop i piece,
         a.read,
         record {
           fed = a.bytes;
-          more = more;
+          more = drop i piece;
           rest = a.rest;
           mid = f;
           reached = v;
           bytes_are = refl;
-          near = near;
-          all_read = all_read;
+          near = (let size = length-drop i piece in omega (arith, size, few));
+          all_read = λ same. absurd (not_reading line byte e f g v w is_left same);
           are_fed = a.fed;
-          left = subst (λ (l : List ℕ). IsLeft l (slice_get more 0) e f g v w) a.kept_is is_left;
-          asked = λ refused same. asked refused (a.kept_is ∙ ap (take 257) same);
+          left = subst (λ (next : Option ℕ). IsLeft (take 257 a.rest) next e f g v w) (ap (λ b. Some b) (sym at) ∙ sym (ap (λ (l : List ℕ). slice_get l 0) (next_left piece i inside)))
+              (subst (λ (l : List ℕ). IsLeft l (Some byte) e f g v w) (is ∙ a.kept_is) is_left);
+          asked = λ refused same. asked refused (is ∙ a.kept_is ∙ ap (take 257) same);
         },
       )
-
-      -- a fault at a byte of a piece
-      pub stopped_in : (piece line : List ℕ) (i byte : ℕ) (e : ProgramFault) (g : Follow) (w : Option (List ℕ)) → i < length piece → length piece ≤ 4096 → get_or piece i 0 ≡ byte → line ≡ kept
-          → IsFedBut s (drop i piece) given left kept before f u v → IsLeft line (Some byte) e f g v w → (is_refusal e ≡ true → line ≢ question) → (bytes : List ℕ) × Consumes given left bytes × IsStopped bytes e before g u w
-      stopped_in piece line i byte e g w inside few at is a is_left asked =
-          stopped_at (drop i piece) e g w a (let size = length-drop i piece in omega (arith, size, few)) (λ same. absurd (not_reading line byte e f g v w is_left same))
-          (subst (λ (next : Option ℕ). IsLeft kept next e f g v w) (ap (λ b. Some b) (sym at) ∙ sym (ap (λ (l : List ℕ). slice_get l 0) (next_left piece i inside)))
-          (subst (λ (l : List ℕ). IsLeft l (Some byte) e f g v w) is is_left))
-          (λ refused same. asked refused (is ∙ same))
 
 -- ---- whole inputs
 

@@ -37,7 +37,7 @@ run_held s c (e ∷ es) = run_held s (record c { replica = taken c.replica e.0 e
 
 -- ---- lists of the same entries
 
-pub all_of : (P : Placed → Type 0) (fs : List Placed) (e : Placed) → AllByRecursion P fs → IsOneOf e fs → P e
+pub all_of : {A : Type 0} (P : A → Type 0) (fs : List A) (e : A) → AllByRecursion P fs → IsOneOf e fs → P e
 all_of P [] e a i = absurd i
 all_of P (f ∷ fs) e a i = elim i [ inl same ↦ subst P (sym same) a.0 | inr more ↦ all_of P fs e a.1 more ]
 
@@ -53,17 +53,25 @@ pub all_to_map : (P : Event → Type 0) (es : List Placed) → AllByRecursion (�
 all_to_map P [] a = tt
 all_to_map P (e ∷ es) a = (a.0, all_to_map P es a.1)
 
--- ---- the law
+-- ---- what some entries leave is the least that has them
+
+module _ (least : EventsLeaveTheLeast) (s : Settings) (capacity : ℕ) (es : List Placed) where
+  pub brought_all : AllByRecursion (λ e. IsBroughtBelow s capacity (held_after (empty_replica s.processors capacity) es) (event_of e)) es
+  brought_all =
+      subst (λ (x : Replica). AllByRecursion (λ e. IsBroughtBelow s capacity x (event_of e)) es) (run_held s _ es)
+      (all_from_map (IsBroughtBelow s capacity (run_of s capacity (map event_of es)).replica) es (least None s capacity (map event_of es)).0)
+
+  pub below_all : (y : Replica) → AllByRecursion (λ e. IsBroughtBelow s capacity y (event_of e)) es → Below (held_after (empty_replica s.processors capacity) es) y
+  below_all y brought =
+      subst (λ (x : Replica). Below x y) (run_held s _ es) ((least None s capacity (map event_of es)).1 y (all_to_map (IsBroughtBelow s capacity y) es brought))
 
 below_after : EventsLeaveTheLeast → (s : Settings) (capacity : ℕ) (es fs : List Placed) → AreAmong es fs
     → Below (held_after (empty_replica s.processors capacity) es) (held_after (empty_replica s.processors capacity) fs)
 below_after least s capacity es fs among =
-    let y : Replica = (run_of s capacity (map event_of fs)).replica in
-    let brought = all_from_map (IsBroughtBelow s capacity y) fs (least None s capacity (map event_of fs)).0 in
-    let below : Below (run_of s capacity (map event_of es)).replica y =
-    (least None s capacity (map event_of es)).1 y (all_to_map (IsBroughtBelow s capacity y) es (all_among (λ e. IsBroughtBelow s capacity y (event_of e)) es fs brought among)) in
-    subst (λ (x : Replica). Below x (held_after (empty_replica s.processors capacity) fs)) (run_held s _ es)
-    (subst (λ (x : Replica). Below (run_of s capacity (map event_of es)).replica x) (run_held s _ fs) below)
+    let y : Replica = held_after (empty_replica s.processors capacity) fs in
+    below_all least s capacity es y (all_among (λ e. IsBroughtBelow s capacity y (event_of e)) es fs (brought_all least s capacity fs) among)
+
+-- ---- the law
 
 same_shape : (x : Replica) (k n : ℕ) (e : _) → ((taken x k n e).processors ≡ x.processors) × ((taken x k n e).capacity ≡ x.capacity)
 same_shape x k n e = grind arith
@@ -90,18 +98,6 @@ order_is_nothing least processors capacity es fs y z all_es all_fs es_fs fs_es t
 
 pub text_is_whole : WholeRows → WholeText
 text_is_whole whole bytes rest f g old new first none fed = grind (arith, whole)
-
--- ---- what some entries leave is the least that has them
-
-module _ (least : EventsLeaveTheLeast) (s : Settings) (capacity : ℕ) (es : List Placed) where
-  pub brought_all : AllByRecursion (λ e. IsBroughtBelow s capacity (held_after (empty_replica s.processors capacity) es) (event_of e)) es
-  brought_all =
-      subst (λ (x : Replica). AllByRecursion (λ e. IsBroughtBelow s capacity x (event_of e)) es) (run_held s _ es)
-      (all_from_map (IsBroughtBelow s capacity (run_of s capacity (map event_of es)).replica) es (least None s capacity (map event_of es)).0)
-
-  pub below_all : (y : Replica) → AllByRecursion (λ e. IsBroughtBelow s capacity y (event_of e)) es → Below (held_after (empty_replica s.processors capacity) es) y
-  below_all y brought =
-      subst (λ (x : Replica). Below x y) (run_held s _ es) ((least None s capacity (map event_of es)).1 y (all_to_map (IsBroughtBelow s capacity y) es brought))
 
 -- ---- entries that are those of a script
 
@@ -266,13 +262,8 @@ entries_give_their_schedule least law run capacity lines held script room have t
     let same : held ≡ replica_with_room capacity run = read.left ∙ held_there least run script capacity room read.es read.among all in
     (same, subst (λ (x : Replica). HasScheduleOf run x) (sym same) (schedule_with_room run capacity room))
   where
-    row_in : (rows : List (List ℕ)) (row : List ℕ) → AllByRecursion (λ r. IsOneOf r lines) rows → IsOneOf row rows → IsOneOf row lines
-    row_in [] row all i = absurd i
-    row_in (r ∷ rows) row all (inl same) = subst (λ (l : List ℕ). IsOneOf l lines) (sym same) all.0
-    row_in (r ∷ rows) row all (inr i) = row_in rows row all.1 i
-
     row_there : (e : Placed) → IsOneOf e (placed_in 0 run.logs) → IsOneOf (row_of e) lines
-    row_there e i = row_in (rows_of run.logs) (row_of e) have.all (one_row e (placed_in 0 run.logs) i)
+    row_there e i = all_of (λ row. IsOneOf row lines) (rows_of run.logs) (row_of e) have.all (one_row e (placed_in 0 run.logs) i)
 
 -- ---- bytes that have the rows of a script give its text
 

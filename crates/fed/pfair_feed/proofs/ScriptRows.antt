@@ -19,7 +19,7 @@ logs_text : (processor : ℕ) (logs : List (List Logged)) → lines_text (slots_
 logs_text processor [] = refl
 logs_text processor (log ∷ logs) = grind (arith, lines_text-append, log_text, flat_map-append, map-append, logs_text (suc processor) logs)
 
-all_append : {A : Type 0} (P : A → Type 0) (xs ys : List A) → AllByRecursion P xs → AllByRecursion P ys → AllByRecursion P (xs ++ ys)
+pub all_append : {A : Type 0} (P : A → Type 0) (xs ys : List A) → AllByRecursion P xs → AllByRecursion P ys → AllByRecursion P (xs ++ ys)
 all_append P [] ys a b = b
 all_append P (x ∷ xs) ys a b = (a.0, all_append P xs ys a.1 b)
 

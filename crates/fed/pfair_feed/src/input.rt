@@ -144,11 +144,10 @@ fn feed_line<R: Ready, W: Write, E: Write>(
         return complain(follower, complaints, is_strict, fault, line);
     }
     match feed(follower, writer, line) {
-        Ok(()) => Ok(()),
         Err(fault) if fault.is_refusal() => {
             complain(follower, complaints, is_strict, fault, line)
         }
-        Err(fault) => Err(fault),
+        fed => fed,
     }
 }
 
