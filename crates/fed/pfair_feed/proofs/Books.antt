@@ -1,6 +1,6 @@
 -- Books of lags that are notified of some slots, and then of more.
 use Rattle.std.proofs.Common.{ℕ, ◌+◌, ◌-◌, ◌≤◌, ◌≡◌, refl, sym, ap, subst, ◌∙◌, arith, List, [], ◌∷◌, ◌++◌, length, min, take, drop, append_assoc, Option, None, Some, max}
-use Rattle.pfair_feed.proofs.Common.{cases_order, drop_all, length-take, take_all, take-append-drop, take-append-le, IsPrefixOf, Origin, Table, Dispatch, IsGrown, IsBookIfAny, IsBookOf, book_before, rows_in}
+use Rattle.pfair_feed.proofs.Common.{cases_order, drop_all, length-take, take_all, take-append-drop, take-append-le, IsPrefixOf, Origin, Table, Dispatch, IsGrown, IsBookIfAny, IsBookOf, KeepsUnwritten, Output, book_before, rows_in}
 use Rattle.std.proofs.Math.Seq.{take-add}
 use Rattle.pfair_lag.specs.Book.{Book}
 use Rattle.pfair_table.specs.declared.slot.Decided.{Decided}
@@ -44,14 +44,19 @@ pub book_grown : (o : Origin) (slot : ℕ) (ts us : List Table) (ds es : List (L
 book_grown o slot ts us ds es book same more_ts more_ds b = grind (arith, take-append-le, longer)
 
 -- an entry was taken, and more is planned
-pub book_after_plans : (slot : ℕ) (d taken after : Dispatch) (book : Option Book) → length d.tables ≡ length d.decided → taken ≡ record d { replica = taken.replica } → IsGrown taken after
-    → IsBookIfAny d.origin slot d.tables d.decided book → IsBookIfAny after.origin slot after.tables after.decided book
-book_after_plans slot d taken after None same rest grown b = tt
-book_after_plans slot d taken after (Some book) same rest grown b =
-    subst (λ (o : Origin). IsBookOf o slot after.tables after.decided book) (sym (grown.origin_is ∙ ap (λ (x : Dispatch). x.origin) rest))
-    (book_grown d.origin slot d.tables after.tables d.decided after.decided book same
-    (subst (λ (l : List Table). IsPrefixOf l after.tables) (ap (λ (x : Dispatch). x.tables) rest) grown.tables_go_on)
-    (subst (λ (l : List (List Decided)). IsPrefixOf l after.decided) (ap (λ (x : Dispatch). x.decided) rest) grown.decided_go_on) b)
+pub book_after_plans : (output : Output) (slot : ℕ) (d taken after : Dispatch) (book : Option Book) → length d.tables ≡ length d.decided → taken ≡ record d { replica = taken.replica } → IsGrown taken after
+    → after.forgotten ≡ taken.forgotten → IsBookIfAny d.origin slot d.tables d.decided book × KeepsUnwritten output d.forgotten slot
+    → IsBookIfAny after.origin slot after.tables after.decided book × KeepsUnwritten output after.forgotten slot
+book_after_plans output slot d taken after book same rest grown forgotten (b, keeps) =
+    (there book b, subst (λ n. KeepsUnwritten output n slot) (sym (forgotten ∙ ap (λ (x : Dispatch). x.forgotten) rest)) keeps)
+  where
+    there : (book : Option Book) → IsBookIfAny d.origin slot d.tables d.decided book → IsBookIfAny after.origin slot after.tables after.decided book
+    there None b = tt
+    there (Some book) b =
+        subst (λ (o : Origin). IsBookOf o slot after.tables after.decided book) (sym (grown.origin_is ∙ ap (λ (x : Dispatch). x.origin) rest))
+        (book_grown d.origin slot d.tables after.tables d.decided after.decided book same
+        (subst (λ (l : List Table). IsPrefixOf l after.tables) (ap (λ (x : Dispatch). x.tables) rest) grown.tables_go_on)
+        (subst (λ (l : List (List Decided)). IsPrefixOf l after.decided) (ap (λ (x : Dispatch). x.decided) rest) grown.decided_go_on) b)
 
 -- ---- the book before a run's first slot
 

@@ -184,7 +184,14 @@ impl<R: Ready> Follower<R> {
         let taken = self.dispatcher.take(proc, number, entry)?;
         plan_all(&mut self.dispatcher)?;
         self.write_rows(writer)?;
-        self.forget_written();
+        let next = self.dispatcher.next_slot();
+        // no slot is forgotten that isn't planned
+        prove!(self.dispatcher.forgotten() <= next);
+        match self.output {
+            // lags are counted from slot 0 on
+            Output::Lags => {}
+            _ => self.dispatcher.forget(next),
+        }
         Ok(taken)
     }
 
@@ -219,22 +226,6 @@ impl<R: Ready> Follower<R> {
         self.book = book;
         self.unwritten = next;
         Ok(())
-    }
-
-    // Forgets the slots whose rows are written or left out. Lags are counted from slot 0 on.
-    fn forget_written(&mut self)
-        requires { length self.old.dispatch.tables ≤ self.old.unwritten }
-        ensures rest { self.new ≡ record self.old { dispatch = record self.old.dispatch { forgotten = self.new.dispatch.forgotten } } }
-        ensures forgotten { (self.new.output ≡ Lags → ⊥) → self.new.dispatch.forgotten ≡ length self.new.dispatch.tables }
-        ensures lags { self.new.output ≡ Lags → self.new.dispatch.forgotten ≡ 0 }
-    {
-        let next = self.dispatcher.next_slot();
-        // no slot is forgotten that isn't planned
-        prove!(self.dispatcher.forgotten() <= next);
-        match self.output {
-            Output::Lags => {}
-            _ => self.dispatcher.forget(next),
-        }
     }
 
     /// Returns the dispatcher. Unless the rows are lags, it has forgotten the slots whose rows are

@@ -173,13 +173,7 @@ pub fn feed<R: Ready, W: Write>(
     ensures repeat { (processor number : ℕ) (e : Logged) → IsEntryAt processor number e → line.now ≡ entry_row processor number e
         → held follower.old.dispatch.replica processor number ≡ Some (One e) → IsErrOf result Memory → ⊥ }
 {
-    match read_row(line) {
-        Ok((processor, number, entry)) => {
-            match follower.take(writer, processor, number, entry) {
-                Ok(_) => Ok(()),
-                Err(fault) => Err(fault),
-            }
-        }
-        Err(fault) => Err(ProgramFault::Row(fault)),
-    }
+    let (processor, number, entry) = read_row(line).map_err(ProgramFault::Row)?;
+    follower.take(writer, processor, number, entry)?;
+    Ok(())
 }

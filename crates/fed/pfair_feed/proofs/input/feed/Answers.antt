@@ -1,30 +1,49 @@
-use Rattle.std.proofs.Common.{◌≡◌, ap, Err, rules}
+use Rattle.std.proofs.Common.{◌≡◌, ap, Ok, Err, rules, true}
+use Rattle.pfair_feed.proofs.Common.{HasFailed, IsFedLine}
+use Rattle.pfair_file.specs.ProgramFaults.{is_refusal}
+use Rattle.pfair_feed.proofs.Lines.{if_err}
+use Rattle.pfair_feed.proofs.Going.{own_err}
+use Rattle.pfair_file.specs.declared.program_fault.ProgramFault.TheVariants.{Memory}
 use Rattle.pfair_feed.proofs.Reading.{failed_at, refused_line, repeat_wants_none}
 use Rattle.pfair_feed.proofs.input.feed.Goals as goal
 
-pub returns-in-Err-take-clause-refused : goal.returns-in-Err-take-clause-refused
-returns-in-Err-take-clause-refused g c refused =
-    let same_entry : c.in-Ok.entry-in-Ok-1-own.given.0.0.2 ≡ c.in-Ok.entry = search rules in
-    let stop = rw same_entry at c.in-Err-take.ensures.stopped in
-    refused_line c.args.line.now c.args.follower.now c.take.new.self (g.W.Write.contents c.args.writer.now) (g.W.Write.contents c.take.new.writer) c.in-Ok.processor c.in-Ok.number c.in-Ok.entry
-    c.read_row.result c.in-Err-take.fault c.requires refused c.in-Ok.is c.read_row.ensures.back c.in-Ok.ensures.reading.ok.0 c.in-Ok.ensures.reading.ok.1
-    stop
-    (λ ne. (let held = c.in-Err-take.ensures.offered (λ e. ne (cc e)) in search rules))
-    c.in-Err-take.ensures.nothing
+pub returns-in_err-take-clause-refused : goal.returns-in_err-take-clause-refused
+returns-in_err-take-clause-refused g c =
+    let ok : c.read_row.result ≡ Ok (c.in_ok-processor.processor, c.in_ok-processor.number, c.in_ok-processor.entry) = search rules in
+    let reading = rw ok at c.read_row.ensures.reading in
+    if_err (λ e. is_refusal e ≡ true → (c.take.new.self ≡ c.args.follower.now) × IsFedLine c.args.line.now c.args.follower.now c.take.new.self (g.W.Write.contents c.args.writer.now) (g.W.Write.contents c.take.new.writer))
+    c.from_residual-in_err-take.result c.in_err-take.field-0.0 c.from_residual-in_err-take.ensures.1
+    (λ refused. refused_line _ _ _ _ _ _ _ _ _ _ c.requires refused ok c.read_row.ensures.back reading.ok.0 reading.ok.1
+    c.in_err-take.ensures.stopped
+    (λ ne. c.in_err-take.ensures.offered (λ e. ne (cc e)))
+    c.in_err-take.ensures.nothing)
 
-pub returns-in-Err-take-clause-failed : goal.returns-in-Err-take-clause-failed
-returns-in-Err-take-clause-failed g c =
-    let same_entry : c.in-Ok.entry-in-Ok-1-own.given.0.0.2 ≡ c.in-Ok.entry = search rules in
-    let stop = rw same_entry at c.in-Err-take.ensures.stopped in
-    failed_at c.args.line.now c.args.follower.now c.take.new.self (g.W.Write.contents c.args.writer.now) (g.W.Write.contents c.take.new.writer) c.in-Ok.processor c.in-Ok.number c.in-Ok.entry
-    c.read_row.result c.in-Err-take.fault c.in-Ok.is c.read_row.ensures.back c.in-Ok.ensures.reading.ok.0 c.in-Ok.ensures.reading.ok.1
-    c.in-Err-take.ensures.run c.in-Err-take.ensures.stands.0 stop
-    (λ ne. (let held = c.in-Err-take.ensures.offered (λ e. ne (cc e)) in search rules))
-    c.in-Err-take.ensures.nothing (λ same. c.in-Err-take.ensures.cut (ap Err same))
+pub returns-in_err-take-clause-failed : goal.returns-in_err-take-clause-failed
+returns-in_err-take-clause-failed g c =
+    let ok : c.read_row.result ≡ Ok (c.in_ok-processor.processor, c.in_ok-processor.number, c.in_ok-processor.entry) = search rules in
+    let reading = rw ok at c.read_row.ensures.reading in
+    if_err (λ e. HasFailed c.args.line.now e c.args.follower.now c.take.new.self (g.W.Write.contents c.args.writer.now) (g.W.Write.contents c.take.new.writer))
+    c.from_residual-in_err-take.result c.in_err-take.field-0.0 c.from_residual-in_err-take.ensures.1
+    (failed_at _ _ _ _ _ _ _ _ _ _ ok c.read_row.ensures.back reading.ok.0 reading.ok.1
+    c.in_err-take.ensures.run c.in_err-take.ensures.stands.0 c.in_err-take.ensures.stopped
+    (λ ne. c.in_err-take.ensures.offered (λ e. ne (cc e)))
+    c.in_err-take.ensures.nothing (λ same. c.in_err-take.ensures.cut (ap Err same)))
 
-pub returns-in-Err-take-clause-repeat : goal.returns-in-Err-take-clause-repeat
-returns-in-Err-take-clause-repeat g c q m d at row here same =
-    let same_entry : c.in-Ok.entry-in-Ok-1-own.given.0.0.2 ≡ c.in-Ok.entry = search rules in
-    let stop = rw same_entry at c.in-Err-take.ensures.stopped in
-    repeat_wants_none c.args.line.now c.args.follower.now c.take.new.self c.in-Ok.processor c.in-Ok.number c.in-Ok.entry c.read_row.result c.in-Err-take.fault c.requires c.in-Ok.is c.read_row.ensures.back
-    c.in-Err-take.ensures.run.grown stop q m d at row here (cc same)
+pub returns-in_err-take-clause-repeat : goal.returns-in_err-take-clause-repeat
+returns-in_err-take-clause-repeat g c q m d at row here same =
+    let ok : c.read_row.result ≡ Ok (c.in_ok-processor.processor, c.in_ok-processor.number, c.in_ok-processor.entry) = search rules in
+    repeat_wants_none c.args.line.now _ _ _ _ _ _ _ c.requires ok c.read_row.ensures.back
+    c.in_err-take.ensures.run.grown c.in_err-take.ensures.stopped q m d at row here (own_err c.from_residual-in_err-take.result c.in_err-take.field-0.0 Memory c.from_residual-in_err-take.ensures.1 same)
+
+pub returns-clause-row : goal.returns-clause-row
+returns-clause-row g c =
+    let ok : c.read_row.result ≡ Ok (c.in_ok-processor.processor, c.in_ok-processor.number, c.in_ok-processor.entry) = search rules in
+    let reading = rw ok at c.read_row.ensures.reading in
+    record {
+      processor = c.in_ok-processor.processor;
+      number = c.in_ok-processor.number;
+      entry = c.in_ok-processor.entry;
+      is_entry = reading.ok.0;
+      row_is = reading.ok.1;
+      key = c.in_ok-take.ensures.followed.key;
+    }

@@ -1,23 +1,19 @@
 use Rattle.std.proofs.Common.{ℕ, List, Err, ◌≡◌, ◌∙◌, sym, ap, subst}
-use Rattle.pfair_feed.proofs.Common.{TakesPrefix, lines_text, Follow, news, Dispatch, KeepsUnwritten, rows_in}
+use Rattle.pfair_feed.proofs.Common.{TakesPrefix, lines_text, Follow, news, rows_in}
 use Rattle.pfair_file.specs.declared.program_fault.ProgramFault.TheVariants.{WriteFailed}
 use Rattle.pfair_feed.proofs.Going.{own_err}
 use Rattle.pfair_feed.proofs.Books.{book_after_plans}
 use Rattle.pfair_feed.proofs.follower.Follower.take.Goals as goal
 
 pub invariant_of-self-in_err-plan_all : goal.invariant_of-self-in_err-plan_all
-invariant_of-self-in_err-plan_all g c = (
-  book_after_plans c.self.inside.unwritten c.self.inside.dispatcher c.take.new.self c.plan_all.new.dispatcher c.self.inside.book
-      (sym c.next_slot.ensures.value ∙ c.next_slot.ensures.decided) c.take.ensures.rest c.plan_all.ensures.grown c.self.invariant.0,
-  subst (λ n. KeepsUnwritten c.self.inside.output n c.self.inside.unwritten) (sym (c.plan_all.ensures.forgotten ∙ ap (λ (d : Dispatch). d.forgotten) c.take.ensures.rest)) c.self.invariant.1,
-)
+invariant_of-self-in_err-plan_all g c =
+    book_after_plans c.self.inside.output c.self.inside.unwritten c.self.inside.dispatcher c.take.new.self c.plan_all.new.dispatcher c.self.inside.book
+    (sym c.next_slot.ensures.value ∙ c.next_slot.ensures.decided) c.take.ensures.rest c.plan_all.ensures.grown c.plan_all.ensures.forgotten c.self.invariant
 
 pub invariant_of-self-2 : goal.invariant_of-self-2
-invariant_of-self-2 g c = (
-  book_after_plans c.self.inside.unwritten c.self.inside.dispatcher c.take.new.self c.plan_all.new.dispatcher c.self.inside.book
-      (sym c.next_slot.ensures.value ∙ c.next_slot.ensures.decided) c.take.ensures.rest c.plan_all.ensures.grown c.self.invariant.0,
-  subst (λ n. KeepsUnwritten c.self.inside.output n c.self.inside.unwritten) (sym (c.plan_all.ensures.forgotten ∙ ap (λ (d : Dispatch). d.forgotten) c.take.ensures.rest)) c.self.invariant.1,
-)
+invariant_of-self-2 g c =
+    book_after_plans c.self.inside.output c.self.inside.unwritten c.self.inside.dispatcher c.take.new.self c.plan_all.new.dispatcher c.self.inside.book
+    (sym c.next_slot.ensures.value ∙ c.next_slot.ensures.decided) c.take.ensures.rest c.plan_all.ensures.grown c.plan_all.ensures.forgotten c.self.invariant
 
 pub returns-in_err-write_rows-clause-cut : goal.returns-in_err-write_rows-clause-cut
 returns-in_err-write_rows-clause-cut g c is =
