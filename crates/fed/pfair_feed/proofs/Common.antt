@@ -1,4 +1,5 @@
 -- The names that many of these proofs cite, passed on from one place. Declares nothing.
+pub use Rattle.csv.proofs.WriteFacts.{appends-more}
 pub use Rattle.pfair_entry.specs.Entry.{Logged}
 pub use Rattle.pfair_entry.specs.Notice.{IsLoggable}
 pub use Rattle.pfair_feed.specs.Entries.{entries_text, log_rows, numbered_from}

@@ -1,7 +1,7 @@
 -- What a line that is read brings.
 use Rattle.std.proofs.Common.{arith, ℕ, ◌≡◌, ◌≢◌, refl, sym, ap, subst, ◌∙◌, List, Option, Ok, true, false, inl, inr, ◌≤◌, Bool, length, min, None, Some, ◌⊎◌, ◌&&◌, ◌==◌, not, nat_lt, if◌then◌else◌}
 use Rattle.pfair_feed.proofs.Common.{Keeps, TakesPrefix, Logged, replica_of, held, Replica, frontier, has_torn, only, with_entry, Follow, IsSameRun, IsStopOf, news, IsGrown, HasFailed, HasStood, IsCaughtUp, IsFedLine, IsTakenFrom, and_parts, eqb-true, ltb-true, Settings}
-use Rattle.pfair_entry_row.specs.Faults.{Reading}
+use Rattle.pfair_entry_row.specs.Faults.{IsReadingOf, Reading}
 use Rattle.pfair_entry_row.specs.Row.{entry_row, IsEntryAt}
 use Rattle.pfair_replica.specs.Offered.{taken, has_key}
 use Rattle.pfair_file.specs.declared.program_fault.ProgramFault.{ProgramFault}
@@ -16,11 +16,6 @@ use Rattle.pfair_replica.specs.HeldAfter.{join_none}
 use Rattle.pfair_feed.proofs.Plans.{longer}
 use Rattle.pfair_feed.proofs.Planned.{planned}
 
--- the line is an entry's row
-pub taken_from_row : (line : List ℕ) (x y : Replica) (p n : ℕ) (e : Logged) (r : Reading) → r ≡ Ok (p, n, e)
-    → ((q m : ℕ) (d : Logged) → IsEntryAt q m d → line ≡ entry_row q m d → r ≡ Ok (q, m, d)) → IsEntryAt p n e → line ≡ entry_row p n e → y ≡ taken x p n e → IsTakenFrom line x y
-taken_from_row line x y p n e r ok back at row held = grind (arith, back)
-
 -- ---- what a fault leaves
 
 -- if an allocation fails, the entry may be taken or not; otherwise it is
@@ -31,21 +26,6 @@ held_left line x y z fault t offered wanted = inr (t (offered (λ e. absurd (cc 
 stood_taken : (line : List ℕ) (f g : Follow) (p n : ℕ) (e : Logged) (fault : ProgramFault) → (replica_of g.dispatch.replica ≡ taken (replica_of f.dispatch.replica) p n e → IsTakenFrom line (replica_of f.dispatch.replica) (replica_of g.dispatch.replica))
     → IsSameRun f g → g.unwritten ≡ f.unwritten → IsStopOf f g p n e fault → (fault ≢ Memory → replica_of g.dispatch.replica ≡ taken (replica_of f.dispatch.replica) p n e) → HasStood line f g
 stood_taken line f g p n e fault row run unwritten stop offered = grind (arith, held_left)
-
--- the follower stopped at the entry whose row the line is
-pub failed_at : (line : List ℕ) (f g : Follow) (v w : Option (List ℕ)) (p n : ℕ) (e : Logged) (r : Reading) (fault : ProgramFault) → r ≡ Ok (p, n, e)
-    → ((q m : ℕ) (d : Logged) → IsEntryAt q m d → line ≡ entry_row q m d → r ≡ Ok (q, m, d)) → IsEntryAt p n e → line ≡ entry_row p n e
-    → IsSameRun f g → g.unwritten ≡ f.unwritten → IsStopOf f g p n e fault → (fault ≢ Memory → replica_of g.dispatch.replica ≡ taken (replica_of f.dispatch.replica) p n e)
-    → (fault ≢ WriteFailed → Keeps v w) → (fault ≡ WriteFailed → TakesPrefix v w (news f g)) → HasFailed line fault f g v w
-failed_at line f g v w p n e r fault ok back at row run unwritten stop offered nothing cut =
-    let taken_so = taken_from_row line (replica_of f.dispatch.replica) (replica_of g.dispatch.replica) p n e r ok back at row in
-    record {
-      cause = inr (record { processor = p; number = n; entry = e; is_entry = at; row_is = row; stop = stop });
-      taken_is = λ other. taken_so (offered other);
-      stood = stood_taken line f g p n e fault taken_so run unwritten stop offered;
-      nothing = nothing;
-      cut = cut;
-    }
 
 -- nothing changed
 pub fed_none : (line : List ℕ) (f g : Follow) (v w : Option (List ℕ)) → IsCaughtUp f → g ≡ f → Keeps v w → IsTakenFrom line (replica_of f.dispatch.replica) (replica_of f.dispatch.replica) → IsFedLine line f g v w
@@ -65,15 +45,6 @@ not_memory fault e same = absurd (let h : false ≡ true = ap is_refusal (sym sa
 
 not_writing : (fault : ProgramFault) → is_refusal fault ≡ true → fault ≢ WriteFailed
 not_writing fault e same = absurd (let h : false ≡ true = ap is_refusal (sym same) ∙ e in cc h)
-
-pub refused_line : (line : List ℕ) (f g : Follow) (v w : Option (List ℕ)) (p n : ℕ) (e : Logged) (r : Reading) (fault : ProgramFault) → IsCaughtUp f → is_refusal fault ≡ true → r ≡ Ok (p, n, e)
-    → ((q m : ℕ) (d : Logged) → IsEntryAt q m d → line ≡ entry_row q m d → r ≡ Ok (q, m, d)) → IsEntryAt p n e → line ≡ entry_row p n e
-    → IsStopOf f g p n e fault → (fault ≢ Memory → replica_of g.dispatch.replica ≡ taken (replica_of f.dispatch.replica) p n e) → (fault ≢ WriteFailed → Keeps v w)
-    → (g ≡ f) × IsFedLine line f g v w
-refused_line line f g v w p n e r fault caught refused ok back at row stop offered nothing =
-    let stays_so : g ≡ f = unchanged f g p n e fault refused stop in
-    let held : replica_of f.dispatch.replica ≡ taken (replica_of f.dispatch.replica) p n e = ap (λ (h : Follow). replica_of h.dispatch.replica) (sym stays_so) ∙ offered (not_memory fault refused) in
-    (stays_so, fed_none line f g v w caught stays_so (nothing (not_writing fault refused)) (taken_from_row line (replica_of f.dispatch.replica) (replica_of f.dispatch.replica) p n e r ok back at row held))
 
 -- ---- the row of an entry that is held already
 
@@ -120,9 +91,34 @@ no_memory f g p n e caught here grown (key, inr (left, able, inl stuck)) =
     absurd (omega (arith, a, b, settled, long))
 no_memory f g p n e caught here grown (key, inr (left, able, inr due)) = grind (arith, planned, as_before)
 
--- the entry that was read is that of the row
-pub repeat_wants_none : (line : List ℕ) (f g : Follow) (p n : ℕ) (e : Logged) (r : Reading) (fault : ProgramFault) → IsCaughtUp f → r ≡ Ok (p, n, e)
-    → ((q m : ℕ) (d : Logged) → IsEntryAt q m d → line ≡ entry_row q m d → r ≡ Ok (q, m, d))
-    → IsGrown (record f.dispatch { replica = g.dispatch.replica }) g.dispatch → IsStopOf f g p n e fault
-    → (q m : ℕ) (d : Logged) → IsEntryAt q m d → line ≡ entry_row q m d → held f.dispatch.replica q m ≡ Some (One d) → fault ≡ Memory → ⊥
-repeat_wants_none line f g p n e r fault caught ok back grown stop q m d at row here memory = grind (arith, no_memory, back)
+-- ---- the follower stops at the entry whose row a line is
+
+module _ (line : List ℕ) (f g : Follow) (p n : ℕ) (e : Logged) (r : Reading) (fault : ProgramFault) (ok : r ≡ Ok (p, n, e)) (reading : IsReadingOf line r)
+    (back : (q m : ℕ) (d : Logged) → IsEntryAt q m d → line ≡ entry_row q m d → r ≡ Ok (q, m, d)) (stop : IsStopOf f g p n e fault) where
+  is_row : IsEntryAt p n e × (line ≡ entry_row p n e)
+  is_row = (rw ok at reading).ok
+
+  taken_so : (x y : Replica) → y ≡ taken x p n e → IsTakenFrom line x y
+  taken_so x y held = grind (arith, is_row, back)
+
+  pub failed_at : (v w : Option (List ℕ)) → IsSameRun f g → g.unwritten ≡ f.unwritten → (fault ≢ Memory → replica_of g.dispatch.replica ≡ taken (replica_of f.dispatch.replica) p n e)
+      → (fault ≢ WriteFailed → Keeps v w) → (fault ≡ WriteFailed → TakesPrefix v w (news f g)) → HasFailed line fault f g v w
+  failed_at v w run unwritten offered nothing cut = record {
+    cause = inr (record { processor = p; number = n; entry = e; is_entry = is_row.0; row_is = is_row.1; stop = stop });
+    taken_is = λ other. taken_so (replica_of f.dispatch.replica) (replica_of g.dispatch.replica) (offered other);
+    stood = stood_taken line f g p n e fault (taken_so (replica_of f.dispatch.replica) (replica_of g.dispatch.replica)) run unwritten stop offered;
+    nothing = nothing;
+    cut = cut;
+  }
+
+  pub refused_line : (v w : Option (List ℕ)) → IsCaughtUp f → is_refusal fault ≡ true → (fault ≢ Memory → replica_of g.dispatch.replica ≡ taken (replica_of f.dispatch.replica) p n e)
+      → (fault ≢ WriteFailed → Keeps v w) → (g ≡ f) × IsFedLine line f g v w
+  refused_line v w caught refused offered nothing =
+      let stays_so : g ≡ f = unchanged f g p n e fault refused stop in
+      let held : replica_of f.dispatch.replica ≡ taken (replica_of f.dispatch.replica) p n e = ap (λ (h : Follow). replica_of h.dispatch.replica) (sym stays_so) ∙ offered (not_memory fault refused) in
+      (stays_so, fed_none line f g v w caught stays_so (nothing (not_writing fault refused)) (taken_so (replica_of f.dispatch.replica) (replica_of f.dispatch.replica) held))
+
+  -- if it is held already, no allocation is asked for
+  pub repeat_wants_none : IsCaughtUp f → IsGrown (record f.dispatch { replica = g.dispatch.replica }) g.dispatch
+      → (q m : ℕ) (d : Logged) → IsEntryAt q m d → line ≡ entry_row q m d → held f.dispatch.replica q m ≡ Some (One d) → fault ≡ Memory → ⊥
+  repeat_wants_none caught grown q m d at row here memory = grind (arith, no_memory, back)

@@ -1,6 +1,6 @@
 -- Lines that have the rows of a script leave the script.
 use Rattle.std.proofs.Common.{ℕ, ◌+◌, ◌<◌, ◌≤◌, ◌≡◌, inl, inr, refl, sym, ap, subst, ◌∙◌, arith, List, [], ◌∷◌, map, Some, None, ◌++◌, ◌⊎◌}
-use Rattle.pfair_feed.proofs.Common.{AllByRecursion, and_parts, leb-true, ltb-true, Logged, Below, Replica, empty_replica, run_of, Course, run, Settings, AreTakenFrom, IsTakenFrom, AreAmong, BringsNothing, HasScheduleOf, IsOneOf, IsPlaced, IsScript, Placed, placed_in, replica_with_room, row_of, rows_of, HaveTheRows, line, Output, header_of, Appends, replica_of, news}
+use Rattle.pfair_feed.proofs.Common.{appends-more, AllByRecursion, and_parts, leb-true, ltb-true, Logged, Below, Replica, empty_replica, run_of, Course, run, Settings, AreTakenFrom, IsTakenFrom, AreAmong, BringsNothing, HasScheduleOf, IsOneOf, IsPlaced, IsScript, Placed, placed_in, replica_with_room, row_of, rows_of, HaveTheRows, line, Output, header_of, Appends, replica_of, news}
 use Rattle.pfair_lattice.specs.declared.join_map.Flat.TheVariants.{One}
 use Rattle.pfair_lattice.specs.Held.{HeldBelow}
 use Rattle.pfair_entry_row.specs.Laws.{EachEntryHasItsRow, RowsAreLines}
@@ -16,7 +16,6 @@ use Rattle.pfair_entry.specs.Exact.{entry_exact}
 use Rattle.pfair_table.specs.declared.run.Event.{Event}
 use Rattle.pfair_table.specs.declared.run.Event.TheVariants.{Take}
 use Rattle.pfair_feed.specs.RowLaws.{WholeRows, text_of}
-use Rattle.csv.proofs.WriteFacts.{appends-more}
 use Rattle.pfair_feed.proofs.OneWay.{lines_are_one}
 
 -- the contents after some entries

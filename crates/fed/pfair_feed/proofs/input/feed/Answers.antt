@@ -10,30 +10,24 @@ use Rattle.pfair_feed.proofs.input.feed.Goals as goal
 pub returns-in_err-take-clause-refused : goal.returns-in_err-take-clause-refused
 returns-in_err-take-clause-refused g c =
     let ok : c.read_row.result ≡ Ok (c.in_ok-processor.processor, c.in_ok-processor.number, c.in_ok-processor.entry) = search rules in
-    let reading = rw ok at c.read_row.ensures.reading in
     if_err (λ e. is_refusal e ≡ true → (c.take.new.self ≡ c.args.follower.now) × IsFedLine c.args.line.now c.args.follower.now c.take.new.self (g.W.Write.contents c.args.writer.now) (g.W.Write.contents c.take.new.writer))
     c.from_residual-in_err-take.result c.in_err-take.field-0.0 c.from_residual-in_err-take.ensures.1
-    (λ refused. refused_line _ _ _ _ _ _ _ _ _ _ c.requires refused ok c.read_row.ensures.back reading.ok.0 reading.ok.1
-    c.in_err-take.ensures.stopped
-    (λ ne. c.in_err-take.ensures.offered (λ e. ne (cc e)))
-    c.in_err-take.ensures.nothing)
+    (λ refused. refused_line _ _ _ _ _ _ _ _ ok c.read_row.ensures.reading c.read_row.ensures.back c.in_err-take.ensures.stopped _ _ c.requires refused
+    (λ ne. c.in_err-take.ensures.offered (λ e. ne (cc e))) c.in_err-take.ensures.nothing)
 
 pub returns-in_err-take-clause-failed : goal.returns-in_err-take-clause-failed
 returns-in_err-take-clause-failed g c =
     let ok : c.read_row.result ≡ Ok (c.in_ok-processor.processor, c.in_ok-processor.number, c.in_ok-processor.entry) = search rules in
-    let reading = rw ok at c.read_row.ensures.reading in
     if_err (λ e. HasFailed c.args.line.now e c.args.follower.now c.take.new.self (g.W.Write.contents c.args.writer.now) (g.W.Write.contents c.take.new.writer))
     c.from_residual-in_err-take.result c.in_err-take.field-0.0 c.from_residual-in_err-take.ensures.1
-    (failed_at _ _ _ _ _ _ _ _ _ _ ok c.read_row.ensures.back reading.ok.0 reading.ok.1
-    c.in_err-take.ensures.run c.in_err-take.ensures.stands.0 c.in_err-take.ensures.stopped
-    (λ ne. c.in_err-take.ensures.offered (λ e. ne (cc e)))
-    c.in_err-take.ensures.nothing (λ same. c.in_err-take.ensures.cut (ap Err same)))
+    (failed_at _ _ _ _ _ _ _ _ ok c.read_row.ensures.reading c.read_row.ensures.back c.in_err-take.ensures.stopped _ _ c.in_err-take.ensures.run c.in_err-take.ensures.stands.0
+    (λ ne. c.in_err-take.ensures.offered (λ e. ne (cc e))) c.in_err-take.ensures.nothing (λ same. c.in_err-take.ensures.cut (ap Err same)))
 
 pub returns-in_err-take-clause-repeat : goal.returns-in_err-take-clause-repeat
 returns-in_err-take-clause-repeat g c q m d at row here same =
     let ok : c.read_row.result ≡ Ok (c.in_ok-processor.processor, c.in_ok-processor.number, c.in_ok-processor.entry) = search rules in
-    repeat_wants_none c.args.line.now _ _ _ _ _ _ _ c.requires ok c.read_row.ensures.back
-    c.in_err-take.ensures.run.grown c.in_err-take.ensures.stopped q m d at row here (own_err c.from_residual-in_err-take.result c.in_err-take.field-0.0 Memory c.from_residual-in_err-take.ensures.1 same)
+    repeat_wants_none _ _ _ _ _ _ _ _ ok c.read_row.ensures.reading c.read_row.ensures.back c.in_err-take.ensures.stopped c.requires c.in_err-take.ensures.run.grown q m d at row here
+    (own_err c.from_residual-in_err-take.result c.in_err-take.field-0.0 Memory c.from_residual-in_err-take.ensures.1 same)
 
 pub returns-clause-row : goal.returns-clause-row
 returns-clause-row g c =
