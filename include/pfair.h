@@ -71,7 +71,7 @@
  *      2,300  pfair_plan_next, pfair_plan_to
  *      2,200  pfair_close
  *      2,000  pfair_take, pfair_take_log, pfair_absorb
- *      1,500  pfair_lags
+ *      1,200  pfair_lags
  *        450  all others
  *
  * INTERRUPTS. The code has a red zone: it writes up to 128 bytes below its stack pointer. So interrupts during a call
