@@ -70,28 +70,6 @@ impl From<ProgramFault> for FollowFault {
     }
 }
 
-impl From<ReadFault> for FollowFault {
-    ghost use Rattle.std.specs.Prelude.{◌≡◌};
-    ghost use Rattle.pfair_follow.specs.declared.fault.FollowFault.TheVariants.{State};
-
-    ghost from_gives = { λ fault f. f ≡ State fault };
-
-    fn from(fault: ReadFault) -> FollowFault {
-        FollowFault::State(fault)
-    }
-}
-
-impl From<NextRunFault> for FollowFault {
-    ghost use Rattle.std.specs.Prelude.{◌≡◌};
-    ghost use Rattle.pfair_follow.specs.declared.fault.FollowFault.TheVariants.{NextRun};
-
-    ghost from_gives = { λ fault f. f ≡ NextRun fault };
-
-    fn from(fault: NextRunFault) -> FollowFault {
-        FollowFault::NextRun(fault)
-    }
-}
-
 impl From<AllocError> for FollowFault {
     ghost use Rattle.std.specs.Prelude.{◌≡◌};
     ghost use Rattle.pfair_file.specs.declared.program_fault.ProgramFault.TheVariants.{Memory};

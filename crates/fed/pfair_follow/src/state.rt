@@ -37,7 +37,7 @@ pub fn load<I: Read>(alloc: Global, reader: &mut I) -> Result<State, FollowFault
         → (c : Carried) → IsWritable c → IfSome (I.remaining reader.old) (λ bytes. bytes ≢ state_text c) }
 {
     let bytes = read_bytes(alloc, reader)?;
-    Ok(read_state(alloc, &bytes)?)
+    read_state(alloc, &bytes).map_err(FollowFault::State)
 }
 
 /// Creates a follower of a run that begins with a state, and writes rows of `output` from slot `from`
@@ -60,7 +60,9 @@ pub fn later<R: Ready>(
         return Err(FollowFault::Program(ProgramFault::CommandLine));
     }
     let capacity = Script::LONGEST_LOG as u32;
-    Ok(Follower::resume(alloc, state, resumed.slots, capacity, output, from)?)
+    Follower::resume(alloc, state, resumed.slots, capacity, output, from).map_err(
+        FollowFault::NextRun,
+    )
 }
 
 // Whether a run of so many slots can be asked for, and the state has the processors and the frame
@@ -70,18 +72,10 @@ fn is_asked(resumed: &Resumed, state: &State) -> bool
 {
     let members = state.members();
     (1..=Settings::MAX_SLOTS).contains(&resumed.slots)
-        && is_or_unsaid(resumed.processors, members.processors() as u64)
-        && is_or_unsaid(resumed.frame, members.frame())
-}
-
-// Whether a number is that which is asked for, if any is.
-fn is_or_unsaid(asked: Option<u64>, number: u64) -> bool
-    ensures { IsTrue result ↔ IfSome asked (λ n. n ≡ number) }
-{
-    match asked {
-        Some(asked) => asked == number,
-        None => true,
-    }
+        && resumed
+            .processors
+            .is_none_or(|n| n == members.processors() as u64)
+        && resumed.frame.is_none_or(|n| n == members.frame())
 }
 
 /// Returns the text of the state that a finished run leaves. The cost is that of
