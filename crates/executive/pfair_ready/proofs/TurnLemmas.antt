@@ -23,8 +23,7 @@ pub same_order : (k l : Key) (h i : ℕ) → IsTaskName k.name → IsTaskName l.
 same_order k l h i p q apart =
     let other : name_cmp k.name l.name ≡ Equal → ⊥ = λ e. apart (names_exact k.name l.name e) in
     ap (λ r. ordering_then (nat_cmp k.d l.d) (ordering_then (nat_cmp l.b k.b) (ordering_then (nat_cmp (tie_group_of l) (tie_group_of k)) r)))
-    (decided (name_cmp k.name l.name) (nat_cmp k.group l.group) other
-    ∙ sym (ap (λ r. ordering_then r (nat_cmp h i)) (number_cmp k.name l.name p q) ∙ decided (name_cmp k.name l.name) (nat_cmp h i) other))
+    (decided (name_cmp k.name l.name) (nat_cmp k.group l.group) other ∙ sym (number_cmp k.name l.name p q))
 
 same_parts : (a b c d e f : ℕ) → (nat_eq a b && (nat_eq c d && nat_eq e f)) ≡ true → (a ≡ b) × (c ≡ d) × (e ≡ f)
 same_parts a b c d e f same = (grind (arith, nat_tests), grind (arith, nat_tests), grind (arith, nat_tests))
@@ -34,7 +33,7 @@ pub own_turn : (t : Turn) (k : Key) → IsNumber t.name.0 → k.name ≡ name_of
 own_turn t k n named is =
     let same = same_parts k.d t.d.0 k.b t.b (tie_group_of k) t.group is in
     let number : t.name.0 ≡ number_of k.name = sym (ap number_of named ∙ n.same) in
-    λ i. record { d = record { 0 = sym same.0 i }; b = sym same.1 i; group = sym same.2 i; name = record { 0 = number i }; hint = t.hint }
+    λ i. record { d = record { 0 = sym same.0 i }; b = sym same.1 i; group = sym same.2 i; hint = t.hint; name = record { 0 = number i } }
 
 pub due_of : (k : Key) (hint slot r : ℕ) → r ≤ slot → is_due (turn_of k hint) slot (Some (r, k)) ≡ true
 due_of k hint slot r within = grind (arith, nat_tests)

@@ -11,7 +11,7 @@ use Rattle.pfair_ready.specs.declared.heap.Turn.{Turn}
 
 -- the turn of a key
 abbrev pub turn_of : Key → ℕ → Turn
-turn_of k hint = record { d = record { 0 = k.d }; b = k.b; group = tie_group_of k; name = record { 0 = number_of k.name }; hint = hint }
+turn_of k hint = record { d = record { 0 = k.d }; b = k.b; group = tie_group_of k; hint = hint; name = record { 0 = number_of k.name } }
 
 -- the first turn is the greatest
 abbrev pub turn_cmp : Turn → Turn → Ordering
@@ -19,7 +19,7 @@ turn_cmp t u =
     ordering_then (nat_cmp u.d.0 t.d.0)
     (ordering_then (nat_cmp t.b u.b)
     (ordering_then (nat_cmp t.group u.group)
-    (ordering_then (nat_cmp u.name.0 t.name.0) (nat_cmp t.hint u.hint))))
+    (nat_cmp u.name.0 t.name.0)))
 
 -- turns in a heap
 pub record AreTurns (turns : List Turn) : Type 0 where

@@ -186,15 +186,18 @@ impl Ready for HeapReady {
 
 /// What the order looks at in a released key, with a hint where its name stands. The first in the PD2
 /// order is the greatest.
-#[derive(Debug, Drop, PartialEq, Eq, PartialOrd, Ord)]
+#[derive(Debug, Drop)]
+#[derive_where(PartialEq, Eq, PartialOrd, Ord)]
 pub(crate) struct Turn {
     pub d: Reverse<u64>,
     pub b: u64,
     // the group deadline if the order looks at it, else 0
     pub group: u64,
+    // before the name, so that nothing is padded
+    #[derive_where(skip(EqHashOrd))]
+    pub hint: usize,
     // the number that orders names
     pub name: Reverse<u128>,
-    pub hint: usize,
 }
 
 impl Turn {
@@ -206,8 +209,8 @@ impl Turn {
             d: Reverse(key.d),
             b: key.b,
             group: if key.b == 1 { key.group } else { 0 },
-            name: Reverse(key.name.number()),
             hint,
+            name: Reverse(key.name.number()),
         }
     }
 }
