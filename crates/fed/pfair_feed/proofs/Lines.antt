@@ -204,23 +204,6 @@ module _ (s : Bool) (given : Option (List ℕ)) (before : Follow) (u : Option (L
 
 -- ---- whole inputs
 
-module _ (s : Bool) (given left : Option (List ℕ)) (before after : Follow) (u w : Option (List ℕ)) where
-  all_bytes : (fed : IsFedTo s false given left before after u w) → IsAtEnd left × (fed.more ≡ [])
-  all_bytes fed = elim fed.end [
-    | inl end ↦ end
-    | inr last ↦ absurd (let h : false ≡ true = last.0 in cc h)
-  ]
-
-  read_all : (fed : IsFedTo s false given left before after u w) → Consumes given left fed.bytes
-  read_all fed = subst (λ (l : List ℕ). Consumes given left l) (ap (λ (l : List ℕ). fed.bytes ++ l) (all_bytes fed).1 ∙ append-nil fed.bytes) fed.read
-
-  pub to_its_end : IsFedTo s false given left before after u w → (bytes : List ℕ) × (rest : List ℕ) × Consumes given left bytes × IsAtEnd left × AreFedBytes bytes before after u w rest
-  to_its_end fed = (fed.bytes, fed.rest, read_all fed, (all_bytes fed).0, fed.fed)
-
-  pub to_its_end_welcome : IsFedTo s false given left before after u w → s ≡ true
-      → (bytes : List ℕ) × (rest : List ℕ) × Consumes given left bytes × AreWelcome before.dispatch.replica.processors before.dispatch.replica.capacity bytes rest
-  to_its_end_welcome fed is = (fed.bytes, fed.rest, read_all fed, fed.welcome is)
-
 -- what has been fed, at its end
 pub fed_to : (s to_last : Bool) (more : List ℕ) (given left : Option (List ℕ)) (kept : List ℕ) (f g : Follow) (u w : Option (List ℕ)) → IsFedBut s more given left kept f g u w
     → (IsAtEnd left × (more ≡ [])) ⊎ ((to_last ≡ true) × IsPlannedOut g) → IsFedTo s to_last given left f g u w

@@ -1,9 +1,9 @@
 //! The lines of a reader, one after another.
 ghost use Rattle.std.specs.Prelude.{◌≡◌, ◌≢◌, ℕ, List, Some, IfErr, OnOk, false, true, IsErrOf};
-ghost use Rattle.std.specs.Io.KnownBytes.{Consumes, IsAtEnd};
+ghost use Rattle.std.specs.Io.KnownBytes.{Consumes};
 ghost use Rattle.pfair_replica.specs.ReplicaRows.{SameShape, held};
 ghost use Rattle.pfair_file.specs.ProgramFaults.{is_refusal};
-ghost use Rattle.pfair_feed.specs.Feeding.{AreFedBytes, AreWelcome, IsCaughtUp, IsFedLine, IsFedTo, IsLeft, IsStopped, IsWelcome, question, HasFailed, IsRowAt};
+ghost use Rattle.pfair_feed.specs.Feeding.{IsCaughtUp, IsFedLine, IsFedTo, IsLeft, IsStopped, IsWelcome, question, HasFailed, IsRowAt};
 ghost use Rattle.pfair_lattice.specs.declared.join_map.Flat.TheVariants.{One};
 ghost use Rattle.pfair_entry.specs.Entry.{Logged};
 ghost use Rattle.pfair_entry_row.specs.Row.{IsEntryAt, entry_row};
@@ -21,13 +21,14 @@ use std::io::{Read, Write};
 // How many bytes are asked for at once.
 const PIECE: usize = 4096;
 
-/// Feeds the lines of a reader to its end, each to the next newline, as [`feed`] does one; a line
-/// of more than 256 bytes is refused, and only its first bytes are kept.
+/// Feeds the lines of a reader to its end, or, with `to_last`, until all slots of the run are planned:
+/// each to the next newline, as [`feed`] does one. A line of more than 256 bytes is refused, and only
+/// its first bytes are kept.
 ///
 /// A refused line is reported in a line to `complaints`, as far as that takes it, and skipped
 /// unless `is_strict`; the line `?` asks for the keys that [`report_missing`] reports, and is always
-/// skipped. What is behind the last newline is no row, since it may be the beginning of one. The cost
-/// is that of [`feed`] for each line.
+/// skipped. What is behind the last newline is no row, since it may be the beginning of one. What is
+/// read behind the line that plans the last slot is lost. The cost is that of [`feed`] for each line.
 ///
 /// # Errors
 /// - [`ProgramFault::ReadFailed`] if the reader answers an error, at once and whatever its kind.
@@ -35,53 +36,6 @@ const PIECE: usize = 4096;
 /// - [`ProgramFault::Memory`] also if an allocation for a line fails; nothing of the line is then taken.
 /// - the fault of the first line that is refused, if `is_strict`.
 pub fn follow<R: Ready, I: Read, W: Write, E: Write>(
-    alloc: Global,
-    follower: &mut Follower<R>,
-    reader: &mut I,
-    writer: &mut W,
-    complaints: &mut E,
-    is_strict: bool,
-) -> Result<(), ProgramFault>
-    requires { IsCaughtUp follower.old }
-    ensures fed { OnOk result ((bytes rest : List ℕ) × Consumes (I.remaining reader.old) (I.remaining reader.new) bytes
-        × IsAtEnd (I.remaining reader.new)
-        × AreFedBytes bytes follower.old follower.new (W.contents writer.old) (W.contents writer.new) rest) }
-    ensures stopped { IfErr result (λ e. (bytes : List ℕ) × Consumes (I.remaining reader.old) (I.remaining reader.new) bytes
-        × IsStopped bytes e follower.old follower.new (W.contents writer.old) (W.contents writer.new)) }
-    ensures strict { OnOk result (is_strict ≡ true → (bytes rest : List ℕ) × Consumes (I.remaining reader.old) (I.remaining reader.new) bytes
-        × AreWelcome follower.old.dispatch.replica.processors follower.old.dispatch.replica.capacity bytes rest) }
-    ensures lenient { IfErr result (λ e. is_strict ≡ false → is_refusal e ≡ false) }
-{
-    read_lines(
-        alloc, follower, reader, writer, complaints, is_strict, false,
-    )
-}
-
-/// Feeds the lines of a reader as [`follow`] does, but ends as soon as all slots of the run are
-/// planned, without waiting for the reader's end; what it has read behind the last line is lost.
-///
-/// # Errors
-/// Those of [`follow`].
-pub fn follow_to_last_slot<R: Ready, I: Read, W: Write, E: Write>(
-    alloc: Global,
-    follower: &mut Follower<R>,
-    reader: &mut I,
-    writer: &mut W,
-    complaints: &mut E,
-    is_strict: bool,
-) -> Result<(), ProgramFault>
-    requires { IsCaughtUp follower.old }
-    ensures fed { OnOk result (IsFedTo is_strict true (I.remaining reader.old) (I.remaining reader.new)
-        follower.old follower.new (W.contents writer.old) (W.contents writer.new)) }
-    ensures stopped { IfErr result (λ e. (bytes : List ℕ) × Consumes (I.remaining reader.old) (I.remaining reader.new) bytes
-        × IsStopped bytes e follower.old follower.new (W.contents writer.old) (W.contents writer.new)) }
-    ensures lenient { IfErr result (λ e. is_strict ≡ false → is_refusal e ≡ false) }
-{
-    read_lines(alloc, follower, reader, writer, complaints, is_strict, true)
-}
-
-// Feeds the lines of a reader to its end, or, with `to_last`, until all slots are planned.
-fn read_lines<R: Ready, I: Read, W: Write, E: Write>(
     alloc: Global,
     follower: &mut Follower<R>,
     reader: &mut I,

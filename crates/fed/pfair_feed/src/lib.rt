@@ -13,5 +13,5 @@ mod output;
 pub use complaint::{report_dropped, report_missing, report_refused};
 pub use entries::entries_of;
 pub use follower::Follower;
-pub use input::{feed, follow, follow_to_last_slot};
+pub use input::{feed, follow};
 pub use output::Output;

@@ -1,7 +1,8 @@
 -- What a follower that was new comes to, by what it holds.
-use Rattle.std.proofs.Common.{ℕ, zero, suc, Bool, false, ◌≡◌, ◌≤◌, ◌<◌, refl, sym, ap, subst, ◌∙◌, arith, inl, inr, List, ◌∷◌, ◌++◌, length, append_assoc, Option, None, Some, Result, Ok, Err, IfErr, IsErrOf, OnOk, []}
+use Rattle.std.proofs.Common.{ℕ, zero, suc, Bool, false, ◌≡◌, ◌≤◌, ◌<◌, refl, sym, ap, subst, ◌∙◌, arith, inl, inr, List, ◌∷◌, ◌++◌, length, append_assoc, Option, None, Some, Result, Ok, Err, IfErr, IsErrOf, OnOk, [], true, ⊎_elim, append-nil}
+use Rattle.std.proofs.lemmas.Bool.{false≢true}
 use Rattle.std.specs.List.{list_any}
-use Rattle.std.specs.Io.KnownBytes.{Appends}
+use Rattle.std.specs.Io.KnownBytes.{Appends, Consumes, IsAtEnd}
 use Rattle.pfair_text.specs.Rows.{line, lines_text}
 use Rattle.pfair_replica.specs.ReplicaRows.{replica_of}
 use Rattle.pfair_replica.specs.Replica.{Replica, empty_replica, frontier, has_torn, numbers_below}
@@ -11,11 +12,11 @@ use Rattle.pfair_feed.specs.declared.output.Output.{Output}
 use Rattle.pfair_feed.specs.Follow.{Follow, IsPlannedOut, news}
 use Rattle.pfair_feed.specs.RowLaws.{text_of}
 use Rattle.pfair_feed.specs.Rows.{header_of, rows_in}
-use Rattle.pfair_feed.specs.Feeding.{AreFedBytes, AreTakenFrom, AreWelcome, IsCaughtUp}
+use Rattle.pfair_feed.specs.Feeding.{AreFedBytes, AreTakenFrom, AreWelcome, IsCaughtUp, IsFedTo}
 use Rattle.pfair_feed.specs.Laws.{WholeText}
 use Rattle.pfair_file.specs.declared.program_fault.ProgramFault.{ProgramFault}
 use Rattle.pfair_feed.proofs.Planned.{planned, whole_start}
-use Rattle.pfair_follow.specs.Runs.{AreBrought, AreTakenAll, HasReachedLast, IsEndOf, IsFed, IsFedEndOf, IsFedShort, IsFedToLast, IsFollowed, IsFresh, IsSettled, IsSettledBelow, IsShort, IsWelcomeAll, head_from, rows_of_plan, text_from}
+use Rattle.pfair_follow.specs.Runs.{AreBrought, AreTakenAll, HasReachedLast, IsEndOf, IsFed, IsFedEndOf, IsFedShort, IsFollowed, IsFresh, IsSettled, IsSettledBelow, IsShort, head_from, rows_of_plan, text_from}
 
 -- one text behind another
 appends_more : (u v w : Option (List ℕ)) (a b : List ℕ) → Appends u v a → Appends v w b → Appends u w (a ++ b)
@@ -77,83 +78,94 @@ module _ (f : Follow) (fresh : IsFresh f) where
       let capacity : f.dispatch.replica.capacity ≡ 4096 = ap (λ (x : Replica). x.capacity) holds_none in
       subst (λ (n : ℕ). AreWelcome f.dispatch.settings.processors n bytes rest) capacity (subst (λ (n : ℕ). AreWelcome n f.dispatch.replica.capacity bytes rest) processors welcome)
 
-  pub taken_all : (given left : Option (List ℕ)) → IsWelcomeAll f given left → AreTakenAll f.dispatch.settings given left
-  taken_all given left (bytes, rest, consumed, welcome) = record { bytes = bytes; rest = rest; consumed = consumed; welcome = welcome_all bytes rest welcome }
-
   -- ---- how a run ends
 
-  module _ (law : WholeText) (g : Follow) (given left before after : Option (List ℕ)) where
-    brought : (bytes rest : List ℕ) (begun : Option (List ℕ)) → AreFedBytes bytes f g begun after rest → AreBrought f.dispatch.settings bytes (replica_of g.dispatch.replica)
-    brought bytes rest begun fed = record {
-      lines = fed.lines;
-      rest = rest;
-      are_lines = fed.are_lines;
-      taken = subst (λ (x : Replica). AreTakenFrom fed.lines x (replica_of g.dispatch.replica)) holds_none fed.fed.held_is;
-    }
+  module _ (law : WholeText) (is_strict to_last : Bool) (g : Follow) (given left before after : Option (List ℕ)) where
+    module _ (input : IsFed is_strict to_last f g given left before after) where
+      fed : IsFedTo is_strict to_last given left f g input.begun after
+      fed = input.fed
 
-    sound : (bytes rest : List ℕ) (begun : Option (List ℕ)) → AreFedBytes bytes f g begun after rest → has_torn (replica_of g.dispatch.replica) ≡ false
-    sound bytes rest begun fed = fed.fed.gone_on.sound (ap has_torn holds_none ∙ nothing_torn f.dispatch.settings.processors 4096)
+      -- it was read to its end, if the run doesn't end with its last slot
+      at_end : (to_last ≡ true → IsPlannedOut g → ⊥) → IsAtEnd left × (fed.more ≡ [])
+      at_end goes_on = ⊎_elim (λ e. e) (λ last. absurd (goes_on last.0 last.1)) fed.end
 
-    written : (bytes rest : List ℕ) (begun : Option (List ℕ)) → Appends before begun (head_from f.dispatch.origin f.output f.unwritten) → AreFedBytes bytes f g begun after rest
-        → Appends before after (text_from f.dispatch.origin f.output f.unwritten f.dispatch.settings (replica_of g.dispatch.replica))
-    written bytes rest begun head fed =
-        subst (λ (text : List ℕ). Appends before after text) (whole_text law f.dispatch.origin f.unwritten f g bytes rest begun after refl refl fed)
-        (appends_more before begun after (head_from f.dispatch.origin f.output f.unwritten) (news f g) head fed.fed.gone_on.written)
+      consumed : (to_last ≡ true → IsPlannedOut g → ⊥) → Consumes given left fed.bytes
+      consumed goes_on = subst (λ (l : List ℕ). Consumes given left l) (ap (λ (l : List ℕ). fed.bytes ++ l) (at_end goes_on).1 ∙ append-nil fed.bytes) fed.read
 
-    settled : (bytes rest : List ℕ) (begun : Option (List ℕ)) → AreFedBytes bytes f g begun after rest → IsPlannedOut g → IsSettled f.dispatch.settings (replica_of g.dispatch.replica)
-    settled bytes rest begun fed many =
-        let as_many = planned g.dispatch fed.fed.gone_on.caught_up.whole in
-        subst (λ (s : Settings). s.slots ≤ frontier (replica_of g.dispatch.replica)) fed.fed.gone_on.grown.settings_are (omega (arith, as_many, many))
+      brought : AreBrought f.dispatch.settings fed.bytes (replica_of g.dispatch.replica)
+      brought = record {
+        lines = fed.fed.lines;
+        rest = fed.rest;
+        are_lines = fed.fed.are_lines;
+        taken = subst (λ (x : Replica). AreTakenFrom fed.fed.lines x (replica_of g.dispatch.replica)) holds_none fed.fed.fed.held_is;
+      }
 
-    settled_below : (bytes rest : List ℕ) (begun : Option (List ℕ)) → AreFedBytes bytes f g begun after rest → length g.dispatch.tables < g.dispatch.settings.slots
-        → IsSettledBelow f.dispatch.settings (length g.dispatch.tables) (replica_of g.dispatch.replica)
-    settled_below bytes rest begun fed few =
-        let as_many = planned g.dispatch fed.fed.gone_on.caught_up.whole in
-        (omega (arith, as_many, few), subst (λ (s : Settings). length g.dispatch.tables < s.slots) fed.fed.gone_on.grown.settings_are few)
+      sound : has_torn (replica_of g.dispatch.replica) ≡ false
+      sound = fed.fed.fed.gone_on.sound (ap has_torn holds_none ∙ nothing_torn f.dispatch.settings.processors 4096)
 
-    followed : (P : Replica → Type 0) → IsFed f g given left before after → P (replica_of g.dispatch.replica) → IsFollowed f P given left before after
-    followed P fed p = record {
-      bytes = fed.bytes;
-      replica = replica_of g.dispatch.replica;
-      consumed = fed.consumed;
-      at_end = fed.at_end;
-      brought = brought fed.bytes fed.rest fed.begun fed.fed;
-      sound = sound fed.bytes fed.rest fed.begun fed.fed;
-      settled = p;
-      written = written fed.bytes fed.rest fed.begun fed.head fed.fed;
-    }
+      written : Appends before after (text_from f.dispatch.origin f.output f.unwritten f.dispatch.settings (replica_of g.dispatch.replica))
+      written =
+          subst (λ (text : List ℕ). Appends before after text) (whole_text law f.dispatch.origin f.unwritten f g fed.bytes fed.rest input.begun after refl refl fed.fed)
+          (appends_more before input.begun after (head_from f.dispatch.origin f.output f.unwritten) (news f g) input.head fed.fed.fed.gone_on.written)
 
-    -- if all slots are planned
-    pub all_settled : IsFed f g given left before after → IsPlannedOut g → IsFollowed f (IsSettled f.dispatch.settings) given left before after
-    all_settled fed many = followed (IsSettled f.dispatch.settings) fed (settled fed.bytes fed.rest fed.begun fed.fed many)
+      settled : IsPlannedOut g → IsSettled f.dispatch.settings (replica_of g.dispatch.replica)
+      settled many =
+          let as_many = planned g.dispatch fed.fed.fed.gone_on.caught_up.whole in
+          subst (λ (s : Settings). s.slots ≤ frontier (replica_of g.dispatch.replica)) fed.fed.fed.gone_on.grown.settings_are (omega (arith, as_many, many))
+
+      settled_below : length g.dispatch.tables < g.dispatch.settings.slots → IsSettledBelow f.dispatch.settings (length g.dispatch.tables) (replica_of g.dispatch.replica)
+      settled_below few =
+          let as_many = planned g.dispatch fed.fed.fed.gone_on.caught_up.whole in
+          (omega (arith, as_many, few), subst (λ (s : Settings). length g.dispatch.tables < s.slots) fed.fed.fed.gone_on.grown.settings_are few)
+
+      followed : (P : Replica → Type 0) → (to_last ≡ true → IsPlannedOut g → ⊥) → P (replica_of g.dispatch.replica) → IsFollowed f P given left before after
+      followed P goes_on p = record {
+        bytes = fed.bytes;
+        replica = replica_of g.dispatch.replica;
+        consumed = consumed goes_on;
+        at_end = (at_end goes_on).0;
+        brought = brought;
+        sound = sound;
+        settled = p;
+        written = written;
+      }
+
+      -- if all slots are planned
+      pub all_settled : to_last ≡ false → IsPlannedOut g → IsFollowed f (IsSettled f.dispatch.settings) given left before after
+      all_settled on many = followed (IsSettled f.dispatch.settings) (λ last _. false≢true (sym on ∙ last)) (settled many)
+
+      pub taken_all : to_last ≡ false → is_strict ≡ true → AreTakenAll f.dispatch.settings given left
+      taken_all on is = record {
+        bytes = fed.bytes;
+        rest = fed.rest;
+        consumed = consumed (λ last _. false≢true (sym on ∙ last));
+        welcome = welcome_all fed.bytes fed.rest (fed.welcome is);
+      }
+
+      pub reached_last : (P : Replica → Type 0) → IsPlannedOut g → P (replica_of g.dispatch.replica) → HasReachedLast f is_strict P given left before after
+      reached_last P many p = record {
+        bytes = fed.bytes;
+        more = fed.more;
+        rest = fed.rest;
+        replica = replica_of g.dispatch.replica;
+        consumed = fed.read;
+        brought = brought;
+        sound = sound;
+        settled = settled many;
+        welcome = λ is. welcome_all fed.bytes fed.rest (fed.welcome is);
+        written = written;
+        holds = p;
+      }
 
     -- if some are not
-    short : (fault : ProgramFault) → IsFedShort f g given left before after fault → IsShort f given left before after fault
-    short fault (is, few, fed) = (length g.dispatch.tables, is, followed (IsSettledBelow f.dispatch.settings (length g.dispatch.tables)) fed (settled_below fed.bytes fed.rest fed.begun fed.fed few))
+    short : (fault : ProgramFault) → IsFedShort is_strict to_last f g given left before after fault → IsShort f given left before after fault
+    short fault (is, few, input) =
+        (length g.dispatch.tables, is, followed input (IsSettledBelow f.dispatch.settings (length g.dispatch.tables)) (λ last many. omega (arith, few, many)) (settled_below input few))
 
-    pub ended : (fault : ProgramFault) → IsFedEndOf f g given left before after fault → IsEndOf f given left before after fault
+    pub ended : (fault : ProgramFault) → IsFedEndOf is_strict to_last f g given left before after fault → IsEndOf f given left before after fault
     ended fault (inl unread) = inl unread
     ended fault (inr (inl stopped)) = inr (inl (g, stopped))
     ended fault (inr (inr end)) = inr (inr (short fault end))
-
-    -- a run that was followed as far as its last slot
-    pub reached_last : (is_strict : Bool) (P : Replica → Type 0) → IsFedToLast is_strict f g given left before after → IsPlannedOut g → P (replica_of g.dispatch.replica)
-        → HasReachedLast f is_strict P given left before after
-    reached_last is_strict P to_last many p =
-        let fed = to_last.fed in
-        record {
-          bytes = fed.bytes;
-          more = fed.more;
-          rest = fed.rest;
-          replica = replica_of g.dispatch.replica;
-          consumed = fed.read;
-          brought = brought fed.bytes fed.rest to_last.begun fed.fed;
-          sound = sound fed.bytes fed.rest to_last.begun fed.fed;
-          settled = settled fed.bytes fed.rest to_last.begun fed.fed many;
-          welcome = λ is. welcome_all fed.bytes fed.rest (fed.welcome is);
-          written = written fed.bytes fed.rest to_last.begun to_last.head fed.fed;
-          holds = p;
-        }
 
 -- ---- answers
 

@@ -1,5 +1,5 @@
 -- The state that a run leaves, by what was brought.
-use Rattle.std.proofs.Common.{ℕ, Bool, false, ◌≡◌, ap, subst, ◌∙◌, inl, inr, List, Option, Result, Ok, Err, IfErr, IfOk, IfSome}
+use Rattle.std.proofs.Common.{ℕ, Bool, true, false, ◌≡◌, ap, subst, ◌∙◌, inl, inr, List, Option, Result, Ok, Err, IfErr, IfOk, IfSome}
 use Rattle.pfair_replica.specs.ReplicaRows.{replica_of}
 use Rattle.pfair_replica.specs.Replica.{said}
 use Rattle.pfair_table.specs.Events.{Course}
@@ -12,7 +12,7 @@ use Rattle.pfair_feed.specs.Follow.{Follow, IsPlannedOut}
 use Rattle.pfair_feed.specs.Laws.{WholeText}
 use Rattle.pfair_follow.specs.declared.fault.FollowFault.{FollowFault}
 use Rattle.pfair_follow.specs.Faults.{is_refused}
-use Rattle.pfair_follow.specs.Runs.{IsFedToLast, IsFresh}
+use Rattle.pfair_follow.specs.Runs.{IsFed, IsFresh}
 use Rattle.pfair_follow.specs.States.{HasLeft, IsEndOfLeaving, IsNoneLeft, IsTextLeft}
 use Rattle.pfair_follow.proofs.Ends.{reached_last}
 
@@ -27,7 +27,7 @@ no_memory (Ok x) h f = tt
 no_memory (Err e) h f = f e h
 
 module _ (law : WholeText) (f : Follow) (fresh : IsFresh f) (g : Follow) (is_strict : Bool) (given left before after : Option (List ℕ))
-    (fed : IsFedToLast is_strict f g given left before after) (d : Dispatch) (same : d ≡ g.dispatch) where
+    (fed : IsFed is_strict true f g given left before after) (d : Dispatch) (same : d ≡ g.dispatch) where
   same_state : state_text (left_by d) ≡ state_text (left_over f.dispatch.origin f.dispatch.settings (said (replica_of g.dispatch.replica)) f.dispatch.settings.slots)
   same_state =
       let grown = fed.fed.fed.fed.gone_on.grown in
@@ -37,7 +37,7 @@ module _ (law : WholeText) (f : Follow) (fresh : IsFresh f) (g : Follow) (is_str
 
   pub has_left : {T : Type 0} (items : T → List ℕ) (r : Result T FollowFault) → IsPlannedOut g → IfOk r (λ text. items text ≡ state_text (left_by d))
       → IfOk r (λ text. HasLeft f is_strict given left before after (items text))
-  has_left items (Ok text) many is = reached_last f fresh law g given left before after is_strict (IsTextLeft f (items text)) fed many (is ∙ same_state)
+  has_left items (Ok text) many is = reached_last f fresh law is_strict true g given left before after fed (IsTextLeft f (items text)) many (is ∙ same_state)
   has_left items (Err e) many is = tt
 
   pub has_left_none : {T : Type 0} (r : Result T FollowFault) → IfErr r (IsNoneLeft d) → IfErr r (IsEndOfLeaving f is_strict given left before after)

@@ -12,7 +12,7 @@ use Rattle.pfair_feed.specs.declared.output.Output.{Output}
 use Rattle.pfair_feed.specs.Follow.{Follow}
 use Rattle.pfair_feed.specs.RowLaws.{text_of}
 use Rattle.pfair_feed.specs.Rows.{header_of, rows_in}
-use Rattle.pfair_feed.specs.Feeding.{AreFedBytes, AreLines, AreTakenFrom, AreWelcome, IsFedTo, IsStopped}
+use Rattle.pfair_feed.specs.Feeding.{AreLines, AreTakenFrom, AreWelcome, IsFedTo, IsStopped}
 use Rattle.pfair_file.specs.declared.program_fault.ProgramFault.{ProgramFault}
 use Rattle.pfair_file.specs.declared.program_fault.ProgramFault.TheVariants.{Memory, Stalled, WriteFailed}
 
@@ -76,18 +76,11 @@ pub record AreTakenAll (s : Settings) (given left : Option (List ℕ)) : Type 0 
   pub consumed : Consumes given left bytes
   pub welcome : AreWelcome s.processors LONGEST_LOG bytes rest
 
-abbrev pub IsWelcomeAll : Follow → (given left : Option (List ℕ)) → Type 0
-IsWelcomeAll f given left = (bytes rest : List ℕ) × Consumes given left bytes × AreWelcome f.dispatch.replica.processors f.dispatch.replica.capacity bytes rest
-
--- after the header some bytes were fed, to the reader's end
-pub record IsFed (f g : Follow) (given left before after : Option (List ℕ)) : Type 0 where
-  pub bytes : List ℕ
-  pub rest : List ℕ
+-- after the header some bytes were fed: all to the reader's end, or, if the run ends with its last slot, those up to that
+pub record IsFed (is_strict to_last : Bool) (f g : Follow) (given left before after : Option (List ℕ)) : Type 0 where
   pub begun : Option (List ℕ)
   pub head : Appends before begun (head_from f.dispatch.origin f.output f.unwritten)
-  pub consumed : Consumes given left bytes
-  pub at_end : IsAtEnd left
-  pub fed : AreFedBytes bytes f g begun after rest
+  pub fed : IsFedTo is_strict to_last given left f g begun after
 
 -- after the header a fault came at some byte: that of a row, of the reader, of the writer or of memory
 pub record IsStoppedAt (f g : Follow) (given left before after : Option (List ℕ)) (fault : ProgramFault) : Type 0 where
@@ -103,13 +96,13 @@ IsUnread f given left before after fault =
     Keeps given left × (((fault ≡ Memory) × Keeps before after) ⊎ ((fault ≡ WriteFailed) × TakesPrefix before after (head_from f.dispatch.origin f.output f.unwritten)))
 
 -- the input ended too early
-abbrev pub IsFedShort : (f g : Follow) (given left before after : Option (List ℕ)) → ProgramFault → Type 0
-IsFedShort f g given left before after fault =
-    (fault ≡ Stalled (length g.dispatch.tables)) × (length g.dispatch.tables < g.dispatch.settings.slots) × IsFed f g given left before after
+abbrev pub IsFedShort : (is_strict to_last : Bool) (f g : Follow) (given left before after : Option (List ℕ)) → ProgramFault → Type 0
+IsFedShort is_strict to_last f g given left before after fault =
+    (fault ≡ Stalled (length g.dispatch.tables)) × (length g.dispatch.tables < g.dispatch.settings.slots) × IsFed is_strict to_last f g given left before after
 
-abbrev pub IsFedEndOf : (f g : Follow) (given left before after : Option (List ℕ)) → ProgramFault → Type 0
-IsFedEndOf f g given left before after fault =
-    IsUnread f given left before after fault ⊎ IsStoppedAt f g given left before after fault ⊎ IsFedShort f g given left before after fault
+abbrev pub IsFedEndOf : (is_strict to_last : Bool) (f g : Follow) (given left before after : Option (List ℕ)) → ProgramFault → Type 0
+IsFedEndOf is_strict to_last f g given left before after fault =
+    IsUnread f given left before after fault ⊎ IsStoppedAt f g given left before after fault ⊎ IsFedShort is_strict to_last f g given left before after fault
 
 -- the input ended before all slots were settled, and the rows of those that were are written
 abbrev pub IsShort : Follow → (given left before after : Option (List ℕ)) → ProgramFault → Type 0
@@ -121,12 +114,6 @@ IsEndOf f given left before after fault =
     IsUnread f given left before after fault ⊎ ((g : Follow) × IsStoppedAt f g given left before after fault) ⊎ IsShort f given left before after fault
 
 -- ---- a run that is followed as far as its last slot
-
--- after the header some bytes were fed: those to the line with which all slots were planned, or all to the reader's end
-pub record IsFedToLast (is_strict : Bool) (f g : Follow) (given left before after : Option (List ℕ)) : Type 0 where
-  pub begun : Option (List ℕ)
-  pub head : Appends before begun (head_from f.dispatch.origin f.output f.unwritten)
-  pub fed : IsFedTo is_strict true given left f g begun after
 
 -- What some of the bytes bring settles all slots, nothing of it is torn, its rows were written, and P holds of it. In a strict run no line of
 -- these bytes is refused.

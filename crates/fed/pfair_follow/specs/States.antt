@@ -1,5 +1,5 @@
 -- A run that begins with a state, and the state that a run leaves.
-use Rattle.std.specs.Prelude.{ℕ, Bool, ◌≡◌, ◌≤◌, ◌⊎◌, List, Option, Some, IfSome}
+use Rattle.std.specs.Prelude.{ℕ, Bool, true, ◌≡◌, ◌≤◌, ◌⊎◌, List, Option, Some, IfSome}
 use Rattle.pfair_replica.specs.Replica.{Replica, said}
 use Rattle.pfair_table.specs.Limits.{settings_from}
 use Rattle.pfair_table.specs.NextRun.{IsNextRunFault, IsResumeFault}
@@ -16,7 +16,7 @@ use Rattle.pfair_file.specs.declared.program_fault.ProgramFault.{ProgramFault}
 use Rattle.pfair_file.specs.declared.program_fault.ProgramFault.TheVariants.{CommandLine, Memory}
 use Rattle.pfair_follow.specs.declared.fault.FollowFault.{FollowFault}
 use Rattle.pfair_follow.specs.declared.fault.FollowFault.TheVariants.{Program, NextRun}
-use Rattle.pfair_follow.specs.Runs.{HasReachedLast, IsEndOf, IsFedToLast, IsFresh}
+use Rattle.pfair_follow.specs.Runs.{HasReachedLast, IsEndOf, IsFed, IsFresh}
 
 -- ---- a run that begins with a state
 
@@ -57,7 +57,7 @@ IsNoneLeft d fault = (fault ≡ Program Memory) ⊎ ((next : NextRunFault) × (f
 
 -- all rows were written, and then no state was left
 abbrev pub HasLeftNone : Follow → Bool → (given left before after : Option (List ℕ)) → FollowFault → Type 0
-HasLeftNone f is_strict given left before after fault = (g : Follow) × IsFedToLast is_strict f g given left before after × IsNoneLeft g.dispatch fault
+HasLeftNone f is_strict given left before after fault = (g : Follow) × IsFed is_strict true f g given left before after × IsNoneLeft g.dispatch fault
 
 -- why no state was left
 abbrev pub IsEndOfLeaving : Follow → Bool → (given left before after : Option (List ℕ)) → FollowFault → Type 0

@@ -6,7 +6,7 @@ ghost use Rattle.pfair_feed.specs.Feeding.{IsCaughtUp};
 ghost use Rattle.pfair_file.specs.ProgramFaults.{is_refusal};
 ghost use Rattle.pfair_file.specs.declared.program_fault.ProgramFault.TheVariants.{Memory, Stalled, WriteFailed};
 ghost use Rattle.pfair_follow.specs.Faults.{is_refused};
-ghost use Rattle.pfair_follow.specs.Runs.{AreTakenAll, IsEndOf, IsFollowed, IsFresh, IsSettled, head_from, IsFed, IsFedEndOf, IsFedToLast, IsWelcomeAll};
+ghost use Rattle.pfair_follow.specs.Runs.{AreTakenAll, IsEndOf, IsFollowed, IsFresh, IsSettled, head_from, IsFed, IsFedEndOf};
 ghost use Rattle.pfair_follow.specs.Scripts.{IsScriptStalled, IsScriptWritten, OfItsScript};
 ghost use Rattle.pfair_follow.specs.States.{HasLeft, IsEndOfLeaving};
 ghost use Rattle.pfair_file.specs.Commands.{IsCommandOf};
@@ -16,9 +16,7 @@ ghost use Rattle.pfair_follow.specs.Entries.{IsOutputOf};
 use crate::fault::FollowFault;
 use crate::state::left_text;
 use pfair_feed::laws::{entries_give_their_schedule, lines_are_one, text_is_whole};
-use pfair_feed::{
-    Follower, entries_of, follow, follow_to_last_slot, report_dropped, report_missing,
-};
+use pfair_feed::{Follower, entries_of, follow, report_dropped, report_missing};
 use pfair_file::{ProgramFault, read_script};
 use pfair_ready::Ready;
 use pfair_text::send;
@@ -63,14 +61,16 @@ pub fn follow_rows<R: Ready, I: Read, W: Write, E: Write>(
     text_is_whole();
     entries_give_their_schedule();
     lines_are_one();
-    feed_all(alloc, follower, reader, writer, complaints, is_strict)
+    feed_rows(
+        alloc, follower, reader, writer, complaints, is_strict, false,
+    )
 }
 
 /// Reads rows of entries as [`follow_rows`] does, but only until all slots of the run are settled, and
 /// returns the text of the state that the run leaves.
 ///
-/// What is read behind the row that settles the last slot is lost. The cost is that of
-/// [`follow_to_last_slot`], and of a next run.
+/// What is read behind the row that settles the last slot is lost. The cost is that of [`follow`], and
+/// of a next run.
 ///
 /// # Errors
 /// Those of [`follow_rows`]; and once all rows are written [`NextRunFault`](pfair_table::NextRunFault)
@@ -92,53 +92,39 @@ pub fn follow_and_leave<R: Ready, I: Read, W: Write, E: Write>(
 {
     // what a follower has written from the first slot on is what is written at once
     text_is_whole();
-    feed_to_last(alloc, follower, reader, writer, complaints, is_strict)?;
+    feed_rows(alloc, follower, reader, writer, complaints, is_strict, true)?;
     left_text(alloc, follower.dispatcher())
 }
 
-// Feeds a follower that is new with all that a reader has.
-fn feed_all<R: Ready, I: Read, W: Write, E: Write>(
+// Feeds a follower that is new: to the reader's end, or, with `to_last`, until all slots are planned.
+fn feed_rows<R: Ready, I: Read, W: Write, E: Write>(
     alloc: Global,
     follower: &mut Follower<R>,
     reader: &mut I,
     writer: &mut W,
     complaints: &mut E,
     is_strict: bool,
+    to_last: bool,
 ) -> Result<(), ProgramFault>
     requires { IsCaughtUp follower.old }
-    ensures fed { OnOk result (IsFed follower.old follower.new
-        (I.remaining reader.old) (I.remaining reader.new) (W.contents writer.old) (W.contents writer.new)) }
-    ensures settled { OnOk result (follower.new.dispatch.settings.slots ≤ length follower.new.dispatch.tables) }
-    ensures strict { OnOk result (is_strict ≡ true → IsWelcomeAll follower.old (I.remaining reader.old) (I.remaining reader.new)) }
-    ensures lenient { IfErr result (λ e. is_strict ≡ false → is_refusal e ≡ false) }
-    ensures ended { IfErr result (IsFedEndOf follower.old follower.new
-        (I.remaining reader.old) (I.remaining reader.new) (W.contents writer.old) (W.contents writer.new)) }
-{
-    begin(follower, writer)?;
-    follow(alloc, follower, reader, writer, complaints, is_strict)?;
-    end(follower, complaints)
-}
-
-// Feeds a follower that is new until all slots are planned.
-fn feed_to_last<R: Ready, I: Read, W: Write, E: Write>(
-    alloc: Global,
-    follower: &mut Follower<R>,
-    reader: &mut I,
-    writer: &mut W,
-    complaints: &mut E,
-    is_strict: bool,
-) -> Result<(), ProgramFault>
-    requires { IsCaughtUp follower.old }
-    ensures fed { OnOk result (IsFedToLast is_strict follower.old follower.new
+    ensures fed { OnOk result (IsFed is_strict to_last follower.old follower.new
         (I.remaining reader.old) (I.remaining reader.new) (W.contents writer.old) (W.contents writer.new)) }
     ensures settled { OnOk result (follower.new.dispatch.settings.slots ≤ length follower.new.dispatch.tables) }
     ensures lenient { IfErr result (λ e. is_strict ≡ false → is_refusal e ≡ false) }
-    ensures ended { IfErr result (IsFedEndOf follower.old follower.new
+    ensures ended { IfErr result (IsFedEndOf is_strict to_last follower.old follower.new
         (I.remaining reader.old) (I.remaining reader.new) (W.contents writer.old) (W.contents writer.new)) }
 {
     begin(follower, writer)?;
-    follow_to_last_slot(alloc, follower, reader, writer, complaints, is_strict)?;
-    end(follower, complaints)
+    follow(
+        alloc, follower, reader, writer, complaints, is_strict, to_last,
+    )?;
+    let slot = follower.dispatcher().next_slot();
+    if slot < follower.dispatcher().settings().slots() {
+        let _ = report_missing(follower, complaints);
+        return Err(ProgramFault::Stalled { slot });
+    }
+    let _ = report_dropped(follower, complaints);
+    Ok(())
 }
 
 // Writes the header, unless the run is a later one or rows are left out.
@@ -155,22 +141,6 @@ fn begin<R: Ready, W: Write>(follower: &Follower<R>, writer: &mut W) -> Result<(
     } else {
         Ok(())
     }
-}
-
-// Whether all slots are settled. If they aren't, the missing keys are reported, and else what is stamped
-// after them.
-fn end<R: Ready, E: Write>(follower: &Follower<R>, complaints: &mut E) -> Result<(), ProgramFault>
-    ensures settled { OnOk result (follower.now.dispatch.settings.slots ≤ length follower.now.dispatch.tables) }
-    ensures short { IfErr result (λ e.
-        (e ≡ Stalled (length follower.now.dispatch.tables)) × (length follower.now.dispatch.tables < follower.now.dispatch.settings.slots)) }
-{
-    let slot = follower.dispatcher().next_slot();
-    if slot < follower.dispatcher().settings().slots() {
-        let _ = report_missing(follower, complaints);
-        return Err(ProgramFault::Stalled { slot });
-    }
-    let _ = report_dropped(follower, complaints);
-    Ok(())
 }
 
 /// Writes the entries of the script that a reader's bytes hold, each as a row: the logs in order of

@@ -1,6 +1,6 @@
 use Rattle.std.proofs.Common.{[], drop}
 use Rattle.pfair_feed.proofs.Lines.{IsFedBut}
-use Rattle.pfair_feed.proofs.input.read_lines.Given as goal
+use Rattle.pfair_feed.proofs.input.follow.Given as goal
 
 -- all that was read so far is fed
 abbrev pub invariant-loop : goal.invariant-loop
