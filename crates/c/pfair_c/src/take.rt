@@ -1,10 +1,10 @@
 //! Entries, one or several of a log at once.
-ghost use Rattle.std.specs.Prelude.{◌≡◌, ◌≤◌, ◌<◌, ◌+◌, true, length, IfOk, IfErr, OnOk, OnErr};
+ghost use Rattle.std.specs.Prelude.{◌≡◌, ◌≤◌, ◌<◌, ◌+◌, true, IfOk, IfErr, OnOk, OnErr};
 ghost use Rattle.pfair_replica.specs.ReplicaRows.{held, replica_of};
 ghost use Rattle.pfair_replica.specs.Offered.{has_key, taken as offered_to};
 ghost use Rattle.pfair_c.specs.Answered.{Changes};
 ghost use Rattle.pfair_c.specs.Entries.{logged_of, IsMeant};
-ghost use Rattle.pfair_c.specs.Taking.{met, one_more, IsTakenTo, IsRefusal, IsRefusedAt, IsTakeAnswer, IsTakeLogAnswer};
+ghost use Rattle.pfair_c.specs.Taking.{met, one_more, IsRefusal, IsTakeAnswer, IsTakeLogAnswer};
 
 use crate::answer::{DONE, NOT_OPEN};
 use crate::entry::{PfairEntry, read_entry};

@@ -9,7 +9,7 @@ ghost use Rattle.pfair_admission.specs.Member.{Member};
 ghost use Rattle.pfair_admission.specs.Admission.{member_named, arrival, announcements, claimed, present};
 ghost use Rattle.pfair_admission.specs.Carried.{carried, CanBeCarried};
 ghost use Rattle.pfair_admission.specs.Removal.{earlier_of, NoneFreed, NoneFreedBefore};
-ghost use Rattle.pfair_admission.specs.Roster.{EachBounded, EachHasRoom};
+ghost use Rattle.pfair_admission.specs.Roster.{EachHasRoom};
 ghost use Rattle.pfair_admission.specs.Restored.{member_in, CanBeRestored, IsRestoreFault};
 ghost use Rattle.pfair_admission.specs.Ledger.{after, after_all, decisions_on, has_number, is_there, listed, membership, decision_on, whole, CanDecide, HasDecided, HasRegister, IsArrivalByWeight, IsDecided, IsFound, IsLedger, IsPlace, IsUnswept};
 

@@ -4,7 +4,7 @@
 //! by joins (Shapiro, Preguiça, Baquero and Zawirski 2011). So values can be merged in any order,
 //! in any grouping and as often as one likes, with the same outcome.
 ghost use Rattle.std.specs.Prelude.{◌≡◌, ◌↔◌, IsTrue, IfOk, OnOk, OnErr, true};
-ghost use Rattle.pfair_lattice.specs.Order.{IsOrder, IsLeastUpperBound, IsPartlyJoined, IsJoin, IsCommutative, IsAssociative, IsIdempotent, commutes, associates, idempotent};
+ghost use Rattle.pfair_lattice.specs.Order.{IsOrder, IsLeastUpperBound, IsPartlyJoined, IsCommutative, IsAssociative, IsIdempotent, commutes, associates, idempotent};
 
 use std::alloc::AllocError;
 

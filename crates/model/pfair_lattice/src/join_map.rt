@@ -1,6 +1,6 @@
 //! Maps whose values are joined key by key, and the contents of a key: one value, or the mark that two
 //! different ones met.
-ghost use Rattle.std.specs.Prelude.{◌≡◌, ◌↔◌, IsTrue, IsOk, IfOk, OnOk, ◌∷◌, [], length, ⊤, Some, IsSome, IfSome, OnSome, OnErr, false};
+ghost use Rattle.std.specs.Prelude.{◌≡◌, IsOk, IfOk, OnOk, ◌∷◌, [], length, ⊤, Some, IsSome, OnErr, false};
 ghost use Rattle.std.specs.Option.{option_copied, option_copied_mut};
 ghost use Rattle.std.specs.Borrow.{sem};
 ghost use Rattle.pfair_lattice.specs.Lent.{LendsValue};

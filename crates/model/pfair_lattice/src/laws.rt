@@ -1,8 +1,7 @@
 //! The laws that hold of every type that joins, and of maps of them at any depth. Each function
 //! does nothing: its contract is the law.
-ghost use Rattle.std.specs.Prelude.{◌≡◌, ◌↔◌};
 ghost use Rattle.pfair_lattice.specs.Order.{IsOrder, IsLeastUpperBound, IsPartlyJoined, IsSingle, IsCommutative, IsAssociative, IsIdempotent, IsAbsorbing, IsOrderOfJoin};
-ghost use Rattle.pfair_lattice.specs.Entries.{IsOrdered, get, IsKnownByKeys, IsComparedByKeys};
+ghost use Rattle.pfair_lattice.specs.Entries.{IsKnownByKeys, IsComparedByKeys};
 ghost use Rattle.pfair_lattice.specs.Held.{IsHeldJoin};
 
 use crate::join::{Exact, Join};

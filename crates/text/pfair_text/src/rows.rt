@@ -1,5 +1,5 @@
 //! The text of a table, made row by row by a CSV writer in memory, then sent to a writer.
-ghost use Rattle.std.specs.Prelude.{◌≡◌, ◌<◌, ◌++◌, [], length, map, IsTrue, OnOk, IfOk, ◌≤◌, take, OnErr};
+ghost use Rattle.std.specs.Prelude.{◌≡◌, ◌<◌, ◌++◌, [], length, map, IsTrue, OnOk, IfOk, OnErr};
 ghost use Rattle.std.specs.List.{list_all};
 ghost use Rattle.csv.specs.Writing.{writer_pending};
 ghost use Rattle.pfair_text.specs.Rows.{is_plain, IsOpen, line, text_so_far};

@@ -6,7 +6,7 @@ ghost use Rattle.pfair_entry.specs.Entry.{Logged};
 ghost use Rattle.pfair_replica.specs.ReplicaRows.{IsShape, IsReplicaRows, held, replica_of};
 ghost use Rattle.pfair_replica.specs.Faults.{HoldsMore, IsTakeFaultOf};
 ghost use Rattle.pfair_replica.specs.Replica.{Untorn};
-ghost use Rattle.pfair_desk.specs.Boards.{BoardFrame, IsKey, place_of};
+ghost use Rattle.pfair_desk.specs.Boards.{IsKey, place_of};
 ghost use Rattle.pfair_desk.specs.Desks.{DeskView, state_of, IsDeskOf, OfOneBoard, IsPartlyMet, GrownDesk, IsLearned, fresh_desk, numbered, met};
 ghost use Rattle.pfair_desk.specs.Faults.{IsPublishFaultOf};
 ghost use Rattle.pfair_desk.specs.Gained.{HasReadRow, LacksSome, gained, gained_in_row, NoGapInRow};
