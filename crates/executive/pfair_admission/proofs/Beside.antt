@@ -1,18 +1,13 @@
 -- The members of a next run beside those of the long run.
-use Rattle.std.proofs.Common.{◌≡◌, ℕ, ◌+◌, ◌-◌, ◌*◌, ◌≤◌, Bool, true, false, cond, List, [], ◌∷◌, ◌++◌, map, Option, Some, None, refl, sym, ap, ◌∙◌, arith, inl, inr, pos, ◌-ℤ◌, not, nat_le, nat_lt, ◌==◌, ◌||◌, ◌&&◌, is_some, if◌then◌else◌}
-use Rattle.pfair_admission.proofs.Common.{common_steps, AllByRecursion, filter, find, option_map, cases_lt, nat_tests, map-append, sum_by-cons, NamesApart, Share, IsWeight, Announcement, Arrive, Depart, Late, Decision, Admitted, Departing, Delayed, Refused, Delay, Member, theta, is_departing, eligible_from, next_key, lag_at, Machine, is_named, member_named, claimed, arrival, departure, late_release, decision, newcomer, with_freeing, with_delay, with_quantum, change, effect, is_freed, present, decided, all_decided, all_decisions, announcements, subtasks_of, taken_off, raised, all_raised}
+use Rattle.std.proofs.Common.{inl, inr, pos, ◌-ℤ◌, nat_le, nat_lt, ◌==◌, ◌||◌, ◌&&◌, is_some}
+use Rattle.pfair_admission.proofs.Common.{common_steps, AllByRecursion, filter, find, option_map, cases_lt, nat_tests, map-append, sum_by-cons, NamesApart, Share, IsWeight, Announcement, Arrive, Depart, Late, Decision, Admitted, Departing, Delayed, Refused, Delay, Member, theta, is_departing, eligible_from, next_key, lag_at, Machine, is_named, member_named, claimed, arrival, departure, late_release, decision, newcomer, with_freeing, with_delay, with_quantum, change, effect, is_freed, present, decided, all_decided, all_decisions, announcements, subtasks_of, taken_off, raised, all_raised, ◌≡◌, ℕ, ◌+◌, ◌-◌, ◌*◌, ◌≤◌, Bool, true, false, cond, List, [], ◌∷◌, ◌++◌, map, Option, Some, None, refl, sym, ap, ◌∙◌, arith, not, if◌then◌else◌, list_any-append, or-true, apart_head, apart_tail, release_of, Said}
 use Rattle.std.proofs.lemmas.Int.{ints}
-use Rattle.std.proofs.lemmas.List.Folds.{list_any-append}
 use Rattle.std.proofs.lemmas.Simd.{map-map}
-use Rattle.std.proofs.Math.Bool.{or-true}
 use Rattle.std.proofs.Math.Nat.{mul-add, mul_assoc, mul_comm}
-use Rattle.pfair_weight.proofs.NamesApart.{apart_head, apart_tail}
-use Rattle.pfair_weight.specs.Window.{release_of}
 use Rattle.pfair_order.specs.declared.Key.{Key}
 use Rattle.pfair_order.proofs.Later.{filter_mapped}
 use Rattle.pfair_entry.specs.Exact.{name_exact}
 use Rattle.pfair_entry.specs.Same.{name_eq}
-use Rattle.pfair_entry.specs.declared.entry.Said.{Said}
 use Rattle.pfair_entry.specs.Entry.{IsWeighed}
 use Rattle.pfair_admission.specs.declared.decision.Refusal.TheVariants.{AlreadyDeparting, AlreadyReleased}
 use Rattle.pfair_admission.proofs.Keeping.{theta_earlier, theta_later}

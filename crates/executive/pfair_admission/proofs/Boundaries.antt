@@ -1,8 +1,6 @@
 -- How far the announcements of a boundary are decided, and how far delays can lead.
-use Rattle.std.proofs.Common.{◌≡◌, ℕ, ◌+◌, ◌-◌, ◌*◌, ◌<◌, ◌≤◌, Bool, List, [], ◌∷◌, ◌++◌, length, take, get_or, Some, Result, Ok, Err, OnOk, OnErr, refl, sym, ap, subst, ◌∙◌, arith, not, if◌then◌else◌}
-use Rattle.pfair_admission.proofs.Common.{common_steps, AllByRecursion, all_by_recursion_push, take_more, sum_by_push, Announcement, Decision, Delay, LONGEST_DELAY, LAST_SLOT, MAX_HEARD, Member, last_offset, Machine, change, newcomer, with_freeing, with_delay, with_quantum, effect, is_freed, present, decision, decided, all_decided, all_decisions, announcements, ran, after_boundary, EachBounded, EachHasRoom, IsCutShort, Roster, after_all, Membership}
+use Rattle.pfair_admission.proofs.Common.{common_steps, AllByRecursion, all_by_recursion_push, take_more, sum_by_push, Announcement, Decision, Delay, LONGEST_DELAY, LAST_SLOT, MAX_HEARD, Member, last_offset, Machine, change, newcomer, with_freeing, with_delay, with_quantum, effect, is_freed, present, decision, decided, all_decided, all_decisions, announcements, ran, after_boundary, EachBounded, EachHasRoom, IsCutShort, Roster, after_all, Membership, ◌≡◌, ℕ, ◌+◌, ◌-◌, ◌*◌, ◌<◌, ◌≤◌, Bool, List, [], ◌∷◌, ◌++◌, length, take, get_or, Some, Result, Ok, Err, OnOk, OnErr, refl, sym, ap, subst, ◌∙◌, arith, not, if◌then◌else◌, Said}
 use Rattle.pfair_entry.specs.Entry.{IsWithinLimits}
-use Rattle.pfair_entry.specs.declared.entry.Said.{Said}
 use Rattle.pfair_admission.proofs.Each.{each_at, each_filter}
 use Rattle.pfair_admission.proofs.Effects.{by_effect, each_change}
 

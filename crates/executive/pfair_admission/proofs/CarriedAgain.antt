@@ -1,7 +1,7 @@
 -- A member that is carried twice.
-use Rattle.std.proofs.Common.{◌≡◌, ℕ, ◌+◌, ◌-◌, ◌<◌, ◌≤◌, cond, List, [], ◌∷◌, map, refl, arith, nat_lt}
-use Rattle.pfair_admission.proofs.Common.{nat_tests, cases_lt, append-nil, filter-append, LAST_INDEX, Delay, Member, jobs_done, subtasks_done, passed_delays, coming_delays, as_one, lowered, delays_from, carried, CanBeCarried}
-use Rattle.std.proofs.Math.Nat.{div-eq_of_lt, div-mul-le_self, div-zero}
+use Rattle.std.proofs.Common.{nat_lt}
+use Rattle.pfair_admission.proofs.Common.{nat_tests, cases_lt, append-nil, filter-append, LAST_INDEX, Delay, Member, jobs_done, subtasks_done, passed_delays, coming_delays, as_one, lowered, delays_from, carried, CanBeCarried, ◌≡◌, ℕ, ◌+◌, ◌-◌, ◌<◌, ◌≤◌, cond, List, [], ◌∷◌, map, refl, arith, div-eq_of_lt}
+use Rattle.std.proofs.Math.Nat.{div-mul-le_self, div-zero}
 use Rattle.std.proofs.lemmas.Nat.{div-add-mod'}
 
 -- ---- its next subtask

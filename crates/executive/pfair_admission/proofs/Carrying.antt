@@ -1,7 +1,6 @@
 -- The delays of a member that is carried.
-use Rattle.std.proofs.Common.{◌≡◌, ℕ, ◌+◌, ◌*◌, ◌≤◌, Bool, true, false, cond, List, [], ◌∷◌, map, refl, arith, nat_le, nat_lt, ◌==◌}
-use Rattle.pfair_admission.proofs.Common.{common_steps, sum_by, filter, list_any, nat_tests, filter-append, sum_by-cons, sum_by-append, Delay, Member, last_offset, jobs_done, passed_delays, coming_delays, as_one, lowered, delays_from, carried}
-use Rattle.std.proofs.lemmas.List.Folds.{list_any-append}
+use Rattle.std.proofs.Common.{nat_le, nat_lt, ◌==◌}
+use Rattle.pfair_admission.proofs.Common.{common_steps, sum_by, filter, list_any, nat_tests, filter-append, sum_by-cons, sum_by-append, Delay, Member, last_offset, jobs_done, passed_delays, coming_delays, as_one, lowered, delays_from, carried, ◌≡◌, ℕ, ◌+◌, ◌*◌, ◌≤◌, Bool, true, false, cond, List, [], ◌∷◌, map, refl, arith, list_any-append}
 
 abbrev slots : List Delay → ℕ
 slots ds = sum_by (λ (d : Delay). d.by) ds

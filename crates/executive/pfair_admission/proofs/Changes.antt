@@ -1,6 +1,6 @@
 -- A member that is changed where it stands.
-use Rattle.std.proofs.Common.{◌≡◌, ℕ, Bool, true, List, Option, Some, Result, IfOk, OnErr, refl, sym, ap, ◌∙◌, arith, filter, if◌then◌else◌}
-use Rattle.pfair_admission.proofs.Common.{values_of, set_value_at, option_map, Depart, Late, Decision, Departing, Member, change, effect, present, running, ran, quantum_of, seatless, Roster, is_there, IsOnly, Numbered}
+use Rattle.std.proofs.Common.{filter}
+use Rattle.pfair_admission.proofs.Common.{values_of, set_value_at, option_map, Depart, Late, Decision, Departing, Member, change, effect, present, running, ran, quantum_of, seatless, Roster, is_there, IsOnly, Numbered, ◌≡◌, ℕ, Bool, true, List, Option, Some, Result, IfOk, OnErr, refl, sym, ap, ◌∙◌, arith, if◌then◌else◌}
 use Rattle.std.specs.Option.{is_some}
 use Rattle.pfair_admission.specs.declared.members.Quantum.{Quantum}
 use Rattle.pfair_admission.specs.Change.{after_departure, after_late_release, after_quantum}

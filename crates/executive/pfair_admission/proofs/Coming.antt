@@ -1,9 +1,6 @@
 -- The delays to come, and those that have passed, gathered one by one.
-use Rattle.std.proofs.Common.{◌≡◌, ℕ, ◌+◌, ◌*◌, ◌<◌, ◌≤◌, true, false, cond, List, [], ◌∷◌, ◌++◌, get_or, length, map, take, Some, refl, ap, arith}
-use Rattle.pfair_admission.proofs.Common.{common_steps, nat_lt, ◌||◌, unwrap_or, sum_by, list_any, nat_tests, sum_by_more_le, Delay, own_delay, LAST_SLOT, Member, as_one, carried_delays, jobs_done, passed_delays, CanBeCarried}
-use Rattle.std.specs.Ordering.{nat_cmp}
+use Rattle.pfair_admission.proofs.Common.{common_steps, nat_lt, ◌||◌, unwrap_or, sum_by, list_any, nat_tests, sum_by_more_le, Delay, own_delay, LAST_SLOT, Member, as_one, carried_delays, jobs_done, passed_delays, CanBeCarried, ◌≡◌, ℕ, ◌+◌, ◌*◌, ◌<◌, ◌≤◌, true, false, cond, List, [], ◌∷◌, ◌++◌, get_or, length, map, take, Some, refl, ap, arith, nat_cmp, BTreeMap}
 use Rattle.std.specs.BTreeMap as map
-use Rattle.std.specs.BTreeMap.{BTreeMap}
 use Rattle.pfair_admission.proofs.Delays.{at_key, own_push, own_slots}
 use Rattle.pfair_admission.proofs.Sums.{sum_filter}
 

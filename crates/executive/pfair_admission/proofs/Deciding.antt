@@ -1,6 +1,5 @@
 -- What is left when an announcement is decided.
-use Rattle.std.proofs.Common.{◌≡◌, ℕ, ◌+◌, ◌*◌, ◌≤◌, Bool, List, [], ◌∷◌, ◌++◌, Option, Some, None, Result, Ok, Err, IfOk, OnOk, OnErr, sym, ap, ◌∙◌, arith}
-use Rattle.pfair_admission.proofs.Common.{sum_by_push, cases_lt, nat_tests, same_Some, Share, units_of, MAX_OFFSET, Arrive, Depart, Late, Decision, Admitted, LONGEST_DELAY, MAX_PROCESSORS, MAX_FRAME, Member, last_offset, Machine, member_named, claimed, arrival, departure, late_release, newcomer, effect, present, decided, NoneFreed, EachHasRoom, is_there, Membership}
+use Rattle.pfair_admission.proofs.Common.{sum_by_push, cases_lt, nat_tests, same_Some, Share, units_of, MAX_OFFSET, Arrive, Depart, Late, Decision, Admitted, LONGEST_DELAY, MAX_PROCESSORS, MAX_FRAME, Member, last_offset, Machine, member_named, claimed, arrival, departure, late_release, newcomer, effect, present, decided, NoneFreed, EachHasRoom, is_there, Membership, ◌≡◌, ℕ, ◌+◌, ◌*◌, ◌≤◌, Bool, List, [], ◌∷◌, ◌++◌, Option, Some, None, Result, Ok, Err, IfOk, OnOk, OnErr, sym, ap, ◌∙◌, arith}
 use Rattle.pfair_weight.specs.Options.{nothing}
 use Rattle.pfair_admission.proofs.MemberLists.{present_all, none_freed_push}
 use Rattle.pfair_admission.proofs.Written.{filter_again}

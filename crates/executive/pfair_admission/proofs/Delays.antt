@@ -1,13 +1,7 @@
 -- The next subtask's offset, by the delays of its own index alone.
-use Rattle.std.proofs.Common.{◌≡◌, ℕ, zero, suc, ◌+◌, ◌-◌, ◌<◌, ◌≤◌, Bool, true, false, cond, List, [], ◌∷◌, ◌++◌, Option, Some, None, refl, ap, ◌∙◌, arith}
-use Rattle.pfair_admission.proofs.Common.{common_steps, nat_le, ◌==◌, ◌||◌, unwrap_or, is_some, sum_by, filter, list_any, nat_tests, filter-append, sum_by-cons, sum_by-append, sum_by_push, Position, MAX_INDEX, MAX_OFFSET, Delay, Member, IsMember, theta, last_offset, is_delayed_at, with_delay, with_quantum, member_of, own_delay, StandsAtNext, IsIncarnation}
+use Rattle.pfair_admission.proofs.Common.{common_steps, nat_le, ◌==◌, ◌||◌, unwrap_or, is_some, sum_by, filter, list_any, nat_tests, filter-append, sum_by-cons, sum_by-append, sum_by_push, Position, MAX_INDEX, MAX_OFFSET, Delay, Member, IsMember, theta, last_offset, is_delayed_at, with_delay, with_quantum, member_of, own_delay, StandsAtNext, IsIncarnation, ◌≡◌, ℕ, zero, suc, ◌+◌, ◌-◌, ◌<◌, ◌≤◌, Bool, true, false, cond, List, [], ◌∷◌, ◌++◌, Option, Some, None, refl, ap, ◌∙◌, arith, nat_cmp, BTreeMap, list_any-append, or-true, Inside}
 use Rattle.std.specs.Global.{Vec}
-use Rattle.std.specs.Ordering.{nat_cmp}
 use Rattle.std.specs.BTreeMap as map
-use Rattle.std.specs.BTreeMap.{BTreeMap}
-use Rattle.std.proofs.lemmas.List.Folds.{list_any-append}
-use Rattle.std.proofs.Math.Bool.{or-true}
-use Rattle.pfair_admission.specs.declared.incarnation.Incarnation.TheInside.{Inside}
 use Rattle.pfair_admission.proofs.Sums.{sum_filter}
 use Rattle.pfair_admission.proofs.Keeping.{theta_later, theta_earlier}
 

@@ -1,6 +1,5 @@
 -- What holds of each element of a list.
-use Rattle.std.proofs.Common.{◌≡◌, ◌<◌, ℕ, Bool, true, List, [], ◌∷◌, get_or, length, map, arith}
-use Rattle.pfair_admission.proofs.Common.{common_steps, AllByRecursion, filter}
+use Rattle.pfair_admission.proofs.Common.{common_steps, AllByRecursion, filter, ◌≡◌, ◌<◌, ℕ, Bool, true, List, [], ◌∷◌, get_or, length, map, arith}
 
 pub each : {A : Type 0} (P Q : A → Type 0) → ((x : A) → P x → Q x) → (xs : List A) → AllByRecursion P xs → AllByRecursion Q xs
 each P Q to [] h = tt

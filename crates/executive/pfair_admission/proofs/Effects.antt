@@ -1,6 +1,5 @@
 -- An announcement does nothing, or one of three things; and a boundary lets members go, and decides announcements.
-use Rattle.std.proofs.Common.{◌≡◌, ℕ, Bool, true, false, List, [], ◌∷◌, ◌++◌, arith, if◌then◌else◌}
-use Rattle.pfair_admission.proofs.Common.{AllByRecursion, Share, Announcement, Arrive, Depart, Late, Decision, Admitted, Departing, Delayed, Member, Machine, all_decided, boundary, change, decided, decision, effect, is_named, newcomer, present, with_delay, with_freeing}
+use Rattle.pfair_admission.proofs.Common.{AllByRecursion, Share, Announcement, Arrive, Depart, Late, Decision, Admitted, Departing, Delayed, Member, Machine, all_decided, boundary, change, decided, decision, effect, is_named, newcomer, present, with_delay, with_freeing, ◌≡◌, ℕ, Bool, true, false, List, [], ◌∷◌, ◌++◌, arith, if◌then◌else◌}
 use Rattle.pfair_admission.proofs.Each.{each_map}
 
 module _ (P : List Member → Type 0) (t : ℕ) (ms : List Member) (h : P ms) where

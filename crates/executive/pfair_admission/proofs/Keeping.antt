@@ -1,12 +1,10 @@
 -- What boundaries and quanta keep.
-use Rattle.std.proofs.Common.{◌≡◌, ◌≢◌, ℕ, suc, ◌+◌, ◌-◌, ◌%◌, ◌<◌, ◌≤◌, Bool, true, false, cond, List, [], ◌∷◌, ◌++◌, length, get_or, map, refl, sym, ap, ◌∙◌, arith, not, ◌==◌, ◌||◌, max, if◌then◌else◌}
-use Rattle.pfair_admission.proofs.Common.{common_steps, filter, nat_tests, all_by_recursion_push, append-nil, sum_by-cons, sum_by_push, Share, units_of, Announcement, Decision, Admitted, Refused, Delay, Member, theta, busy_until, freeing_slot, is_delayed_at, eligible_from, Machine, all_decided, arrival, change, claimed, newcomer, with_delay, with_freeing, with_quantum, effect, is_freed, present, decision, decided, all_decisions, boundary, boundary_decisions, ran, carried, NoneFreed}
+use Rattle.std.proofs.Common.{◌==◌, ◌||◌, max}
+use Rattle.pfair_admission.proofs.Common.{common_steps, filter, nat_tests, all_by_recursion_push, append-nil, sum_by-cons, sum_by_push, Share, units_of, Announcement, Decision, Admitted, Refused, Delay, Member, theta, busy_until, freeing_slot, is_delayed_at, eligible_from, Machine, all_decided, arrival, change, claimed, newcomer, with_delay, with_freeing, with_quantum, effect, is_freed, present, decision, decided, all_decisions, boundary, boundary_decisions, ran, carried, NoneFreed, ◌≡◌, ◌≢◌, ℕ, suc, ◌+◌, ◌-◌, ◌%◌, ◌<◌, ◌≤◌, Bool, true, false, cond, List, [], ◌∷◌, ◌++◌, length, get_or, map, refl, sym, ap, ◌∙◌, arith, not, if◌then◌else◌, or-true, release_of, Refusal, AreInFrame, HaveRoom}
 use Rattle.std.proofs.lemmas.List.Kept.{AllPairs-filter}
 use Rattle.std.proofs.lemmas.List.Quantifiers.{all_pairs_push}
-use Rattle.std.proofs.Math.Bool.{or-true}
-use Rattle.pfair_weight.specs.Window.{release_of, starts_job_of}
-use Rattle.pfair_admission.specs.declared.decision.Refusal.{Refusal}
-use Rattle.pfair_admission.specs.Laws.{AreInFrame, HaveRoom, JoinedInOrder}
+use Rattle.pfair_weight.specs.Window.{starts_job_of}
+use Rattle.pfair_admission.specs.Laws.{JoinedInOrder}
 use Rattle.pfair_admission.proofs.MemberLists.{present_all, claimed_change, claimed_present, none_freed_present}
 use Rattle.pfair_admission.proofs.Each.{each_at, each_filter, each_map}
 use Rattle.pfair_admission.proofs.Effects.{by_boundary, by_effect, each_change}

@@ -1,7 +1,6 @@
 -- What the ledger keeps when a member is written.
-use Rattle.std.proofs.Common.{◌≡◌, ℕ, ◌+◌, ◌≤◌, ◌<◌, Bool, true, cond, List, [], ◌∷◌, ◌++◌, Option, Some, None, refl, sym, ap, subst, ◌∙◌, arith, filter, nat_eq, slice_get}
-use Rattle.pfair_admission.proofs.Common.{common_steps, all_by_recursion_push, sum_by_push, nat_tests, insert_entry, with_value_at, IsDistinct, keys_of, values_of, lookup, filter-append, name_eq, Share, units_of, Admitted, Member, Machine, arrival, claimed, member_named, newcomer, present, earlier_of, IsNotBefore, NoneFreed, NoneFreedBefore, is_there, listed, IsLedger, IsUnswept, Numbered}
-use Rattle.pfair_admission.specs.declared.ledger.Ledger.{Ledger}
+use Rattle.std.proofs.Common.{filter}
+use Rattle.pfair_admission.proofs.Common.{common_steps, all_by_recursion_push, sum_by_push, nat_tests, insert_entry, with_value_at, IsDistinct, keys_of, values_of, lookup, filter-append, name_eq, Share, units_of, Admitted, Member, Machine, arrival, claimed, member_named, newcomer, present, earlier_of, IsNotBefore, NoneFreed, NoneFreedBefore, is_there, listed, IsLedger, IsUnswept, Numbered, ◌≡◌, ℕ, ◌+◌, ◌≤◌, ◌<◌, Bool, true, cond, List, [], ◌∷◌, ◌++◌, Option, Some, None, refl, sym, ap, subst, ◌∙◌, arith, nat_eq, slice_get, Ledger}
 use Rattle.pfair_admission.proofs.Changes.{IsLike}
 use Rattle.pfair_admission.proofs.Deciding.{admitted_new, admitted_room, claimed_arrived}
 use Rattle.pfair_admission.proofs.MemberLists.{claimed_present, first_earlier, first_push, not_before_right, present_all}

@@ -1,6 +1,5 @@
 -- Lists of members: who is freed, and what they claim.
-use Rattle.std.proofs.Common.{◌≡◌, ℕ, ◌+◌, ◌≤◌, false, cond, List, [], ◌∷◌, ◌++◌, get_or, take, Option, Some, None, refl, sym, ap, subst, ◌∙◌, arith, not, slice_get}
-use Rattle.pfair_admission.proofs.Common.{common_steps, same_Some, slice_get-get_or, slice_get_within, sum_by-cons, sum_by_more, sum_by_more_le, nat_tests, units_of, Member, claimed, change, is_freed, present, earlier_of, IsNotBefore, NoneFreedBefore, NoneFreed}
+use Rattle.pfair_admission.proofs.Common.{common_steps, same_Some, slice_get-get_or, slice_get_within, sum_by-cons, sum_by_more, sum_by_more_le, nat_tests, units_of, Member, claimed, change, is_freed, present, earlier_of, IsNotBefore, NoneFreedBefore, NoneFreed, ◌≡◌, ℕ, ◌+◌, ◌≤◌, false, cond, List, [], ◌∷◌, ◌++◌, get_or, take, Option, Some, None, refl, sym, ap, subst, ◌∙◌, arith, not, slice_get}
 use Rattle.pfair_admission.proofs.Sums.{sum_filter}
 
 -- ---- who is freed

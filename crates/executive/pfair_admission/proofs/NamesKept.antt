@@ -1,8 +1,6 @@
 -- Boundaries and quanta keep the names of members apart.
-use Rattle.std.proofs.Common.{◌≡◌, ℕ, true, false, cond, List, [], ◌∷◌, None, Some, refl, sym, ap, ◌∙◌, arith, not}
-use Rattle.pfair_admission.proofs.Common.{AllByRecursion, NamesApart, Announcement, Member, Machine, is_named, member_named, newcomer, change, with_freeing, with_delay, with_quantum, effect, is_freed, present, decision, boundary, ran}
-use Rattle.std.specs.Cmp.Lexicographic.{nat_list_eq_equiv}
-use Rattle.pfair_weight.proofs.NamesApart.{apart_filter, apart_map, apart_push}
+use Rattle.pfair_admission.proofs.Common.{AllByRecursion, NamesApart, Announcement, Member, Machine, is_named, member_named, newcomer, change, with_freeing, with_delay, with_quantum, effect, is_freed, present, decision, boundary, ran, ◌≡◌, ℕ, true, false, cond, List, [], ◌∷◌, None, Some, refl, sym, ap, ◌∙◌, arith, not, nat_list_eq_equiv, apart_push}
+use Rattle.pfair_weight.proofs.NamesApart.{apart_filter, apart_map}
 use Rattle.pfair_entry.specs.Same.{name_eq}
 use Rattle.pfair_admission.proofs.Deciding.{admitted_new}
 use Rattle.pfair_admission.proofs.Effects.{by_boundary, by_effect}

@@ -1,6 +1,6 @@
 -- The numbers of members, and the names that lead to them.
-use Rattle.std.proofs.Common.{◌≡◌, ℕ, zero, suc, ◌+◌, ◌<◌, Bool, true, false, cond, List, [], ◌∷◌, ◌++◌, get_or, Option, IfSome, Some, None, refl, sym, ap, subst, ◌∙◌, arith, nat_eq, not, filter, is_some, slice_get, position}
-use Rattle.pfair_admission.proofs.Common.{AllByRecursion, IsDistinct, keys_of, values_of, lookup, all_by_recursion_push, nat_tests, same_Some, none-some, slice_get-get_or, insert_entry, set_value_at, NameValue, name_eq, Member, is_named, member_named, NoneFreed, has_number, is_there, IsFound, IsNamedIn, IsNumberOf, IsOnly, IsRegister, Numbered}
+use Rattle.std.proofs.Common.{filter, is_some, position}
+use Rattle.pfair_admission.proofs.Common.{AllByRecursion, IsDistinct, keys_of, values_of, lookup, all_by_recursion_push, nat_tests, same_Some, none-some, slice_get-get_or, insert_entry, set_value_at, NameValue, name_eq, Member, is_named, member_named, NoneFreed, has_number, is_there, IsFound, IsNamedIn, IsNumberOf, IsOnly, IsRegister, Numbered, ◌≡◌, ℕ, zero, suc, ◌+◌, ◌<◌, Bool, true, false, cond, List, [], ◌∷◌, ◌++◌, get_or, Option, IfSome, Some, None, refl, sym, ap, subst, ◌∙◌, arith, nat_eq, not, slice_get}
 use Rattle.std.specs.Cmp.Lexicographic.{bytes_decides}
 use Rattle.std.proofs.lemmas.List.Quantifiers.{position-Some}
 use Rattle.pfair_admission.proofs.Each.{each, each_kept, both}

@@ -1,9 +1,6 @@
 -- What a run can leave, and whether it is restored.
-use Rattle.std.proofs.Common.{◌≡◌, ℕ, ◌+◌, ◌-◌, ◌*◌, ◌<◌, ◌≤◌, Bool, true, false, List, [], ◌∷◌, ◌++◌, length, length-append, map, Option, Some, None, Result, Ok, Err, OnOk, OnErr, refl, sym, ap, subst, ◌∙◌, arith, is_some, nat_le}
-use Rattle.pfair_admission.proofs.Common.{common_steps, list_all, values_of, all_by_recursion_push, nat_tests, sum_by-cons, Delay, LAST_INDEX, LAST_SLOT, Member, last_offset, IsWeight, Share, Decision, Admitted, Refused, LONGEST_DELAY, IsFound, Numbered, EachBounded, Membership, arrival, is_freed, member_named, Machine, as_one, carried, coming_delays, delays_from, jobs_done, passed_delays, subtasks_done, IsNotBefore, is_left_at, is_summed_up, CanBeRestored, IsLeftAt}
-use Rattle.std.proofs.Math.Nat.{div-eq_of_lt}
-use Rattle.pfair_admission.specs.declared.decision.Refusal.{Refusal}
-use Rattle.pfair_admission.specs.declared.decision.Refusal.TheVariants.{NameTaken}
+use Rattle.std.proofs.Common.{is_some, nat_le}
+use Rattle.pfair_admission.proofs.Common.{common_steps, list_all, values_of, all_by_recursion_push, nat_tests, sum_by-cons, Delay, LAST_INDEX, LAST_SLOT, Member, last_offset, IsWeight, Share, Decision, Admitted, Refused, LONGEST_DELAY, IsFound, Numbered, EachBounded, Membership, arrival, is_freed, member_named, Machine, as_one, carried, coming_delays, delays_from, jobs_done, passed_delays, subtasks_done, IsNotBefore, is_left_at, is_summed_up, CanBeRestored, IsLeftAt, ◌≡◌, ℕ, ◌+◌, ◌-◌, ◌*◌, ◌<◌, ◌≤◌, Bool, true, false, List, [], ◌∷◌, ◌++◌, length, length-append, map, Option, Some, None, Result, Ok, Err, OnOk, OnErr, refl, sym, ap, subst, ◌∙◌, arith, div-eq_of_lt, Refusal, NameTaken}
 use Rattle.pfair_admission.proofs.CarriedAgain.{done_low, lowered_by_none, next_low}
 use Rattle.pfair_admission.proofs.Written.{filter_all, only_named}
 

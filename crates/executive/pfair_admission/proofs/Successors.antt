@@ -1,7 +1,6 @@
 -- The members of a next run, numbered anew.
-use Rattle.std.proofs.Common.{◌≡◌, ℕ, zero, suc, ◌+◌, ◌*◌, ◌<◌, ◌≤◌, true, cond, List, [], ◌∷◌, ◌++◌, get_or, length, map, take, Some, None, refl, sym, ap, subst, ◌∙◌, arith, nat_eq, filter, slice_get}
-use Rattle.pfair_admission.proofs.Common.{common_steps, AllByRecursion, IsDistinct, keys_of, values_of, lookup, all_by_recursion_push, map-append, take_more, sum_by-cons, same_Some, none-some, slice_get-get_or, slice_get_within, insert_entry, NameValue, name_eq, LONGEST_DELAY, LAST_SLOT, Member, last_offset, claimed, is_named, member_named, carried, CanBeCarried, listed, IsLedger, IsRegister, Numbered, IsNotBefore, NoneFreedBefore, EachBounded}
-use Rattle.pfair_admission.specs.declared.ledger.Ledger.{Ledger}
+use Rattle.std.proofs.Common.{filter}
+use Rattle.pfair_admission.proofs.Common.{common_steps, AllByRecursion, IsDistinct, keys_of, values_of, lookup, all_by_recursion_push, map-append, take_more, sum_by-cons, same_Some, none-some, slice_get-get_or, slice_get_within, insert_entry, NameValue, name_eq, LONGEST_DELAY, LAST_SLOT, Member, last_offset, claimed, is_named, member_named, carried, CanBeCarried, listed, IsLedger, IsRegister, Numbered, IsNotBefore, NoneFreedBefore, EachBounded, ◌≡◌, ℕ, zero, suc, ◌+◌, ◌*◌, ◌<◌, ◌≤◌, true, cond, List, [], ◌∷◌, ◌++◌, get_or, length, map, take, Some, None, refl, sym, ap, subst, ◌∙◌, arith, nat_eq, slice_get, Ledger}
 use Rattle.pfair_admission.proofs.Each.{each_map}
 use Rattle.pfair_admission.proofs.Kept.{values_pushed}
 use Rattle.pfair_admission.proofs.Registers.{number_at, one_place, register_more, same_name, Names}

@@ -1,6 +1,5 @@
 -- Sums over a part of a list.
-use Rattle.std.proofs.Common.{ℕ, ◌≤◌, Bool, List, [], ◌∷◌, arith}
-use Rattle.pfair_admission.proofs.Common.{sum_by, filter, sum_by-cons}
+use Rattle.pfair_admission.proofs.Common.{sum_by, filter, sum_by-cons, ℕ, ◌≤◌, Bool, List, [], ◌∷◌, arith}
 
 -- a part of the items sums to no more than all of them
 pub sum_filter : {A : Type 0} (f : A → ℕ) (p : A → Bool) (xs : List A) → sum_by f (filter p xs) ≤ sum_by f xs

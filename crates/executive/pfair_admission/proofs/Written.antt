@@ -1,6 +1,6 @@
 -- A member that is written at its place.
-use Rattle.std.proofs.Common.{◌≡◌, ℕ, zero, suc, ◌+◌, ◌<◌, Bool, true, false, cond, List, [], ◌∷◌, length, Option, IfSome, Some, None, refl, sym, ap, subst, ◌∙◌, arith, filter, is_some, slice_get}
-use Rattle.pfair_admission.proofs.Common.{values_of, sum_by-cons, same_Some, none-some, set_value_at, Share, units_of, Member, change, claimed, is_named, member_named, IsNotBefore, NoneFreedBefore, IsOnly, IsPlace, Numbered}
+use Rattle.std.proofs.Common.{filter, is_some}
+use Rattle.pfair_admission.proofs.Common.{values_of, sum_by-cons, same_Some, none-some, set_value_at, Share, units_of, Member, change, claimed, is_named, member_named, IsNotBefore, NoneFreedBefore, IsOnly, IsPlace, Numbered, ◌≡◌, ℕ, zero, suc, ◌+◌, ◌<◌, Bool, true, false, cond, List, [], ◌∷◌, length, Option, IfSome, Some, None, refl, sym, ap, subst, ◌∙◌, arith, slice_get}
 
 -- the members, of which the one at a place is another
 abbrev pub with_at : List Member → ℕ → Member → List Member

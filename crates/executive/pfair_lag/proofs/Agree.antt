@@ -1,8 +1,6 @@
 -- Being in windows and staying within a lag of one are the same.
-use Rattle.std.proofs.Common.{◌≡◌, ℕ, zero, suc, ◌+◌, ◌-◌, ◌*◌, ◌<◌, ◌≤◌, List, length, get_or, arith, inl, inr}
-use Rattle.pfair_lag.proofs.Common.{cases_lt, Share, IsWeight, deadline_of, ArePicks, InWindows, KeepsReleases, MeetsDeadlines, pick_of, quanta_before, LagWithin, LagBelowOne, LagAboveMinusOne}
+use Rattle.pfair_lag.proofs.Common.{cases_lt, Share, IsWeight, deadline_of, ArePicks, InWindows, KeepsReleases, MeetsDeadlines, pick_of, quanta_before, LagWithin, LagBelowOne, LagAboveMinusOne, ◌≡◌, ℕ, zero, suc, ◌+◌, ◌-◌, ◌*◌, ◌<◌, ◌≤◌, List, length, get_or, arith, inl, inr, mul-le}
 use Rattle.std.proofs.lemmas.Int.{ints}
-use Rattle.std.proofs.lemmas.Nat.{mul-le}
 use Rattle.std.proofs.Math.Nat.{le_refl}
 use Rattle.pfair_weight.specs.WindowFacts.{released, of_released, before_deadline, of_before_deadline}
 use Rattle.pfair_lag.proofs.Counts.{rises, before_time, quanta_le}

@@ -1,22 +1,18 @@
 -- The accounts of a book, and the book that they show.
-use Rattle.std.proofs.Common.{◌≡◌, ℕ, zero, suc, ◌+◌, ◌-◌, ◌*◌, ◌^◌, ◌<◌, ◌≤◌, Bool, true, false, cond, not, ◌||◌, List, [], ◌∷◌, ◌++◌, map, length, take, get_or, Option, Some, None, refl, sym, ap, subst, ◌∙◌, arith, slice_get, position, filter, is_some}
-use Rattle.pfair_lag.proofs.Common.{option_map, Share, Tally, Book, tally_of, entered_after, left, slot_more, recorded, tally_shown, entered_shown, IsSound, IsKept, EachFits, counted_at, with_quantum, with_quanta}
+use Rattle.std.proofs.Common.{◌^◌, ◌||◌, position}
+use Rattle.pfair_lag.proofs.Common.{option_map, Share, Tally, Book, tally_of, entered_after, left, slot_more, recorded, tally_shown, entered_shown, IsSound, IsKept, EachFits, counted_at, with_quantum, with_quanta, ◌≡◌, ℕ, zero, suc, ◌+◌, ◌-◌, ◌*◌, ◌<◌, ◌≤◌, Bool, true, false, cond, not, List, [], ◌∷◌, ◌++◌, map, length, take, get_or, Option, Some, None, refl, sym, ap, subst, ◌∙◌, arith, slice_get, filter, is_some, lookup, bytes_decides, mul-le, nothing, START, Account, NameValue, name_eq}
 use Rattle.std.specs.List.{AllByRecursion, IsDistinct}
-use Rattle.std.specs.Map.{keys_of, values_of, lookup, remove_entry}
-use Rattle.std.specs.Cmp.Lexicographic.{bytes_decides, nat_list_eq_equiv}
+use Rattle.std.specs.Map.{keys_of, values_of, remove_entry}
+use Rattle.std.specs.Cmp.Lexicographic.{nat_list_eq_equiv}
 use Rattle.std.proofs.lemmas.Bool.Decides.{nat_tests}
-use Rattle.std.proofs.lemmas.Nat.{mul-le}
 use Rattle.std.proofs.lemmas.List.{take_more, map_push}
 use Rattle.std.proofs.lemmas.List.Folds.{list_any-append}
 use Rattle.std.proofs.lemmas.Option.{none-some, same_Some}
 use Rattle.std.proofs.SliceLists.{all_by_recursion_push}
-use Rattle.pfair_weight.specs.Options.{nothing}
 use Rattle.indexmap.specs.IndexMap.{set_value_at}
 use Rattle.pfair_weight.specs.declared.window.TheConstants.{MAX_INDEX}
 use Rattle.pfair_lag.specs.declared.TheConstants.{MAX_HORIZON}
-use Rattle.pfair_lag.specs.declared.book.TheConstants.{START}
-use Rattle.pfair_lag.specs.declared.book.Account.{Account}
-use Rattle.pfair_weight.specs.Name.{NameValue, name_eq, NamesApart}
+use Rattle.pfair_weight.specs.Name.{NamesApart}
 use Rattle.pfair_weight.specs.NameFacts.{name_at}
 
 abbrev pub Accounts : Type 0

@@ -1,6 +1,6 @@
 -- Rising lists, and how many of their numbers lie below a time.
-use Rattle.std.proofs.Common.{◌≡◌, ℕ, zero, suc, ◌+◌, ◌-◌, ◌<◌, ◌≤◌, ltb, List, [], ◌∷◌, length, get_or, arith, inl, inr}
-use Rattle.pfair_lag.proofs.Common.{cases_lt, common_steps, ArePicks, Rises, quanta_before}
+use Rattle.std.proofs.Common.{ltb}
+use Rattle.pfair_lag.proofs.Common.{cases_lt, common_steps, ArePicks, Rises, quanta_before, ◌≡◌, ℕ, zero, suc, ◌+◌, ◌-◌, ◌<◌, ◌≤◌, List, [], ◌∷◌, length, get_or, arith, inl, inr}
 use Rattle.std.proofs.lemmas.List.Sums.{count_by-le-length}
 
 rises_to : (xs : List ℕ) (h : ℕ) → ArePicks xs h → (j k : ℕ) → j < k → k < length xs → get_or xs j 0 < get_or xs k 0

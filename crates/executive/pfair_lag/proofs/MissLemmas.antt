@@ -1,6 +1,6 @@
 -- One subtask alone is the first that is out of its window.
-use Rattle.std.proofs.Common.{◌≡◌, ℕ, ◌+◌, ◌<◌, ◌≤◌, Bool, true, false, Option, Some, None, List, length, refl, sym, ap, subst, ◌∙◌, arith, inl, inr, IsTrue, ◌↔◌, MatchOption, is_some, not}
-use Rattle.pfair_lag.proofs.Common.{cases_lt, Share, IsWeight, release_of, deadline_of, pick_of}
+use Rattle.std.proofs.Common.{IsTrue, ◌↔◌, MatchOption}
+use Rattle.pfair_lag.proofs.Common.{cases_lt, Share, IsWeight, release_of, deadline_of, pick_of, ◌≡◌, ℕ, ◌+◌, ◌<◌, ◌≤◌, Bool, true, false, Option, Some, None, List, length, refl, sym, ap, subst, ◌∙◌, arith, inl, inr, is_some, not}
 use Rattle.pfair_weight.specs.WindowFacts.{deadline_rises, window_not_empty}
 use Rattle.pfair_lag.specs.declared.windows.Miss.{Miss}
 use Rattle.pfair_lag.specs.declared.windows.Miss.TheVariants.{Early, Tardy, Unserved}

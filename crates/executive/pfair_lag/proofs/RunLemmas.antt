@@ -1,10 +1,7 @@
 -- A book counts for each task the slots since it was entered.
-use Rattle.std.proofs.Common.{◌≡◌, ℕ, ◌+◌, Bool, true, false, cond, not, ◌&&◌, List, [], ◌∷◌, ◌++◌, map, length, Option, Some, None, refl, sym, ap, ◌∙◌, arith, filter, is_some, count_by}
-use Rattle.pfair_lag.proofs.Common.{option_map, true≢false, Share, Tally, Book, tally_of, has_run, entered_after, slot_more}
-use Rattle.std.specs.Map.{lookup}
-use Rattle.std.specs.Cmp.Lexicographic.{bytes_decides}
+use Rattle.std.proofs.Common.{◌&&◌, count_by}
+use Rattle.pfair_lag.proofs.Common.{option_map, true≢false, Share, Tally, Book, tally_of, has_run, entered_after, slot_more, ◌≡◌, ℕ, ◌+◌, Bool, true, false, cond, not, List, [], ◌∷◌, ◌++◌, map, length, Option, Some, None, refl, sym, ap, ◌∙◌, arith, filter, is_some, lookup, bytes_decides, NameValue, name_eq}
 use Rattle.std.proofs.lemmas.List.Sums.{sum_by-cons}
-use Rattle.pfair_weight.specs.Name.{NameValue, name_eq}
 use Rattle.pfair_lag.specs.Runs.{Enter, Leave, Record, Stay, slot_passed, tally_in, CountsSinceEntering}
 use Rattle.pfair_lag.proofs.BookLemmas.{is_some-map}
 

@@ -1,8 +1,7 @@
 -- What waits is in the calendar, or has a turn.
-use Rattle.std.proofs.Common.{◌≡◌, ℕ, ◌≤◌, ◌⊎◌, inl, inr, Bool, true, false, cond, List, ◌∷◌, refl, sym, ap, subst, ◌∙◌, arith, Option, Some, None, true≢false, is_some}
-use Rattle.pfair_ready.proofs.Common.{is_eq, eq_by_cmp, Equal-is, tied_itself, get-empty, get-insert, get-remove, same_map, none-some, same_Some, Key, Calendar, NameValue, name_cmp, Queue, HasTurn, IsCovered, IsNoted, Keeps, Moves, AreTurns, IsHeap, IsPermutation, KeepsTurns, Turn, heap_items, later_cmp, turn_of}
+use Rattle.std.proofs.Common.{true≢false}
+use Rattle.pfair_ready.proofs.Common.{is_eq, eq_by_cmp, Equal-is, tied_itself, get-empty, get-insert, get-remove, same_map, none-some, same_Some, Key, Calendar, NameValue, name_cmp, Queue, HasTurn, IsCovered, IsNoted, Keeps, Moves, AreTurns, IsHeap, IsPermutation, KeepsTurns, Turn, heap_items, later_cmp, turn_of, ◌≡◌, ℕ, ◌≤◌, ◌⊎◌, inl, inr, Bool, true, false, cond, List, ◌∷◌, refl, sym, ap, subst, ◌∙◌, arith, Option, Some, None, is_some, IsTaskName}
 use Rattle.std.specs.FinMap as finmap
-use Rattle.pfair_weight.specs.Name.{IsTaskName}
 use Rattle.pfair_ready.proofs.HeapLemmas.{top_or_stays}
 use Rattle.pfair_ready.proofs.TurnLemmas.{kept_turn}
 use Rattle.pfair_ready.proofs.Names.{names_total, names_exact}

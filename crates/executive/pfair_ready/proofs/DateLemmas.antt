@@ -1,6 +1,5 @@
 -- Dates in a heap, and what moves from there to the turns.
-use Rattle.std.proofs.Common.{◌≡◌, ℕ, ◌<◌, ◌≤◌, ◌⊎◌, List, length, arith, Option, IfNone, IfSome}
-use Rattle.pfair_ready.proofs.Common.{IsHeap, PopsGreatest, Reverse, Date, later_cmp, HasTurn, KeepsTurns, Moves, Turn}
+use Rattle.pfair_ready.proofs.Common.{IsHeap, PopsGreatest, Reverse, Date, later_cmp, HasTurn, KeepsTurns, Moves, Turn, ◌≡◌, ℕ, ◌<◌, ◌≤◌, ◌⊎◌, List, length, arith, Option, IfNone, IfSome}
 use Rattle.pfair_ready.proofs.TurnLemmas.{keeps_both, kept_turn}
 
 pub popped_order : (o : Option (Reverse Date)) (xs ys : List (Reverse Date)) (n : ℕ) → n ≡ length xs → 0 < length xs → IfNone o (n ≡ 0) → IfSome o (λ x. PopsGreatest later_cmp xs x ys) → IsHeap later_cmp xs → IsHeap later_cmp ys

@@ -1,7 +1,5 @@
 -- What a heap has after an element was put in or taken out.
-use Rattle.std.proofs.lemmas.Grind.{common_steps}
-use Rattle.std.proofs.Common.{◌≡◌, ℕ, ◌<◌, ◌⊎◌, List, [], ◌∷◌, length, refl, arith, Option, Some, Contains, IfNone, IfSome, slice_get, slice_index_or}
-use Rattle.pfair_ready.proofs.Common.{IsPermutation, Contains-append_right, same_Some, place_of, at_place}
+use Rattle.pfair_ready.proofs.Common.{IsPermutation, Contains-append_right, same_Some, place_of, at_place, common_steps, ◌≡◌, ℕ, ◌<◌, ◌⊎◌, List, [], ◌∷◌, length, refl, arith, Option, Some, Contains, IfNone, IfSome, slice_get, slice_index_or}
 use Rattle.std.proofs.lemmas.List.Sorted.{Contains-permutation}
 
 in_cons : {A : Type 0} (y : A) (xs : List A) (x : A) (i : ℕ) → slice_get (y ∷ xs) i ≡ Some x → (y ≡ x) ⊎ Contains xs x

@@ -1,15 +1,11 @@
 -- The list of waiting keys and the map that it holds.
-use Rattle.std.proofs.Common.{◌≡◌, ℕ, Bool, true, false, cond, not, List, [], ◌∷◌, ◌++◌, map, refl, sym, ap, subst, ◌∙◌, Option, Some, None, arith, nat_le}
-use Rattle.pfair_ready.proofs.Common.{AllByRecursion, filter, Less, Equal, Greater, is_eq, eq_by_cmp_equiv, put, find, entries-insert, get-entries, get-from_entries, get-remove, get-retain_keys, from_entries_push, same_map, IsPermutation, Key, keys_total, IsSplit, split_from_least, split_of_permutation, first_by_rank, pd2_cmp, apart_head, apart_tail, apart_filter, apart_map, bytes_decides, nat_list_eq_equiv, NameValue, name_cmp, name_eq, Queue, released, map-append, nil_from_length, none-some, queue_of, first_named}
+use Rattle.pfair_ready.proofs.Common.{AllByRecursion, filter, Less, Equal, Greater, is_eq, eq_by_cmp_equiv, put, find, entries-insert, get-entries, get-from_entries, get-remove, get-retain_keys, from_entries_push, same_map, IsPermutation, Key, keys_total, IsSplit, split_from_least, split_of_permutation, first_by_rank, pd2_cmp, apart_head, apart_tail, apart_filter, apart_map, bytes_decides, nat_list_eq_equiv, NameValue, name_cmp, name_eq, Queue, released, map-append, nil_from_length, none-some, queue_of, first_named, ◌≡◌, ℕ, Bool, true, false, cond, not, List, [], ◌∷◌, ◌++◌, map, refl, sym, ap, subst, ◌∙◌, Option, Some, None, arith, nat_le, option_map, by_rank_of_split, IsKLeast, by_cmp, PlainEntry}
 use Rattle.std.specs.FinMap as finmap
 use Rattle.std.proofs.lemmas.List.Sorted.{IsPermutation-refl, IsPermutation-cons, IsPermutation-trans, IsPermutation-middle}
 use Rattle.std.specs.List as list
-use Rattle.std.specs.Option.{option_map, is_some}
-use Rattle.pfair_order.proofs.ByRank.{by_rank_of_split}
-use Rattle.itertools.specs.Extremes.{IsKLeast, by_cmp}
+use Rattle.std.specs.Option.{is_some}
 use Rattle.pfair_order.proofs.NamesApart.{once_from_names}
 use Rattle.pfair_weight.specs.Name.{NamesApart}
-use Rattle.pfair_ready.specs.declared.plain.PlainEntry.{PlainEntry}
 use Rattle.pfair_ready.proofs.Names.{names_total, names_exact, same_name}
 
 module _ {X Y : Type 0} (q : X → Bool) (f : X → Y) where

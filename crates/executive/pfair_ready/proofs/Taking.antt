@@ -1,13 +1,9 @@
 -- How far a selection has come over the turns, and its steps.
-use Rattle.std.proofs.Common.{◌≡◌, ℕ, ◌+◌, ◌<◌, ◌≤◌, inl, inr, true, false, List, [], ◌∷◌, ◌++◌, length, map, min, refl, sym, ap, subst, ◌∙◌, arith, Some, length-append, Contains, nat_le}
-use Rattle.pfair_ready.proofs.Common.{AllByRecursion, Less, is_lt, is_eq, Equal-is, IsPermutation, map_push, All-contains, true≢false, and_parts, Key, pd2_cmp, first_by_rank, keys_total, keys_exact, IsSplit, less_of, split_more, Calendar, Date, NameValue, Queue, released, without, HasTurn, IsCovered, IsNoted, IsKeyIn, All-from_recursion, PopsGreatest, Turn, is_due, is_turn_of, leb-true, turn_cmp, turn_of}
+use Rattle.std.proofs.Common.{length-append}
+use Rattle.pfair_ready.proofs.Common.{AllByRecursion, Less, is_lt, is_eq, Equal-is, IsPermutation, map_push, All-contains, true≢false, and_parts, Key, pd2_cmp, first_by_rank, keys_total, keys_exact, IsSplit, less_of, split_more, Calendar, Date, NameValue, Queue, released, without, HasTurn, IsCovered, IsNoted, IsKeyIn, All-from_recursion, PopsGreatest, Turn, is_due, is_turn_of, leb-true, turn_cmp, turn_of, ◌≡◌, ℕ, ◌+◌, ◌<◌, ◌≤◌, inl, inr, true, false, List, [], ◌∷◌, ◌++◌, length, map, min, refl, sym, ap, subst, ◌∙◌, arith, Some, Contains, nat_le, by_rank_of_split, IsTaskName, name_of, name_back}
 use Rattle.std.specs.FinMap as finmap
 use Rattle.std.proofs.lemmas.List.Sorted.{IsPermutation-sym, length_permutation}
-use Rattle.pfair_order.proofs.ByRank.{by_rank_of_split}
 use Rattle.pfair_order.proofs.InOrder.{each_trivial}
-use Rattle.pfair_weight.specs.Name.{IsTaskName}
-use Rattle.pfair_weight.specs.Number.{name_of}
-use Rattle.pfair_weight.proofs.ByteOrder.{name_back}
 use Rattle.pfair_ready.proofs.CoverLemmas.{covered_less, covered_popped, still_there}
 use Rattle.pfair_ready.proofs.TurnLemmas.{due_of, own_turn, popped_turns, same_order, top_number}
 use Rattle.pfair_ready.proofs.Released.{IsReleased, each_released, released_remove, without_none, without_push}

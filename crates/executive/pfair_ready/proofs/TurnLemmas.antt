@@ -1,13 +1,10 @@
 -- The turns of a heap, and their order.
-use Rattle.std.proofs.Common.{◌≡◌, ℕ, ◌≤◌, true, ◌&&◌, nat_eq, List, ◌∷◌, refl, sym, ap, ◌∙◌, arith, Some}
-use Rattle.pfair_ready.proofs.Common.{IsPermutation, Key, Less, Equal, Greater, NameValue, PopsGreatest, is_due, is_turn_of, name_cmp, nat_cmp, ordering_then, pd2_cmp, tie_group_of, AreTurns, HasTurn, KeepsTurns, Turn, turn_cmp, turn_of}
-use Rattle.std.specs.declared.cmp.Ordering.{Ordering}
+use Rattle.std.proofs.Common.{nat_eq}
+use Rattle.pfair_ready.proofs.Common.{IsPermutation, Key, Less, Equal, Greater, NameValue, PopsGreatest, is_due, is_turn_of, name_cmp, nat_cmp, ordering_then, pd2_cmp, tie_group_of, AreTurns, HasTurn, KeepsTurns, Turn, turn_cmp, turn_of, ◌≡◌, ℕ, ◌≤◌, true, ◌&&◌, List, ◌∷◌, refl, sym, ap, ◌∙◌, arith, Some, Ordering, All-permutation, IsTaskName, IsNumber, name_of, is_number, name_back}
 use Rattle.std.proofs.lemmas.Bool.Decides.{nat_tests}
 use Rattle.std.proofs.lemmas.List.Elements.{All-tail}
-use Rattle.std.proofs.lemmas.List.Sorted.{All-permutation}
-use Rattle.pfair_weight.specs.Name.{IsTaskName}
-use Rattle.pfair_weight.specs.Number.{IsNumber, name_of, number_of}
-use Rattle.pfair_weight.proofs.ByteOrder.{is_number, name_back, numbers_order}
+use Rattle.pfair_weight.specs.Number.{number_of}
+use Rattle.pfair_weight.proofs.ByteOrder.{numbers_order}
 use Rattle.pfair_ready.proofs.Names.{names_exact}
 
 decided : (r s : Ordering) → (r ≡ Equal → ⊥) → ordering_then r s ≡ r

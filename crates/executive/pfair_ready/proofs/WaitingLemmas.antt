@@ -1,17 +1,15 @@
 -- The entries of names, as the map of what waits under them.
-use Rattle.std.proofs.Common.{arith, get_or, ◌≡◌, ℕ, Bool, true, false, cond, filter, map, List, [], ◌∷◌, refl, sym, ap, subst, ◌∙◌, Option, Some, None, IfSome, is_some, position, slice_get, ◌<◌, zero, suc, length}
-use Rattle.pfair_ready.proofs.Common.{bytes_decides, eq_by_cmp_equiv, Equal-is, AllByRecursion, find, get-from_entries, get-insert, get-remove, same_map, same_Some, slice_get-map, Key, HeldKey, NameValue, name_cmp, name_eq, Entries, held_under, live, queue_in, with_entry, IsEntryOf}
+use Rattle.std.proofs.Common.{get_or, filter, position}
+use Rattle.pfair_ready.proofs.Common.{bytes_decides, eq_by_cmp_equiv, Equal-is, AllByRecursion, find, get-from_entries, get-insert, get-remove, same_map, same_Some, slice_get-map, Key, HeldKey, NameValue, name_cmp, name_eq, Entries, held_under, live, queue_in, with_entry, IsEntryOf, arith, ◌≡◌, ℕ, Bool, true, false, cond, map, List, [], ◌∷◌, refl, sym, ap, subst, ◌∙◌, Option, Some, None, IfSome, is_some, slice_get, ◌<◌, zero, suc, length, option_map, Entry}
 use Rattle.std.proofs.lemmas.List.Quantifiers.{position-Some}
 use Rattle.std.specs.List.{IsDistinct}
 use Rattle.std.specs.Map.{lookup, keys_of}
 use Rattle.std.specs.BTreeMap.{is_at}
 use Rattle.std.specs.FinMap as finmap
-use Rattle.std.specs.Option.{option_map}
 use Rattle.std.proofs.lemmas.Cmp.{nat_list_eq_equiv}
 use Rattle.std.proofs.lemmas.Map.Entries.{hash_map_get_place}
 use Rattle.indexmap.specs.IndexMap.{IndexMap, set_value_at, values, with_value_at, IsUnique}
 use Rattle.indexmap.proofs.CallerLemmas.{keys-with_value_at, updates-with_value_at}
-use Rattle.pfair_ready.specs.declared.waiting.Entry.{Entry}
 use Rattle.pfair_ready.proofs.Names.{names_total, names_exact, tied_names}
 
 module _ {X : Type 0} where

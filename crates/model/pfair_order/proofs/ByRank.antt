@@ -1,8 +1,7 @@
 -- The keys of the least ranks, rank by rank, are the front of a split.
-use Rattle.std.proofs.Common.{◌≡◌, ℕ, zero, suc, ◌+◌, ◌<◌, ◌≤◌, inl, inr, Bool, true, false, cond, List, [], ◌∷◌, ◌++◌, length, take, refl, sym, ap, subst, ◌∙◌, arith, Some, ◌==◌}
-use Rattle.pfair_order.proofs.Common.{All, Contains, count_by, slice_get, Ordering, IsTotalOrder, cases_lt, false_from_ne_true, eqb-true, eq-eqb, Contains-append_cases, All-contains, All-contains_itself, All-filter, filter_passes, get_or_from_slice_get, slice_get_within, rank, of_rank, first_by_rank}
-use Rattle.std.proofs.lemmas.List.Sorted.{sum_by-IsPermutation, Contains-permutation}
-use Rattle.std.proofs.lemmas.List.Sums.{sum_by-append, sum_by-cons, length-filter}
+use Rattle.std.proofs.Common.{◌==◌}
+use Rattle.pfair_order.proofs.Common.{All, Contains, count_by, slice_get, Ordering, IsTotalOrder, cases_lt, false_from_ne_true, eqb-true, eq-eqb, Contains-append_cases, All-contains, All-contains_itself, All-filter, filter_passes, get_or_from_slice_get, slice_get_within, rank, of_rank, first_by_rank, ◌≡◌, ℕ, zero, suc, ◌+◌, ◌<◌, ◌≤◌, inl, inr, Bool, true, false, cond, List, [], ◌∷◌, ◌++◌, length, take, refl, sym, ap, subst, ◌∙◌, arith, Some, sum_by-IsPermutation, Contains-permutation, sum_by-append, sum_by-cons}
+use Rattle.std.proofs.lemmas.List.Sums.{length-filter}
 use Rattle.std.proofs.lemmas.List.{nil_from_length, append-nil, take_all}
 use Rattle.std.proofs.Math.Seq.{take-suc}
 use Rattle.pfair_order.proofs.RankLemmas.{IsSplit, place_of, at_place, none_counted, rank_given, rank_rest, each_place}

@@ -1,9 +1,8 @@
 -- Keys that stand once can be put in order, so their first by rank are the first.
-use Rattle.std.proofs.Common.{◌≡◌, ℕ, suc, ◌<◌, ◌≤◌, inl, inr, true, false, cond, List, [], ◌∷◌, ◌++◌, length, take, drop, refl, sym, ap, subst, ◌∙◌, arith, ◌⊎◌}
-use Rattle.pfair_order.proofs.Common.{AllByRecursion, Contains, Ordering, Less, is_lt, is_eq, IsTotalOrder, true≢false, All-contains, All-from_recursion, recursion_from_All, same_Some, none-some, first_by_rank, AreFirst, EachOnce}
-use Rattle.std.specs.List.Sorted.{IsPermutation}
+use Rattle.std.proofs.Common.{drop}
+use Rattle.pfair_order.proofs.Common.{AllByRecursion, Contains, Ordering, Less, is_lt, is_eq, IsTotalOrder, true≢false, All-contains, All-from_recursion, recursion_from_All, same_Some, none-some, first_by_rank, AreFirst, EachOnce, ◌≡◌, ℕ, suc, ◌<◌, ◌≤◌, inl, inr, true, false, cond, List, [], ◌∷◌, ◌++◌, length, take, refl, sym, ap, subst, ◌∙◌, arith, ◌⊎◌, IsPermutation, All-permutation, Contains-permutation, IsPermutation-sym, IsPermutation-trans}
 use Rattle.std.proofs.lemmas.List.{take-append-drop, length-take, drop_all}
-use Rattle.std.proofs.lemmas.List.Sorted.{All-permutation, Contains-permutation, IsPermutation-refl, IsPermutation-sym, IsPermutation-cons, IsPermutation-trans, IsPermutation-middle}
+use Rattle.std.proofs.lemmas.List.Sorted.{IsPermutation-refl, IsPermutation-cons, IsPermutation-middle}
 use Rattle.pfair_order.proofs.RankLemmas.{all_map, Rising, IsSplit, place_of, at_place, first_of_split, first_unique, first_of_permutation, less_of, is_less, is_eq_back, itself_not_before, apart_from_head, count_of_tail}
 use Rattle.pfair_order.proofs.ByRank.{by_rank_of_split}
 

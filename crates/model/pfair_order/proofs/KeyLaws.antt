@@ -1,6 +1,6 @@
 -- The order of keys is strict and total, and only one key ties with a key.
-use Rattle.std.proofs.Common.{rules, ◌≡◌, refl, ap, ◌∙◌, inl, inr, ◌⊎◌, nat_eq, ◌&&◌}
-use Rattle.pfair_order.proofs.Common.{Ordering, Less, Equal, Greater, is_eq, ordering_reverse, pointwise, Key, IsTotalOrder, tied_itself, pd2_cmp, GoesBefore}
+use Rattle.std.proofs.Common.{rules, nat_eq, ◌&&◌}
+use Rattle.pfair_order.proofs.Common.{Ordering, Less, Equal, Greater, is_eq, ordering_reverse, pointwise, Key, IsTotalOrder, tied_itself, pd2_cmp, GoesBefore, ◌≡◌, refl, ap, ◌∙◌, inl, inr, ◌⊎◌}
 use Rattle.std.specs.Cmp.Rules.{comparing}
 use Rattle.std.specs.FinMap.{IsAntisymmetric}
 use Rattle.pfair_order.proofs.OrderLemmas.{goes_before, compares_less, same_key}

@@ -1,7 +1,6 @@
 -- The order of keys is kept if all times come later by one amount, and so are the first keys.
-use Rattle.std.proofs.lemmas.Grind.{common_steps}
-use Rattle.std.proofs.Common.{◌≡◌, ℕ, zero, suc, ◌+◌, ◌<◌, Bool, List, ◌∷◌, map, arith, refl, filter, []}
-use Rattle.pfair_order.proofs.Common.{Ordering, nat_cmp_is, slice_cmp, nat_cmp, cases_order, filter_agree, Key, tie_group_of, pd2_cmp, of_rank, first_by_rank}
+use Rattle.std.proofs.Common.{map, filter}
+use Rattle.pfair_order.proofs.Common.{Ordering, nat_cmp_is, slice_cmp, nat_cmp, cases_order, filter_agree, Key, tie_group_of, pd2_cmp, of_rank, first_by_rank, common_steps, ◌≡◌, ℕ, zero, suc, ◌+◌, ◌<◌, Bool, List, ◌∷◌, arith, refl, []}
 use Rattle.std.proofs.lemmas.List.{map-append}
 
 -- ---- keys

@@ -1,7 +1,6 @@
 -- Keys of different names stand once, and so do the names of the first.
-use Rattle.std.proofs.Common.{◌≡◌, ◌≢◌, ℕ, ◌+◌, ◌<◌, ◌≤◌, true, false, cond, List, [], ◌∷◌, length, refl, sym, ap, ◌∙◌, arith, get_or, Some, AllPairs}
-use Rattle.pfair_order.proofs.Common.{count_by, slice_get, is_eq, true≢false, false_from_ne_true, bytes_decides, slice_get_within, slice_get-get_or, same_Some, Equal-is, Key, pd2_cmp, rank, first_by_rank, AreFirst, EachOnce}
-use Rattle.std.proofs.lemmas.List.Sums.{sum_by-cons}
+use Rattle.std.proofs.Common.{AllPairs}
+use Rattle.pfair_order.proofs.Common.{count_by, slice_get, is_eq, true≢false, false_from_ne_true, bytes_decides, slice_get_within, slice_get-get_or, same_Some, Equal-is, Key, pd2_cmp, rank, first_by_rank, AreFirst, EachOnce, ◌≡◌, ◌≢◌, ℕ, ◌+◌, ◌<◌, ◌≤◌, true, false, cond, List, [], ◌∷◌, length, refl, sym, ap, ◌∙◌, arith, get_or, Some, sum_by-cons}
 use Rattle.pfair_weight.specs.Name.{name_eq, NamesApart}
 use Rattle.pfair_weight.proofs.NamesApart.{apart_head, apart_tail, pairs_from_apart, apart_from_pairs}
 use Rattle.pfair_order.proofs.KeyLaws.{keys_total, keys_exact}

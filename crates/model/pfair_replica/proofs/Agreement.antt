@@ -1,6 +1,5 @@
 -- When replicas agree.
-use Rattle.std.proofs.Common.{◌≡◌, Some, arith}
-use Rattle.pfair_replica.proofs.Common.{Torn, Held, held_join, Logged, entry_eq, entry_exact, IsAgreement}
+use Rattle.pfair_replica.proofs.Common.{Torn, Held, held_join, Logged, entry_eq, entry_exact, IsAgreement, ◌≡◌, Some, arith}
 use Rattle.pfair_replica.proofs.Marks.{same_at}
 
 torn_first : (b : Held Logged) → held_join entry_eq (Some Torn) b ≡ Some Torn

@@ -1,6 +1,5 @@
 -- Parts of sound beginnings, and what stays of one when something comes into its row.
-use Rattle.std.proofs.Common.{ℕ, zero, suc, ◌+◌, ◌-◌, ◌<◌, ◌≤◌, ◌≡◌, refl, sym, ap, ◌∙◌, subst, arith, inl, inr, ⊎_elim, List, [], ◌∷◌, ◌++◌, length, Some, None, ◌⊎◌, ◌≢◌}
-use Rattle.pfair_replica.proofs.Common.{common_steps, cases_eq, append-nil, length_push, Flat, One, Torn, Held, HeldBelow, Logged, Beginning, goes_on, run_from, last_floor, IsRun, beginning_in, IsPart, IsRunBefore, IsLeftAt}
+use Rattle.pfair_replica.proofs.Common.{common_steps, cases_eq, append-nil, length_push, Flat, One, Torn, Held, HeldBelow, Logged, Beginning, goes_on, run_from, last_floor, IsRun, beginning_in, IsPart, IsRunBefore, IsLeftAt, ℕ, zero, suc, ◌+◌, ◌-◌, ◌<◌, ◌≤◌, ◌≡◌, refl, sym, ap, ◌∙◌, subst, arith, inl, inr, ⊎_elim, List, [], ◌∷◌, ◌++◌, length, Some, None, ◌⊎◌, ◌≢◌}
 use Rattle.pfair_replica.proofs.Runs.{run_is_run, run_ends, run_more, run_begins, last_more}
 
 -- ---- runs

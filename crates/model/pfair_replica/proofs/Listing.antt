@@ -1,7 +1,5 @@
 -- Numbers gone through one after another.
-use Rattle.std.proofs.Common.{ℕ, zero, suc, ◌+◌, ◌-◌, ◌<◌, ◌≤◌, ◌≡◌, sym, ap, ◌∙◌, subst, arith, Bool, true, false, cond, [], ◌∷◌, ◌++◌, Option, Some, None, find}
-use Rattle.pfair_replica.proofs.Common.{map-append, option_or, Replica, IsLeastMissing, missing, numbers_below, numbers_to}
-use Rattle.std.proofs.Math.Numerals.{add-one}
+use Rattle.pfair_replica.proofs.Common.{map-append, option_or, Replica, IsLeastMissing, missing, numbers_below, numbers_to, ℕ, zero, suc, ◌+◌, ◌-◌, ◌<◌, ◌≤◌, ◌≡◌, sym, ap, ◌∙◌, subst, arith, Bool, true, false, cond, [], ◌∷◌, ◌++◌, Option, Some, None, find, add-one}
 use Rattle.std.proofs.lemmas.List.Folds.{find-append}
 
 pub numbers_more : (b : ℕ) → numbers_to (b + 1) ≡ numbers_to b ++ (b + 1) ∷ []

@@ -1,6 +1,5 @@
 -- Below both frontiers, replicas that agree say the same; and a replica that holds more has marks that are no lower.
-use Rattle.std.proofs.Common.{ℕ, suc, ◌<◌, ◌≤◌, ◌≡◌, refl, sym, ap, ◌∙◌, subst, arith, List, [], ◌∷◌, Some, min, map, flat_map, fold}
-use Rattle.pfair_replica.proofs.Common.{ne_eqb, One, Held, Logged, IsStamped, entry_exact, Among, map_among, flat_same, IsRun, Replica, IsReplica, Below, Untorn, Agree, sound_beginning, last_floor, mark, frontier, numbers_below, said_by, said_in, said}
+use Rattle.pfair_replica.proofs.Common.{ne_eqb, One, Held, Logged, IsStamped, entry_exact, Among, map_among, flat_same, IsRun, Replica, IsReplica, Below, Untorn, Agree, sound_beginning, last_floor, mark, frontier, numbers_below, said_by, said_in, said, ℕ, suc, ◌<◌, ◌≤◌, ◌≡◌, refl, sym, ap, ◌∙◌, subst, arith, List, [], ◌∷◌, Some, min, map, flat_map, fold}
 use Rattle.pfair_replica.proofs.Runs.{run_is_run, longer_rises}
 use Rattle.pfair_replica.proofs.SoundEntries.{held_within, beginnings_grow}
 

@@ -1,14 +1,10 @@
 -- Rows of entries, one of them changed.
-use Rattle.std.proofs.Common.{◌≡◌, refl, sym, ◌∙◌, ap, subst, ⊎_elim, false, cond, arith, ◌≢◌, ◌==◌, ℕ, Option, None, Some, List, [], ◌∷◌, IsSome, Result, OnErr, if◌then◌else◌}
-use Rattle.pfair_replica.proofs.Common.{common_steps, nat_cmp, eq_by_cmp, cases_Bool, cases_eq, eq-eqb, ne_eqb, none-some, get, IsOrdered, MapJoins, held_join, One, joins_held, Logged, entry_eq, entry_exact, only, Row, held_in, IsFull}
+use Rattle.std.proofs.Common.{if◌then◌else◌}
+use Rattle.pfair_replica.proofs.Common.{common_steps, nat_cmp, eq_by_cmp, cases_Bool, cases_eq, eq-eqb, ne_eqb, none-some, get, IsOrdered, MapJoins, held_join, One, joins_held, Logged, entry_eq, entry_exact, only, Row, held_in, IsFull, ◌≡◌, refl, sym, ◌∙◌, ap, subst, ⊎_elim, false, cond, arith, ◌≢◌, ◌==◌, ℕ, Option, None, Some, List, [], ◌∷◌, IsSome, Result, OnErr, is_at, nat_cmp_total, exact_unsigned, FlatJoins, join_none}
 use Rattle.std.specs.Map.{set_value}
-use Rattle.std.specs.BTreeMap.{is_at}
-use Rattle.std.specs.Cmp.{nat_cmp_total, Equal-is, eq_by_cmp_equiv}
+use Rattle.std.specs.Cmp.{Equal-is, eq_by_cmp_equiv}
 use Rattle.std.proofs.lemmas.Map.{lookup-set_value, keys-set_value}
 use Rattle.std.proofs.lemmas.Map.Steps.{set_value_same}
-use Rattle.std.proofs.lemmas.Map.Lookups.{exact_unsigned}
-use Rattle.pfair_lattice.specs.Flat.{FlatJoins}
-use Rattle.pfair_replica.specs.HeldAfter.{join_none}
 
 pub apart : (p q : ℕ) → q ≢ p → eq_by_cmp nat_cmp p q ≡ false
 apart p q ne = ⊎_elim (λ e. absurd (ne (sym (exact_unsigned p q ((Equal-is (nat_cmp p q)).0 e))))) (λ f. f) (cases_Bool (eq_by_cmp nat_cmp p q))

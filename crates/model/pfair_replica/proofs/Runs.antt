@@ -1,6 +1,5 @@
 -- The laws of the join; and runs: that a sound beginning is the longest one, and how runs go on.
-use Rattle.std.proofs.Common.{ℕ, zero, suc, ◌+◌, ◌-◌, ◌≤◌, ◌≡◌, refl, ap, ◌∙◌, arith, List, [], ◌∷◌, ◌++◌, length, Some, None}
-use Rattle.pfair_replica.proofs.Common.{leb-true, le-leb, none-some, cond_some, One, Held, below_itself, below_trans, below_antisym, join_first, join_second, join_least, join_comm, join_assoc, join_idem, Logged, entry_eq, entry_exact, goes_on, run_from, last_floor, IsLeastJoin, IsRun, IsLongestRun}
+use Rattle.pfair_replica.proofs.Common.{leb-true, le-leb, none-some, cond_some, One, Held, below_itself, below_trans, below_antisym, join_first, join_second, join_least, join_comm, join_assoc, join_idem, Logged, entry_eq, entry_exact, goes_on, run_from, last_floor, IsLeastJoin, IsRun, IsLongestRun, ℕ, zero, suc, ◌+◌, ◌-◌, ◌≤◌, ◌≡◌, refl, ap, ◌∙◌, arith, List, [], ◌∷◌, ◌++◌, length, Some, None}
 
 pub least_join : IsLeastJoin
 least_join = record {

@@ -1,8 +1,6 @@
 -- What is said in a sound beginning behind some of its entries.
-use Rattle.std.proofs.Common.{ℕ, zero, suc, ◌+◌, ◌≤◌, ◌≡◌, refl, ap, ◌∙◌, subst, arith, List, [], ◌∷◌, ◌++◌, drop, length, Option, Some, None, append_assoc, ◌≢◌, slice_get, IsSome}
-use Rattle.pfair_replica.proofs.Common.{append-nil, drop_all, drop_more, slice_get_within, get_or_from_slice_get, Logged, Among, Replica, sound_beginning, said_by, said_in, said_behind}
-use Rattle.pfair_entry.specs.declared.entry.Announcement.{Announcement}
-use Rattle.pfair_entry.specs.declared.entry.Said.{Said}
+use Rattle.std.proofs.Common.{drop}
+use Rattle.pfair_replica.proofs.Common.{append-nil, drop_all, drop_more, slice_get_within, get_or_from_slice_get, Logged, Among, Replica, sound_beginning, said_by, said_in, said_behind, ℕ, zero, suc, ◌+◌, ◌≤◌, ◌≡◌, refl, ap, ◌∙◌, subst, arith, List, [], ◌∷◌, ◌++◌, length, Option, Some, None, append_assoc, ◌≢◌, slice_get, IsSome, Announcement, Said}
 use Rattle.pfair_replica.proofs.SaidListed.{said_to}
 
 module _ (x : Replica) (k place : ℕ) where

@@ -1,6 +1,5 @@
 -- The entries of sound beginnings, read by their numbers, and kept by a replica that holds more.
-use Rattle.std.proofs.Common.{ℕ, zero, suc, ◌+◌, ◌<◌, ◌≡◌, refl, ap, ◌∙◌, arith, inl, inr, List, [], ◌∷◌, length, Some, slice_get}
-use Rattle.pfair_replica.proofs.Common.{Flat, One, Held, Logged, Replica, Below, Untorn, sound_beginning, IsRun, IsReadByNumber, BeginningsGrow}
+use Rattle.pfair_replica.proofs.Common.{Flat, One, Held, Logged, Replica, Below, Untorn, sound_beginning, IsRun, IsReadByNumber, BeginningsGrow, ℕ, zero, suc, ◌+◌, ◌<◌, ◌≡◌, refl, ap, ◌∙◌, arith, inl, inr, List, [], ◌∷◌, length, Some, slice_get}
 use Rattle.pfair_replica.proofs.Runs.{run_is_run, run_room, longest_run}
 
 entry_in : (row : ℕ → Held Logged) (es : List Logged) (n floor i m : ℕ) (e : Logged) → m ≡ n + i → IsRun row n floor es → slice_get es i ≡ Some e → row m ≡ Some (One e)

@@ -1,7 +1,5 @@
 -- How a cascade's fractions grow.
-use Rattle.std.proofs.Common.{◌≡◌, ℕ, ◌+◌, ◌-◌, ◌*◌, ◌<◌, ◌≤◌, ◌^◌, arith, ap, ◌∙◌}
-use Rattle.pfair_weight.proofs.Common.{div_ceil, div_ceil_times, mul-le, le_refl, MAX_CLOSE}
-use Rattle.pfair_weight.specs.Ratio.{Ratio}
+use Rattle.pfair_weight.proofs.Common.{div_ceil, div_ceil_times, mul-le, le_refl, MAX_CLOSE, ◌≡◌, ℕ, ◌+◌, ◌-◌, ◌*◌, ◌<◌, ◌≤◌, ◌^◌, arith, ap, ◌∙◌, Ratio}
 
 -- from x times p to y times p by what lies between
 pub grown : (x y p : ℕ) → x ≤ y → x * p + (y - x) * p ≡ y * p

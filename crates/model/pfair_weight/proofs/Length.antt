@@ -1,6 +1,6 @@
 -- The length of a name, by the number that its bytes spell, the first of them the lowest, with the zeros after it.
-use Rattle.std.proofs.Common.{ℕ, zero, suc, ◌≡◌, ◌+◌, ◌-◌, ◌*◌, ◌/◌, ◌^◌, ◌<◌, ◌≤◌, List, [], ◌∷◌, ◌++◌, length, take, refl, ap, ◌∙◌, ⊎_elim, arith, replicate, slice_index}
-use Rattle.pfair_weight.proofs.Common.{common_steps, w128, byte_worth, from_le_bytes, leading_zeros, sum_through, leading_top, pow_pos, pow-suc, IsTaskName, before_zero, IsPadded}
+use Rattle.std.proofs.Common.{⊎_elim}
+use Rattle.pfair_weight.proofs.Common.{common_steps, w128, byte_worth, from_le_bytes, leading_zeros, sum_through, leading_top, pow_pos, pow-suc, IsTaskName, before_zero, IsPadded, ℕ, zero, suc, ◌≡◌, ◌+◌, ◌-◌, ◌*◌, ◌/◌, ◌^◌, ◌<◌, ◌≤◌, List, [], ◌∷◌, ◌++◌, length, take, refl, ap, ◌∙◌, arith, replicate, slice_index}
 use Rattle.std.proofs.lemmas.Bool.{cases_lt}
 use Rattle.std.proofs.Math.Pow.{pow-add, pow_mono}
 use Rattle.std.proofs.Math.Seq.{take-append_seam}

@@ -1,6 +1,6 @@
 -- Lists in which no two have one name.
-use Rattle.std.proofs.Common.{◌≡◌, ◌≢◌, Bool, true, false, cond, List, [], ◌∷◌, ◌++◌, map, filter, length, ◌<◌, sym, subst, ◌∙◌, arith, AllPairs}
-use Rattle.pfair_weight.proofs.Common.{bytes_decides, NameValue, name_eq, NamesApart}
+use Rattle.std.proofs.Common.{◌≢◌, Bool, cond, map, filter, AllPairs}
+use Rattle.pfair_weight.proofs.Common.{bytes_decides, NameValue, name_eq, NamesApart, ◌≡◌, true, false, List, [], ◌∷◌, ◌++◌, length, ◌<◌, sym, subst, ◌∙◌, arith}
 use Rattle.std.specs.List.{AllByRecursion, IsDistinct}
 use Rattle.std.proofs.SliceLists.{all_by_recursion_push}
 use Rattle.std.proofs.lemmas.List.{get_or-map, length-map, map_push}

@@ -1,9 +1,8 @@
 -- Names, and the bytes that store them.
-use Rattle.std.proofs.Common.{ℕ, zero, suc, ◌≡◌, ◌+◌, ◌-◌, ◌<◌, ◌≤◌, ◌==◌, true, false, List, [], ◌∷◌, ◌++◌, length, get_or, drop, sym, ap, ◌∙◌, subst, arith, replicate, slice_index}
-use Rattle.pfair_weight.proofs.Common.{slice_cmp, nat_cmp, ordering_then, may_stand, IsTaskName, before_zero, with_zeros, IsPadded}
+use Rattle.std.proofs.Common.{◌==◌, drop}
+use Rattle.pfair_weight.proofs.Common.{slice_cmp, nat_cmp, ordering_then, may_stand, IsTaskName, before_zero, with_zeros, IsPadded, ℕ, zero, suc, ◌≡◌, ◌+◌, ◌-◌, ◌<◌, ◌≤◌, true, false, List, [], ◌∷◌, ◌++◌, length, get_or, sym, ap, ◌∙◌, subst, arith, replicate, slice_index, nat_tests}
 use Rattle.std.specs.declared.cmp.Ordering.TheVariants.{Equal}
 use Rattle.std.proofs.lemmas.Bool.{ne_eqb}
-use Rattle.std.proofs.lemmas.Bool.Decides.{nat_tests}
 use Rattle.std.proofs.lemmas.Cmp.{nat_list_cmp_total, tied_itself}
 use Rattle.std.proofs.lemmas.List.{drop-replicate}
 

@@ -3,8 +3,16 @@ pub use Rattle.pfair_entry.specs.Entry.{IsEntry, IsWeighed, Logged}
 pub use Rattle.pfair_entry.specs.Notice.{IsNamed, IsWellSaid, noticed}
 pub use Rattle.pfair_entry.specs.declared.entry.Announcement.{Announcement}
 pub use Rattle.pfair_entry.specs.declared.entry.Announcement.TheVariants.{Arrive, Depart, Late}
+pub use Rattle.pfair_entry_row.specs.Faults.{SaysNothing}
+pub use Rattle.pfair_entry_row.specs.Fields.{parts}
 pub use Rattle.pfair_entry_row.specs.Row.{HasNoComma, HasNone, IsEntryAt, IsSayable, IsSpelled, IsSpelledOut, announced_fields, dash, entry_fields, entry_row, said_fields, truth}
+pub use Rattle.pfair_text.proofs.NameFacts.{is_plain-name}
 pub use Rattle.pfair_text.proofs.RowFacts.{is_plain-decimal}
+pub use Rattle.pfair_text.specs.Rows.{is_plain}
+pub use Rattle.std.proofs.Common.{arith, ℕ, ◌≡◌, List, Some, None, Option, ◌<◌, length, sym, ◌∙◌, ◌∷◌, ◌^◌, true, [], ◌==◌, Ok, refl, ap, ◌≢◌, Bool, false, ◌≤◌, ◌+◌, cond, ltb, Err}
+pub use Rattle.std.proofs.lemmas.Bool.Decides.{nat_tests}
+pub use Rattle.std.proofs.lemmas.Grind.{common_steps}
 pub use Rattle.std.proofs.lemmas.List.Splits.{join_with_byte-slice_split, length-slice_split, slice_split_at, slice_split_first, slice_split_none}
+pub use Rattle.std.proofs.lemmas.List.Sums.{fails_before_first}
 pub use Rattle.std.specs.Fmt.{decimal}
 pub use Rattle.std.specs.List.{All, AllByRecursion, join_with_byte, list_all, list_any, position_or_len}

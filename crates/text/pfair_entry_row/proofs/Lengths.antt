@@ -1,7 +1,6 @@
 -- How long rows are.
-use Rattle.std.proofs.lemmas.Grind.{common_steps}
-use Rattle.std.proofs.Common.{ℕ, Bool, true, false, List, [], ◌∷◌, ◌<◌, ◌≤◌, ◌+◌, ◌^◌, arith, length, length-append, Option, None, Some}
-use Rattle.pfair_entry_row.proofs.Common.{join_with_byte, decimal, Announcement, Arrive, Depart, Late, IsNamed, IsWellSaid, truth, announced_fields, said_fields, IsSpelled, IsSpelledOut}
+use Rattle.std.proofs.Common.{length-append}
+use Rattle.pfair_entry_row.proofs.Common.{join_with_byte, decimal, Announcement, Arrive, Depart, Late, IsNamed, IsWellSaid, truth, announced_fields, said_fields, IsSpelled, IsSpelledOut, common_steps, ℕ, Bool, true, false, List, [], ◌∷◌, ◌<◌, ◌≤◌, ◌+◌, ◌^◌, arith, length, Option, None, Some}
 use Rattle.std.proofs.lemmas.Fmt.{length-decimal-le}
 use Rattle.pfair_entry_row.specs.Laws.{RowsAreShort}
 use Rattle.pfair_entry_row.proofs.Refused.{sayable}

@@ -1,10 +1,9 @@
 -- Rows as lines of a text.
-use Rattle.std.proofs.Common.{ℕ, Bool, true, false, List, [], ◌∷◌, ◌++◌, ◌≡◌, ◌≢◌, ◌==◌, refl, zero, suc, arith, length, Option, None, Some, append_assoc, not}
-use Rattle.pfair_entry_row.proofs.Common.{All, AllByRecursion, join_with_byte, list_all, list_any, slice_split_at, Logged, Announcement, Arrive, Depart, Late, is_plain-decimal, IsNamed, IsWellSaid, truth, announced_fields, said_fields, entry_fields, IsEntryAt, IsSpelled, IsSpelledOut}
+use Rattle.std.proofs.Common.{◌++◌, zero, suc, append_assoc, not}
+use Rattle.pfair_entry_row.proofs.Common.{All, AllByRecursion, join_with_byte, list_all, list_any, slice_split_at, Logged, Announcement, Arrive, Depart, Late, is_plain-decimal, IsNamed, IsWellSaid, truth, announced_fields, said_fields, entry_fields, IsEntryAt, IsSpelled, IsSpelledOut, ℕ, Bool, true, false, List, [], ◌∷◌, ◌≡◌, ◌≢◌, ◌==◌, refl, arith, length, Option, None, Some, is_plain, is_plain-name}
 use Rattle.std.proofs.lemmas.Bool.{and_from, and_parts, eqb-false, ne_eqb, not-true, or_parts}
-use Rattle.pfair_text.specs.Rows.{is_mark, is_plain}
+use Rattle.pfair_text.specs.Rows.{is_mark}
 use Rattle.pfair_entry_row.specs.Laws.{RowsAreLines, TextsAreRows}
-use Rattle.pfair_text.proofs.NameFacts.{is_plain-name}
 use Rattle.pfair_entry_row.proofs.Refused.{sayable}
 
 -- no line ends in these bytes

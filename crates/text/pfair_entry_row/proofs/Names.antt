@@ -1,9 +1,7 @@
 -- What stands in a field as it is has no comma: numbers and words.
-use Rattle.std.proofs.Common.{arith, ℕ, ◌≡◌, ◌<◌, ◌^◌, true, List}
-use Rattle.pfair_entry_row.proofs.Common.{decimal, is_plain-decimal, HasNoComma}
+use Rattle.pfair_entry_row.proofs.Common.{decimal, is_plain-decimal, HasNoComma, arith, ℕ, ◌≡◌, ◌<◌, ◌^◌, true, List, is_plain}
 use Rattle.std.proofs.lemmas.Bool.{both_ways}
 use Rattle.std.proofs.lemmas.List.Folds.{list_any_at}
-use Rattle.pfair_text.specs.Rows.{is_plain}
 
 -- what is plain has no comma
 pub no_comma-plain : (bytes : List ℕ) → is_plain bytes ≡ true → HasNoComma bytes

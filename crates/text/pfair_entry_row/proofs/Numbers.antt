@@ -1,6 +1,6 @@
 -- Numbers as they are written.
-use Rattle.std.proofs.Common.{ℕ, List, ◌≡◌, ◌≢◌, ◌<◌, ◌^◌, ap, ◌∙◌, sym, subst, Result, Option, Ok, Err, None, Some, MatchResult}
-use Rattle.pfair_entry_row.proofs.Common.{decimal}
+use Rattle.std.proofs.Common.{subst, Result, MatchResult}
+use Rattle.pfair_entry_row.proofs.Common.{decimal, ℕ, List, ◌≡◌, ◌≢◌, ◌<◌, ◌^◌, ap, ◌∙◌, sym, Option, Ok, Err, None, Some}
 use Rattle.std.specs.Result.{result_ok}
 use Rattle.std.specs.Str.{IsUtf8}
 use Rattle.std.specs.Str.Parse.{ParsesUnsigned}

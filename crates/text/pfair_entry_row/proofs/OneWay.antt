@@ -1,7 +1,7 @@
 -- A row is read one way.
-use Rattle.std.proofs.Common.{arith, ℕ, List, ◌≡◌, ◌⊎◌, inl, inr, refl, sym, ◌∙◌, ap, Ok, Err}
-use Rattle.pfair_entry_row.proofs.Common.{Logged, entry_row, IsEntryAt}
-use Rattle.pfair_entry_row.specs.Faults.{IsRowFaultOf, SaysNothing, SaysWhatIsRefused}
+use Rattle.std.proofs.Common.{◌⊎◌, inl, inr}
+use Rattle.pfair_entry_row.proofs.Common.{Logged, entry_row, IsEntryAt, arith, ℕ, List, ◌≡◌, refl, sym, ◌∙◌, ap, Ok, Err, SaysNothing}
+use Rattle.pfair_entry_row.specs.Faults.{IsRowFaultOf, SaysWhatIsRefused}
 use Rattle.pfair_entry_row.specs.Laws.{RowsAreReadOneWay}
 use Rattle.pfair_entry_row.specs.declared.fault.RowFault.{RowFault}
 use Rattle.pfair_entry_row.specs.declared.fault.RowFault.TheVariants.{NoRow, Refused, NoSuchProcessor, NumberOutOfRange}

@@ -1,7 +1,5 @@
 -- A run whose beginning alone is known goes on as one in which nothing runs any more.
-use Rattle.std.proofs.Common.{◌≡◌, ℕ, zero, suc, ◌<◌, ◌≤◌, min, true, false, cond, ◌&&◌, [], length, arith, ap, sym, ◌∙◌, subst, inl, inr, ◌⊎◌, nat_lt}
-use Rattle.pfair_optimal.proofs.Common.{cases_lt, and_parts, and_from, ltb-true, lt-ltb, le-ltb, Task, Subtask, is_among, NoneTwice, same_task, same_subtask, previous_of, Schedule, deadline, busy_bound, is_row, has_run, IsRun, IsNext}
-use Rattle.std.proofs.Math.Logic.{⊎_map}
+use Rattle.pfair_optimal.proofs.Common.{cases_lt, and_parts, and_from, ltb-true, lt-ltb, le-ltb, Task, Subtask, is_among, NoneTwice, same_task, same_subtask, previous_of, Schedule, deadline, busy_bound, is_row, has_run, IsRun, IsNext, ◌≡◌, ℕ, zero, suc, ◌<◌, ◌≤◌, min, true, false, cond, ◌&&◌, [], length, arith, ap, sym, ◌∙◌, subst, inl, inr, ◌⊎◌, nat_lt, ⊎_map}
 use Rattle.pfair_optimal.specs.Beginning.{IsRunBelow}
 use Rattle.pfair_optimal.proofs.Past.{ran_at, ran_by}
 use Rattle.pfair_optimal.proofs.Counting.{none_misses, each_in_time}

@@ -1,8 +1,6 @@
 -- Blocks: holes, and the full slot that ends them. What a block's first slot leaves over is paid by its full slot.
-use Rattle.std.proofs.Common.{◌≡◌, ℕ, zero, suc, ◌+◌, ◌-◌, ◌*◌, ◌<◌, ◌≤◌, Bool, true, false, cond, [], ◌∷◌, arith, ap, refl, sym, subst, inl, inr, ⊎_elim, nat_lt}
-use Rattle.pfair_optimal.proofs.Common.{true≢false, cases_lt, cases_Bool, lt-ltb, le-ltb, le_refl, Task, Subtask, is_among, same_task, same_subtask, Schedule, IsRun, IsFirstMiss}
+use Rattle.pfair_optimal.proofs.Common.{true≢false, cases_lt, cases_Bool, lt-ltb, le-ltb, le_refl, Task, Subtask, is_among, same_task, same_subtask, Schedule, IsRun, IsFirstMiss, ◌≡◌, ℕ, zero, suc, ◌+◌, ◌-◌, ◌*◌, ◌<◌, ◌≤◌, Bool, true, false, cond, [], ◌∷◌, arith, ap, refl, sym, subst, inl, inr, ⊎_elim, nat_lt, mul-le}
 use Rattle.std.proofs.lemmas.Bool.Decides.{nat_tests}
-use Rattle.std.proofs.lemmas.Nat.{mul-le}
 use Rattle.pfair_optimal.proofs.Lists.{among_cases}
 use Rattle.pfair_optimal.proofs.Past.{task_exact, subtask_exact}
 use Rattle.pfair_optimal.proofs.Reasons.{picks, is_full, In}

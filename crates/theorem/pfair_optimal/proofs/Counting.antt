@@ -1,8 +1,7 @@
 -- The count: all that the set needed, in units, against the rows that it had. There is no first miss.
-use Rattle.std.proofs.Common.{◌≡◌, ℕ, zero, suc, ◌+◌, ◌-◌, ◌*◌, ◌/◌, ◌<◌, ◌≤◌, Bool, true, false, cond, List, [], ◌∷◌, length, arith, ap, refl, sym, ◌∙◌, subst}
-use Rattle.pfair_optimal.proofs.Common.{false≢true, le_refl, lt_of_not-le, units_of, fluid_of, Task, Subtask, is_among, NoneTwice, same_task, same_subtask, Schedule, deadline, is_row, has_run, IsRun, IsNext, IsMiss, IsFirstMiss}
+use Rattle.pfair_optimal.proofs.Common.{false≢true, le_refl, lt_of_not-le, units_of, fluid_of, Task, Subtask, is_among, NoneTwice, same_task, same_subtask, Schedule, deadline, is_row, has_run, IsRun, IsNext, IsMiss, IsFirstMiss, ◌≡◌, ℕ, zero, suc, ◌+◌, ◌-◌, ◌*◌, ◌/◌, ◌<◌, ◌≤◌, Bool, true, false, cond, List, [], ◌∷◌, length, arith, ap, refl, sym, ◌∙◌, subst, mul-le}
 use Rattle.std.proofs.lemmas.List.{length-append}
-use Rattle.std.proofs.lemmas.Nat.{mul-le, div-add-mod'}
+use Rattle.std.proofs.lemmas.Nat.{div-add-mod'}
 use Rattle.pfair_optimal.proofs.Fluids.{fluid_none, fluid_whole, fluid_rises}
 use Rattle.pfair_optimal.proofs.Lists.{among_here, among_more, among_cases}
 use Rattle.pfair_optimal.proofs.Past.{task_exact, subtask_exact}

@@ -1,9 +1,6 @@
 -- The ends of windows, by products.
-use Rattle.std.proofs.Common.{◌≡◌, ℕ, ◌+◌, ◌-◌, ◌*◌, ◌/◌, ◌<◌, ◌≤◌, arith}
-use Rattle.pfair_optimal.proofs.Common.{le_refl, div-lt_iff_lt-mul, Share, lt_of_mul, mul_le_of_div, b_bit_of}
-use Rattle.std.specs.Int.{div_ceil}
+use Rattle.pfair_optimal.proofs.Common.{le_refl, div-lt_iff_lt-mul, Share, lt_of_mul, mul_le_of_div, b_bit_of, ◌≡◌, ℕ, ◌+◌, ◌-◌, ◌*◌, ◌/◌, ◌<◌, ◌≤◌, arith, div_ceil, mul-le}
 use Rattle.std.proofs.lemmas.Grind.{div_ceil_times}
-use Rattle.std.proofs.lemmas.Nat.{mul-le}
 
 -- a product that grows with its first factor
 pub grow : (x y a : ℕ) → x ≤ y → x * a ≤ y * a

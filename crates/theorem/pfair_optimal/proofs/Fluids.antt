@@ -1,7 +1,5 @@
 -- Shares of slots in the fluid schedule.
-use Rattle.std.proofs.Common.{◌≡◌, ℕ, zero, suc, ◌+◌, ◌-◌, ◌*◌, ◌<◌, ◌≤◌, min, arith, ap, sym, inl, inr, ◌↔◌}
-use Rattle.pfair_optimal.proofs.Common.{cases_lt, Share, IsWeight, one_less, release_of, deadline_of, b_bit_of, fluid_of, share_of, total_before}
-use Rattle.pfair_weight.specs.WindowFacts.{release_rises}
+use Rattle.pfair_optimal.proofs.Common.{cases_lt, Share, IsWeight, one_less, release_of, deadline_of, b_bit_of, fluid_of, share_of, total_before, ◌≡◌, ℕ, zero, suc, ◌+◌, ◌-◌, ◌*◌, ◌<◌, ◌≤◌, min, arith, ap, sym, inl, inr, ◌↔◌, release_rises}
 use Rattle.pfair_optimal.proofs.Ends.{grow, opening, closing, pinned, opening_next, next_near, b_bit_between}
 
 -- nothing before the release

@@ -1,7 +1,5 @@
 -- What is among lists, by a test of being the same.
-use Rattle.std.proofs.Common.{◌≡◌, Bool, true, List, [], ◌∷◌, ◌++◌, ap, refl, sym, ◌∙◌, inl, inr, ⊎_elim, arith, ◌↔◌, ◌⊎◌, ◌&&◌, filter}
-use Rattle.pfair_optimal.proofs.Common.{and_parts, and_from, false_from_ne_true, false≢true, or_cases, or_left, or_right, is_among, NoneTwice}
-use Rattle.std.specs.List.{list_any}
+use Rattle.pfair_optimal.proofs.Common.{and_parts, and_from, false_from_ne_true, false≢true, or_cases, or_left, or_right, is_among, NoneTwice, ◌≡◌, Bool, true, List, [], ◌∷◌, ◌++◌, ap, refl, sym, ◌∙◌, inl, inr, ⊎_elim, arith, ◌↔◌, ◌⊎◌, ◌&&◌, filter, list_any}
 use Rattle.std.proofs.lemmas.List.Folds.{list_any-append}
 use Rattle.std.proofs.lemmas.Map.Views.{any-filter_same}
 

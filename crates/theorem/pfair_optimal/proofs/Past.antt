@@ -1,6 +1,5 @@
 -- Subtasks that are the same, and those that ran before a time.
-use Rattle.std.proofs.Common.{◌≡◌, ℕ, zero, suc, ◌+◌, ◌-◌, ◌<◌, ◌≤◌, true, false, arith, ◌↔◌}
-use Rattle.pfair_optimal.proofs.Common.{false≢true, and_parts, and_from, eqb-true, eq-eqb, Task, Subtask, same_task, same_subtask, next_of, previous_of, Schedule, is_row, has_run, IsRun}
+use Rattle.pfair_optimal.proofs.Common.{false≢true, and_parts, and_from, eqb-true, eq-eqb, Task, Subtask, same_task, same_subtask, next_of, previous_of, Schedule, is_row, has_run, IsRun, ◌≡◌, ℕ, zero, suc, ◌+◌, ◌-◌, ◌<◌, ◌≤◌, true, false, arith, ◌↔◌}
 use Rattle.std.specs.Cmp.Lexicographic.{bytes_decides}
 
 pub task_exact : (a b : Task) → (same_task a b ≡ true) ↔ (a ≡ b)

@@ -1,7 +1,6 @@
 -- Windows in a run.
-use Rattle.std.proofs.Common.{◌≡◌, ℕ, zero, suc, ◌+◌, ◌<◌, ◌≤◌, arith}
-use Rattle.pfair_optimal.proofs.Common.{Task, Subtask, next_of, Schedule, release, deadline, b_bit, busy_bound, IsRun, GoesFirst}
-use Rattle.pfair_weight.specs.WindowFacts.{window_not_empty, release_rises, deadline_rises_strictly, windows_overlap, b_bit_at_most_one}
+use Rattle.pfair_optimal.proofs.Common.{Task, Subtask, next_of, Schedule, release, deadline, b_bit, busy_bound, IsRun, GoesFirst, ◌≡◌, ℕ, zero, suc, ◌+◌, ◌<◌, ◌≤◌, arith, release_rises, deadline_rises_strictly, windows_overlap, b_bit_at_most_one}
+use Rattle.pfair_weight.specs.WindowFacts.{window_not_empty}
 
 module _ (x : Schedule) (is : IsRun x) where
   -- offsets never fall

@@ -1,6 +1,5 @@
 -- The shares that one task's subtasks have of a slot.
-use Rattle.std.proofs.Common.{◌≡◌, ℕ, suc, ◌+◌, ◌-◌, ◌<◌, ◌≤◌, true, false, cond, [], ◌∷◌, arith, ap, refl, sym, ◌∙◌, subst, inl, inr, ⊎_elim, ◌⊎◌}
-use Rattle.pfair_optimal.proofs.Common.{true≢false, cases_lt, cases_eq, lt_of_not-le, release_of, share_of, Task, Subtask, is_among, NoneTwice, same_task, same_subtask, Schedule, release, deadline, busy_bound, IsRun, IsFirstMiss}
+use Rattle.pfair_optimal.proofs.Common.{true≢false, cases_lt, cases_eq, lt_of_not-le, release_of, share_of, Task, Subtask, is_among, NoneTwice, same_task, same_subtask, Schedule, release, deadline, busy_bound, IsRun, IsFirstMiss, ◌≡◌, ℕ, suc, ◌+◌, ◌-◌, ◌<◌, ◌≤◌, true, false, cond, [], ◌∷◌, arith, ap, refl, sym, ◌∙◌, subst, inl, inr, ⊎_elim, ◌⊎◌}
 use Rattle.pfair_optimal.proofs.Fluids.{share_in_window, shares_fit, shares_meet, no_three_shares}
 use Rattle.pfair_optimal.proofs.BusyBounds.{busy_opens}
 use Rattle.pfair_optimal.proofs.Lists.{among_here, among_more}

@@ -1,6 +1,6 @@
 -- Sums over lists.
-use Rattle.std.proofs.Common.{◌≡◌, ℕ, ◌+◌, ◌*◌, ◌<◌, ◌≤◌, Bool, true, false, cond, not, List, [], ◌∷◌, length, arith, ap, refl, sym, ◌∙◌, subst, inl, inr, ◌↔◌, ◌⊎◌, filter, sum_by}
-use Rattle.pfair_optimal.proofs.Common.{true≢false, false≢true, cases_lt, cases_Bool, not_from_false, is_among, NoneTwice}
+use Rattle.std.proofs.Common.{sum_by}
+use Rattle.pfair_optimal.proofs.Common.{true≢false, false≢true, cases_lt, cases_Bool, not_from_false, is_among, NoneTwice, ◌≡◌, ℕ, ◌+◌, ◌*◌, ◌<◌, ◌≤◌, Bool, true, false, cond, not, List, [], ◌∷◌, length, arith, ap, refl, sym, ◌∙◌, subst, inl, inr, ◌↔◌, ◌⊎◌, filter}
 use Rattle.std.proofs.lemmas.List.Sums.{sum_by-cons}
 use Rattle.pfair_optimal.proofs.Lists.{among_here, among_more, among_cases, filter_among}
 

@@ -1,13 +1,24 @@
 -- The names that many of these proofs cite, passed on from one place. Declares nothing.
+pub use Rattle.pfair_board.specs.Finish.{IsGood, IsFullDesk, IsRunOf}
 pub use Rattle.pfair_board.specs.FirstFault.{Holds, IsFirstFault, SomeEndsIn}
 pub use Rattle.pfair_board.specs.Sinks.{has_first, has_kept}
+pub use Rattle.pfair_board.specs.WorkerFaults.{IsWorkerFault}
 pub use Rattle.pfair_board.specs.Works.{AreWorks, HasLearned, IsAtWork, IsWorkOf, IsWorkplaceOf}
 pub use Rattle.pfair_board.specs.declared.threads.Worked.{Worked}
 pub use Rattle.pfair_desk.proofs.Rows.{each_snoc}
+pub use Rattle.pfair_desk.specs.Boards.{BoardFrame}
 pub use Rattle.pfair_desk.specs.Desks.{DeskState, DeskView, GrownDesk, IsDeskOf}
+pub use Rattle.pfair_entry.specs.Entry.{Logged}
+pub use Rattle.pfair_replica.specs.Replica.{Below}
 pub use Rattle.pfair_replica.specs.ReplicaRows.{ReplicaRows, held, replica_of}
 pub use Rattle.pfair_table.specs.Planned.{as_tables}
+pub use Rattle.pfair_table.specs.Refinement.{Dispatch}
 pub use Rattle.pfair_table.specs.Script.{LoggedRun, capacity_of, replica_of_logs}
 pub use Rattle.pfair_table.specs.Table.{Settings, Table, plan}
+pub use Rattle.pfair_table.specs.declared.answer.RunFault.{RunFault}
+pub use Rattle.std.proofs.Common.{◌≡◌, Some, slice_get, arith, ℕ, subst, ◌∙◌, sym, vec_len, [], None, ap, length, ◌+◌, Err, ◌<◌, List, refl, Ok, ◌∷◌, IfOk, ◌≤◌, vec_capacity, rules, add-one, inl, inr, ⊎_elim, Option, Result, IsOk, IfErr, slice_index_or, OnOk}
+pub use Rattle.std.proofs.lemmas.Bool.{true≢false}
+pub use Rattle.std.proofs.lemmas.Grind.{common_steps}
 pub use Rattle.std.proofs.lemmas.Option.{get_or_from_slice_get, slice_get_read, slice_get_within}
+pub use Rattle.std.specs.List.{AllByRecursion}
 pub use Rattle.std.specs.Vec.Iter.{into_iter_items, into_iter_len}

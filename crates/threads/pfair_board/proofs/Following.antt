@@ -1,7 +1,5 @@
 -- What desks plan follows from what they hold.
-use Rattle.std.proofs.Common.{ℕ, refl, List, None}
-use Rattle.pfair_board.proofs.Common.{Settings}
-use Rattle.std.specs.List.{AllByRecursion}
+use Rattle.pfair_board.proofs.Common.{Settings, ℕ, refl, List, None, AllByRecursion}
 use Rattle.pfair_table.specs.Laws.{IsOf, OnePlan, OneTable}
 use Rattle.pfair_desk.specs.Steps.{Step, IsStep, empty_board, after_steps, desk_replica}
 use Rattle.pfair_desk.specs.Laws.{DesksAgree, DesksHoldReplicas}

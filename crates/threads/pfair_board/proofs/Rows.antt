@@ -1,14 +1,8 @@
 -- Facts of the works of a run, row by row.
-use Rattle.std.proofs.Common.{◌≡◌, ◌<◌, ℕ, List, [], ◌∷◌, length, slice_get, slice_index_or, Some, Ok, Err, IsOk, IfOk, subst, ap, sym, arith, None}
-use Rattle.pfair_board.proofs.Common.{as_tables, Table, plan, LoggedRun, replica_of_logs, Worked, IsWorkOf, has_kept}
-use Rattle.std.proofs.lemmas.Bool.{true≢false}
-use Rattle.pfair_replica.specs.Replica.{Replica, Below}
+use Rattle.pfair_board.proofs.Common.{as_tables, Table, plan, LoggedRun, replica_of_logs, Worked, IsWorkOf, has_kept, ◌≡◌, ◌<◌, ℕ, List, [], ◌∷◌, length, slice_get, slice_index_or, Some, Ok, Err, IsOk, IfOk, subst, ap, sym, arith, None, true≢false, Below, AllByRecursion, RunFault, BoardFrame, IsGood}
+use Rattle.pfair_replica.specs.Replica.{Replica}
 use Rattle.pfair_replica.specs.Laws.{IsLeastJoin}
-use Rattle.std.specs.List.{AllByRecursion}
 use Rattle.pfair_table.specs.Places.{IsFit}
-use Rattle.pfair_table.specs.declared.answer.RunFault.{RunFault}
-use Rattle.pfair_desk.specs.Boards.{BoardFrame}
-use Rattle.pfair_board.specs.Finish.{IsGood}
 
 -- the same work of a row that is known by other names
 pub work_moves : {K : Type 0} (has : K → ℕ → List Table → Type 0) (m : _) (b b' : BoardFrame) (r r' : LoggedRun) (k k' : ℕ) (w : Worked K) → b ≡ b' → r ≡ r' → k ≡ k' → IsWorkOf has m b r k w → IsWorkOf has m b' r' k' w

@@ -1,9 +1,6 @@
 -- What desks hold while a worker runs.
-use Rattle.std.proofs.Common.{arith, ◌∙◌, sym, subst, ℕ, inl, inr, ⊎_elim, List}
-use Rattle.pfair_board.proofs.Common.{Table, DeskView, GrownDesk, HasLearned, IsAtWork}
+use Rattle.pfair_board.proofs.Common.{Table, DeskView, GrownDesk, HasLearned, IsAtWork, arith, ◌∙◌, sym, subst, ℕ, inl, inr, ⊎_elim, List, Logged, Dispatch}
 use Rattle.pfair_lattice.specs.declared.join_map.Flat.TheVariants.{Torn}
-use Rattle.pfair_entry.specs.Entry.{Logged}
-use Rattle.pfair_table.specs.Refinement.{Dispatch}
 use Rattle.pfair_board.specs.Logs.{HasPublished}
 
 pub grown_trans : (a b c : DeskView) → GrownDesk a b → GrownDesk b c → GrownDesk a c

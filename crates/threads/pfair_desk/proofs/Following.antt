@@ -1,14 +1,9 @@
 -- What desks hold are entries of set cells, as they stand.
-use Rattle.std.proofs.Common.{arith, ℕ, ◌≡◌, refl, sym, ◌∙◌, subst, inl, inr, Bool, true, false, List, [], ◌∷◌, Option, Some, None}
-use Rattle.pfair_desk.proofs.Common.{One, Torn, Logged, IsEntry, Contents, only, contents_join, IsKey}
+use Rattle.pfair_desk.proofs.Common.{One, Torn, Logged, IsEntry, Contents, only, contents_join, IsKey, arith, ℕ, ◌≡◌, refl, sym, ◌∙◌, subst, inl, inr, Bool, true, false, List, [], ◌∷◌, Option, Some, None, HeldBelow, Flat, entry_eq, entry_exact}
 use Rattle.std.specs.Prelude.{◌⊎◌, ◌≢◌, ◌==◌, ◌&&◌, unwrap_or, if◌then◌else◌}
 use Rattle.std.specs.List.{AllByRecursion}
 use Rattle.std.proofs.lemmas.Bool.{eqb-true, and_parts}
-use Rattle.pfair_lattice.specs.Held.{HeldBelow}
-use Rattle.pfair_lattice.specs.declared.join_map.Flat.{Flat}
 use Rattle.pfair_lattice.specs.HeldLaws.{join_least, none_below, below_trans}
-use Rattle.pfair_entry.specs.Same.{entry_eq}
-use Rattle.pfair_entry.specs.Exact.{entry_exact}
 use Rattle.pfair_desk.specs.Steps.{State, Step, IsStep, Set, Get, Meet, empty_board, set_cell, with_cell, with_desk, after_get, after_step, after_steps, one_of, EachDeskBelow}
 use Rattle.pfair_desk.specs.Laws.{DesksStayBelow, DesksAgree, DesksHoldReplicas}
 

@@ -1,11 +1,8 @@
 -- How many keys are newly held.
-use Rattle.std.proofs.Common.{◌≡◌, ℕ, zero, suc, ◌+◌, ◌-◌, ◌<◌, ◌≤◌, Bool, true, false, not, cond, ◌&&◌, is_some, is_none, Some, None, IsSome, length, inl, inr, refl, sym, ap, ◌∙◌, subst, arith}
-use Rattle.pfair_desk.proofs.Common.{One, Logged, Replica, sound_beginning, held, replica_of, DeskView, DeskState, state_of, learned, is_gained, gained_in_row, gained_in_rows, SameDesk, NoGapInRow}
+use Rattle.std.proofs.Common.{not, ◌&&◌}
+use Rattle.pfair_desk.proofs.Common.{One, Logged, Replica, sound_beginning, held, replica_of, DeskView, DeskState, state_of, learned, is_gained, gained_in_row, gained_in_rows, SameDesk, NoGapInRow, ◌≡◌, ℕ, zero, suc, ◌+◌, ◌-◌, ◌<◌, ◌≤◌, Bool, true, false, cond, is_some, is_none, Some, None, IsSome, length, inl, inr, refl, sym, ap, ◌∙◌, subst, arith, Flat, Held, held_after}
 use Rattle.std.proofs.lemmas.Option.{slice_get_cases}
-use Rattle.pfair_lattice.specs.declared.join_map.Flat.{Flat}
-use Rattle.pfair_lattice.specs.Held.{Held}
 use Rattle.pfair_replica.specs.Laws.{IsReadByNumber}
-use Rattle.pfair_replica.specs.HeldAfter.{held_after}
 
 none_gained : (f g : Held Logged) → f ≡ g → (not (is_some f) && is_some g) ≡ false
 none_gained None g is = rw (← is) refl

@@ -1,6 +1,5 @@
 -- A list seen through a function of its elements, after a push or a write.
-use Rattle.std.proofs.Common.{◌≡◌, ℕ, ◌+◌, ◌<◌, List, [], ◌∷◌, ◌++◌, length, map, take, Option, Some, None, slice_index_or, slice_set, replicate, sym, ap, ◌∙◌, arith, IfSome}
-use Rattle.pfair_desk.proofs.Common.{map-append, take_more, replicate_more, get_or-map, length-map, map-set, Logged, Agrees, Knowledge, knowing, shared, KnowMore}
+use Rattle.pfair_desk.proofs.Common.{map-append, take_more, replicate_more, get_or-map, length-map, map-set, Logged, Agrees, Knowledge, knowing, shared, KnowMore, ◌≡◌, ℕ, ◌+◌, ◌<◌, List, [], ◌∷◌, ◌++◌, length, map, take, Option, Some, None, slice_index_or, slice_set, replicate, sym, ap, ◌∙◌, arith, IfSome}
 use Rattle.std.proofs.Math.Seq.{map-set_same}
 use Rattle.std.proofs.Math.ListN.{get_or-map as seen_or}
 use Rattle.once_cell.specs.declared.race.note.Note.{Note}

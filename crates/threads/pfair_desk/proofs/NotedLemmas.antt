@@ -1,17 +1,12 @@
 -- What the notes know of the contents.
-use Rattle.std.proofs.lemmas.Grind.{common_steps, get_or-set_at}
-use Rattle.std.proofs.Common.{◌≡◌, ⊎_elim, ℕ, ◌+◌, ◌*◌, ◌<◌, ◌≤◌, List, length, Option, Some, None, slice_index_or, slice_set, replicate, refl, sym, ap, ◌∙◌, subst, arith, IfSome}
-use Rattle.pfair_desk.proofs.Common.{get_or_past, length-set, get_or-set_same, get_or-set_other, length-replicate, One, Torn, Logged, Replica, with_entry, empty_replica, join, Below, Untorn, ReplicaRows, IsShape, SameShape, IsKey, place_of, DeskView, Keeps, Knowledge, knowing, IsNoted, AllNoted, Grows, KnowMore, IsInOrder}
+use Rattle.std.proofs.lemmas.Grind.{get_or-set_at}
+use Rattle.pfair_desk.proofs.Common.{get_or_past, length-set, get_or-set_same, get_or-set_other, length-replicate, One, Torn, Logged, Replica, with_entry, empty_replica, join, Below, Untorn, ReplicaRows, IsShape, SameShape, IsKey, place_of, DeskView, Keeps, Knowledge, knowing, IsNoted, AllNoted, Grows, KnowMore, IsInOrder, common_steps, ◌≡◌, ⊎_elim, ℕ, ◌+◌, ◌*◌, ◌<◌, ◌≤◌, List, length, Option, Some, None, slice_index_or, slice_set, replicate, refl, sym, ap, ◌∙◌, subst, arith, IfSome, Held, HeldBelow, Flat, entry_eq, entry_exact, held_after}
 use Rattle.std.proofs.lemmas.Nat.{mul-add-lt}
 use Rattle.std.proofs.Math.Nat.{mul_comm}
-use Rattle.pfair_lattice.specs.Held.{Held, held_join, HeldBelow}
-use Rattle.pfair_lattice.specs.declared.join_map.Flat.{Flat}
-use Rattle.pfair_entry.specs.Same.{entry_eq}
-use Rattle.pfair_entry.specs.Exact.{entry_exact}
+use Rattle.pfair_lattice.specs.Held.{held_join}
 use Rattle.pfair_replica.specs.Faults.{HoldsMore, IsMergeFaultOf}
 use Rattle.pfair_replica.specs.declared.answer.MergeFault.{MergeFault}
 use Rattle.pfair_replica.specs.declared.answer.MergeFault.TheVariants.{OtherShape, Memory}
-use Rattle.pfair_replica.specs.HeldAfter.{held_after}
 
 -- a note that comes to know e
 noted_known : (h : Held Logged) (known : Option Logged) (e : Logged) → IsNoted h known → IfSome known (λ y. y ≡ e) → IsNoted h (Some e)

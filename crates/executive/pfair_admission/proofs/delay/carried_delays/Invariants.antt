@@ -1,5 +1,4 @@
-use Rattle.std.proofs.Common.{◌≡◌, ◌++◌, map, take}
-use Rattle.pfair_admission.proofs.Common.{as_one, coming_delays, lowered, passed_delays}
+use Rattle.pfair_admission.proofs.Common.{as_one, coming_delays, lowered, passed_delays, ◌≡◌, ◌++◌, map, take}
 use Rattle.pfair_admission.proofs.delay.carried_delays.Given as goal
 
 abbrev pub invariant-loop-delay : goal.invariant-loop-delay

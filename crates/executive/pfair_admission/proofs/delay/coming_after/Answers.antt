@@ -1,5 +1,4 @@
-use Rattle.std.proofs.Common.{◌<◌, ◌++◌, ◌∷◌, [], ap, subst, sym, length, take, get_or, arith}
-use Rattle.pfair_admission.proofs.Common.{unwrap_or, take_more, Delay}
+use Rattle.pfair_admission.proofs.Common.{unwrap_or, take_more, Delay, ◌<◌, ◌++◌, ◌∷◌, [], ap, subst, sym, length, take, get_or, arith}
 use Rattle.pfair_admission.proofs.Coming.{AreComing, coming_earlier, coming_later, own_fits_one}
 use Rattle.pfair_admission.proofs.delay.coming_after.Goals as goal
 use Rattle.pfair_admission.proofs.delay.coming_after.Goals.{then-delay-next+in_ok-add_at, else-delay-next}

@@ -1,4 +1,4 @@
-use Rattle.std.proofs.Common.{take}
+use Rattle.pfair_admission.proofs.Common.{take}
 use Rattle.pfair_admission.proofs.Coming.{AreComing}
 use Rattle.pfair_admission.proofs.delay.coming_after.Given as goal
 

@@ -1,5 +1,4 @@
-use Rattle.std.proofs.Common.{take}
-use Rattle.pfair_admission.proofs.Common.{values_of, NoneFreedBefore}
+use Rattle.pfair_admission.proofs.Common.{values_of, NoneFreedBefore, take}
 use Rattle.pfair_admission.proofs.ledger.first_freeing.Given as goal
 
 abbrev pub invariant-loop-place : goal.invariant-loop-place

@@ -1,5 +1,4 @@
-use Rattle.std.proofs.Common.{rules}
-use Rattle.pfair_admission.proofs.Common.{filter-RetainsPairs}
+use Rattle.pfair_admission.proofs.Common.{filter-RetainsPairs, rules}
 use Rattle.pfair_admission.proofs.ledger.keep_present.Goals as goal
 
 pub returns-clause-entries : goal.returns-clause-entries

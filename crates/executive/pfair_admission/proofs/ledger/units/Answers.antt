@@ -1,5 +1,4 @@
-use Rattle.std.proofs.Common.{ap, ◌∙◌, arith}
-use Rattle.pfair_admission.proofs.Common.{values_of, Share, units_of}
+use Rattle.pfair_admission.proofs.Common.{values_of, Share, units_of, ap, ◌∙◌, arith}
 use Rattle.pfair_admission.proofs.MemberLists.{claimed_more, claimed_part}
 use Rattle.pfair_admission.proofs.ledger.units.Goals as goal
 

@@ -1,5 +1,4 @@
-use Rattle.std.proofs.Common.{◌≡◌, take}
-use Rattle.pfair_admission.proofs.Common.{values_of, claimed}
+use Rattle.pfair_admission.proofs.Common.{values_of, claimed, ◌≡◌, take}
 use Rattle.pfair_admission.proofs.ledger.units.Given as goal
 
 abbrev pub invariant-loop-place : goal.invariant-loop-place

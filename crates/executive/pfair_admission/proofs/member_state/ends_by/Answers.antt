@@ -1,5 +1,5 @@
-use Rattle.std.proofs.Common.{ℕ, ◌≡◌, ◌+◌, ◌<◌, false, arith, nat_le}
-use Rattle.pfair_admission.proofs.Common.{sum_by, nat_tests, sum_by_more_le, Delay}
+use Rattle.std.proofs.Common.{nat_le}
+use Rattle.pfair_admission.proofs.Common.{sum_by, nat_tests, sum_by_more_le, Delay, ℕ, ◌≡◌, ◌+◌, ◌<◌, false, arith}
 use Rattle.pfair_admission.proofs.member_state.ends_by.Goals as goal
 
 above : (n last : ℕ) → last < n → false ≡ nat_le n last

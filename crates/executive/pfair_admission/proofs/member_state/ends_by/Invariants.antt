@@ -1,5 +1,4 @@
-use Rattle.std.proofs.Common.{◌≡◌, ◌+◌, take}
-use Rattle.pfair_admission.proofs.Common.{sum_by}
+use Rattle.pfair_admission.proofs.Common.{sum_by, ◌≡◌, ◌+◌, take}
 use Rattle.pfair_admission.proofs.member_state.ends_by.Given as goal
 
 abbrev pub invariant-loop-delay : goal.invariant-loop-delay

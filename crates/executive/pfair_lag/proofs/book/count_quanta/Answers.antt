@@ -1,5 +1,4 @@
-use Rattle.std.proofs.Common.{sym, subst, arith}
-use Rattle.pfair_lag.proofs.Common.{common_steps, EachFits}
+use Rattle.pfair_lag.proofs.Common.{common_steps, EachFits, sym, subst, arith}
 use Rattle.pfair_lag.proofs.BookLemmas.{no_quanta, quanta_push, fits_quanta, names_more}
 use Rattle.pfair_lag.proofs.book.count_quanta.Goals as goal
 

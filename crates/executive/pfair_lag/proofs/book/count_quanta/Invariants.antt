@@ -1,5 +1,4 @@
-use Rattle.std.proofs.Common.{◌≡◌, map, take}
-use Rattle.pfair_lag.proofs.Common.{with_quanta}
+use Rattle.pfair_lag.proofs.Common.{with_quanta, ◌≡◌, map, take}
 use Rattle.pfair_lag.proofs.book.count_quanta.Given as goal
 
 abbrev pub invariant-loop-pick : goal.invariant-loop-pick

@@ -1,5 +1,4 @@
-use Rattle.std.proofs.Common.{arith}
-use Rattle.pfair_lag.proofs.Common.{common_steps}
+use Rattle.pfair_lag.proofs.Common.{common_steps, arith}
 use Rattle.pfair_lag.proofs.BookLemmas.{fits_at, quantum_written, quantum_of_stranger}
 use Rattle.pfair_lag.proofs.book.count_quantum.Goals as goal
 

@@ -1,4 +1,4 @@
-use Rattle.std.proofs.Common.{arith}
+use Rattle.pfair_lag.proofs.Common.{arith}
 use Rattle.pfair_lag.proofs.MissLemmas.{all_served}
 use Rattle.pfair_lag.proofs.deadlines.first_late.Goals as goal
 

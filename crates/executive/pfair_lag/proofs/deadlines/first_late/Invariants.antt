@@ -1,5 +1,4 @@
-use Rattle.std.proofs.Common.{ℕ, ◌≤◌, ◌<◌}
-use Rattle.pfair_lag.proofs.Common.{deadline_of, pick_of}
+use Rattle.pfair_lag.proofs.Common.{deadline_of, pick_of, ℕ, ◌≤◌, ◌<◌}
 use Rattle.pfair_lag.proofs.deadlines.first_late.Given as goal
 
 abbrev pub invariant-loop-place : goal.invariant-loop-place

@@ -1,4 +1,4 @@
-use Rattle.std.proofs.Common.{arith}
+use Rattle.pfair_lag.proofs.Common.{arith}
 use Rattle.pfair_lag.proofs.Counts.{length_le, rises}
 use Rattle.pfair_lag.proofs.fault.check_picks.Goals as goal
 

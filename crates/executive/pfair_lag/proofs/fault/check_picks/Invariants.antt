@@ -1,5 +1,4 @@
-use Rattle.std.proofs.Common.{ℕ, ◌<◌}
-use Rattle.pfair_lag.proofs.Common.{IsPick}
+use Rattle.pfair_lag.proofs.Common.{IsPick, ℕ, ◌<◌}
 use Rattle.pfair_lag.proofs.fault.check_picks.Given as goal
 
 abbrev pub invariant-loop-place : goal.invariant-loop-place

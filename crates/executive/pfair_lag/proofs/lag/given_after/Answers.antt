@@ -1,5 +1,4 @@
-use Rattle.std.proofs.Common.{◌≡◌, ◌∙◌, ℕ, get_or, arith, ap, sym}
-use Rattle.pfair_lag.proofs.Common.{quanta_before}
+use Rattle.pfair_lag.proofs.Common.{quanta_before, ◌≡◌, ◌∙◌, ℕ, get_or, arith, ap, sym}
 use Rattle.pfair_lag.proofs.Counts.{quanta_next_yes, quanta_next_no}
 use Rattle.pfair_lag.proofs.lag.given_after.Goals as goal
 use Rattle.pfair_lag.proofs.lag.given_after.Goals.{else-given-picks-via-then-given-picks+else-picks-given, else-given-picks-via-else-given-picks}

@@ -1,5 +1,4 @@
-use Rattle.std.proofs.Common.{◌≡◌, ◌+◌, ◌*◌, ◌<◌, ℕ, arith, ap, sym, refl}
-use Rattle.pfair_lag.proofs.Common.{common_steps, LagBelowOne, quanta_before}
+use Rattle.pfair_lag.proofs.Common.{common_steps, LagBelowOne, quanta_before, ◌≡◌, ◌+◌, ◌*◌, ◌<◌, ℕ, arith, ap, sym, refl}
 use Rattle.pfair_lag.proofs.Counts.{quanta_zero}
 use Rattle.pfair_lag.proofs.Agree.{lag_below_one, of_lag_below_one, lag_from_deadlines, deadlines_from_lag}
 use Rattle.pfair_lag.proofs.lag.lag_below.Goals as goal

@@ -1,5 +1,4 @@
-use Rattle.std.proofs.Common.{◌≡◌, ◌+◌, ◌*◌, ◌<◌, ℕ}
-use Rattle.pfair_lag.proofs.Common.{quanta_before}
+use Rattle.pfair_lag.proofs.Common.{quanta_before, ◌≡◌, ◌+◌, ◌*◌, ◌<◌, ℕ}
 use Rattle.pfair_lag.proofs.lag.lag_below.Given as goal
 
 abbrev pub invariant-loop-time : goal.invariant-loop-time

@@ -1,5 +1,4 @@
-use Rattle.std.specs.Prelude.{IsTrue, ◌↔◌}
-use Rattle.pfair_lag.proofs.Common.{InWindows}
+use Rattle.pfair_lag.proofs.Common.{InWindows, IsTrue, ◌↔◌}
 use Rattle.pfair_lag.proofs.Agree.{lag_within, in_windows}
 use Rattle.pfair_lag.proofs.MissLemmas.{none_found, misses_are_out}
 use Rattle.pfair_lag.proofs.windows.in_windows.Goals as goal

@@ -1,4 +1,4 @@
-use Rattle.std.proofs.Common.{◌≡◌, ◌≤◌, map, take, vec_capacity}
+use Rattle.pfair_ready.proofs.Common.{◌≡◌, ◌≤◌, map, take, vec_capacity}
 use Rattle.pfair_ready.proofs.Ready.take_seated.Given as goal
 
 abbrev pub invariant-loop-key : goal.invariant-loop-key

@@ -1,5 +1,4 @@
-use Rattle.std.proofs.Common.{◌≤◌, Contains}
-use Rattle.pfair_ready.proofs.Common.{Moves, heap_items}
+use Rattle.pfair_ready.proofs.Common.{Moves, heap_items, ◌≤◌, Contains}
 use Rattle.pfair_ready.proofs.CalendarLemmas.{IsFrom}
 use Rattle.pfair_ready.proofs.calendar.release_all.Given as goal
 

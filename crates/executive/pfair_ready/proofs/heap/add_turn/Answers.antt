@@ -1,9 +1,5 @@
-use Rattle.std.proofs.Common.{arith, sym, subst}
-use Rattle.pfair_ready.proofs.Common.{Turn, heap_items}
+use Rattle.pfair_ready.proofs.Common.{Turn, heap_items, arith, sym, subst, All-permutation, IsNumber, is_number}
 use Rattle.std.proofs.lemmas.List.Elements.{All-cons}
-use Rattle.std.proofs.lemmas.List.Sorted.{All-permutation}
-use Rattle.pfair_weight.specs.Number.{IsNumber}
-use Rattle.pfair_weight.proofs.ByteOrder.{is_number}
 use Rattle.pfair_ready.proofs.HeapLemmas.{pushed_more, pushed_top}
 use Rattle.pfair_ready.proofs.heap.add_turn.Goals as goal
 

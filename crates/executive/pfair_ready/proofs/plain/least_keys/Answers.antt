@@ -1,9 +1,7 @@
-use Rattle.std.proofs.Common.{◌≡◌, Vec, Global, refl, rules, sym, subst}
 use Rattle.std.proofs.lemmas.Iterator.{items_from_collect}
 use Rattle.std.proofs.lemmas.Iterator.Adapters.{YieldsList-from_vec}
 use Rattle.std.proofs.lemmas.Result.{IfOk-weaker}
-use Rattle.itertools.specs.Extremes.{IsKLeast, by_cmp}
-use Rattle.pfair_ready.proofs.Common.{Key, pd2_cmp}
+use Rattle.pfair_ready.proofs.Common.{Key, pd2_cmp, ◌≡◌, Vec, Global, refl, rules, sym, subst, IsKLeast, by_cmp}
 use Rattle.std.specs.Vec.Iter.{into_iter_items}
 use Rattle.pfair_ready.proofs.plain.least_keys.Goals as goal
 

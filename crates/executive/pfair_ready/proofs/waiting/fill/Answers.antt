@@ -1,5 +1,4 @@
-use Rattle.std.proofs.Common.{◌≡◌, Some, sym, ap, ◌∙◌, is_some}
-use Rattle.pfair_ready.proofs.Common.{HeldKey, held_under, queue_in}
+use Rattle.pfair_ready.proofs.Common.{HeldKey, held_under, queue_in, ◌≡◌, Some, sym, ap, ◌∙◌, is_some}
 use Rattle.std.specs.FinMap as finmap
 use Rattle.pfair_ready.proofs.WaitingLemmas.{entry_read, entry_kept, entry_filled, is_some_under}
 use Rattle.pfair_ready.proofs.waiting.fill.Goals as goal

@@ -1,5 +1,4 @@
-use Rattle.std.proofs.Common.{◌≡◌, Some, rules, sym, subst, ◌∙◌, slice_get}
-use Rattle.pfair_ready.proofs.Common.{bytes_decides, IsEntryOf}
+use Rattle.pfair_ready.proofs.Common.{bytes_decides, IsEntryOf, ◌≡◌, Some, rules, sym, subst, ◌∙◌, slice_get}
 use Rattle.pfair_ready.proofs.WaitingLemmas.{each_entry}
 use Rattle.pfair_ready.proofs.waiting.find.Goals as goal
 

@@ -1,6 +1,4 @@
-use Rattle.std.proofs.Common.{◌≡◌, Some, rules, sym, ap, subst, ◌∙◌, IfSome, slice_get}
-use Rattle.pfair_ready.proofs.Common.{NameValue, IsEntryOf}
-use Rattle.pfair_weight.specs.Number.{name_of}
+use Rattle.pfair_ready.proofs.Common.{NameValue, IsEntryOf, ◌≡◌, Some, rules, sym, ap, subst, ◌∙◌, IfSome, slice_get, name_of}
 use Rattle.pfair_ready.proofs.WaitingLemmas.{each_entry}
 use Rattle.pfair_ready.proofs.waiting.find_turn.Goals as goal
 

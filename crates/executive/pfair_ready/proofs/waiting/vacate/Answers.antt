@@ -1,8 +1,5 @@
-use Rattle.std.proofs.Common.{◌≡◌, None, Some, Option, refl, rules, sym, ap, ◌∙◌, is_some, slice_get}
-use Rattle.pfair_ready.proofs.Common.{same_Some, Key, HeldKey, NameValue, held_under, is_due, key_under, queue_in}
+use Rattle.pfair_ready.proofs.Common.{same_Some, Key, HeldKey, NameValue, held_under, is_due, key_under, queue_in, ◌≡◌, None, Some, Option, refl, rules, sym, ap, ◌∙◌, is_some, slice_get, Entry, name_of}
 use Rattle.std.specs.FinMap as finmap
-use Rattle.pfair_ready.specs.declared.waiting.Entry.{Entry}
-use Rattle.pfair_weight.specs.Number.{name_of}
 use Rattle.pfair_ready.proofs.WaitingLemmas.{entry_read, entry_kept, entry_vacated}
 use Rattle.pfair_ready.proofs.waiting.vacate.Goals as goal
 use Rattle.pfair_ready.proofs.waiting.vacate.Goals.{After-branch-held}

@@ -1,5 +1,4 @@
-use Rattle.std.proofs.Common.{◌∙◌, sym, arith}
-use Rattle.std.proofs.lemmas.Grind.{common_steps}
+use Rattle.pfair_order.proofs.Common.{◌∙◌, sym, arith, common_steps}
 use Rattle.pfair_order.proofs.OrderLemmas.{goes_before, compares_less, same_key, compares_equal}
 use Rattle.pfair_order.proofs.KeyOrd.cmp.Goals as goal
 

@@ -1,5 +1,4 @@
-use Rattle.std.proofs.Common.{sym, subst}
-use Rattle.pfair_order.proofs.Common.{pd2_cmp, AreFirst}
+use Rattle.pfair_order.proofs.Common.{pd2_cmp, AreFirst, sym, subst}
 use Rattle.pfair_order.proofs.KeyLaws.{keys_total}
 use Rattle.pfair_order.proofs.InOrder.{by_rank_first, first_by_rank_unique}
 use Rattle.pfair_order.proofs.laws.first_keys_are_by_rank.Goals as goal

@@ -1,5 +1,4 @@
-use Rattle.std.proofs.Common.{ℕ, ◌≡◌, sym, ap, ◌∙◌, arith, inl, inr}
-use Rattle.pfair_replica.proofs.Common.{Beginning, held_in}
+use Rattle.pfair_replica.proofs.Common.{Beginning, held_in, ℕ, ◌≡◌, sym, ap, ◌∙◌, arith, inl, inr}
 use Rattle.pfair_replica.proofs.Beginnings.{part_more, part_whole}
 use Rattle.pfair_replica.proofs.rows.carried_on.Goals as goal
 

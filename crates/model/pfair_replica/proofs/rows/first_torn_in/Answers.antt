@@ -1,5 +1,4 @@
-use Rattle.std.proofs.Common.{sym, ◌∙◌, arith}
-use Rattle.pfair_replica.proofs.Common.{common_steps, false≢true, held_in}
+use Rattle.pfair_replica.proofs.Common.{common_steps, false≢true, held_in, sym, ◌∙◌, arith}
 use Rattle.pfair_replica.proofs.FirstTorn.{torn_not_yet, torn_nowhere}
 use Rattle.pfair_replica.proofs.rows.first_torn_in.Goals as goal
 

@@ -1,5 +1,4 @@
-use Rattle.std.proofs.Common.{ℕ, ◌≤◌}
-use Rattle.pfair_replica.proofs.Common.{held_in, IsTornAt}
+use Rattle.pfair_replica.proofs.Common.{held_in, IsTornAt, ℕ, ◌≤◌}
 use Rattle.pfair_replica.proofs.rows.first_torn_in.Given as goal
 
 abbrev pub invariant-loop-before : goal.invariant-loop-before

@@ -1,5 +1,4 @@
-use Rattle.std.proofs.Common.{arith}
-use Rattle.pfair_replica.proofs.Common.{common_steps}
+use Rattle.pfair_replica.proofs.Common.{common_steps, arith}
 use Rattle.pfair_replica.proofs.Beginnings.{part_to_entry, part_to_none}
 use Rattle.pfair_replica.proofs.rows.part_before.Goals as goal
 

@@ -1,5 +1,4 @@
-use Rattle.std.proofs.Common.{arith}
-use Rattle.pfair_entry_row.proofs.Common.{length-slice_split}
+use Rattle.pfair_entry_row.proofs.Common.{length-slice_split, arith}
 use Rattle.pfair_entry_row.proofs.line.cut_fields.Goals as goal
 
 pub returns-then-is_some : goal.returns-then-is_some

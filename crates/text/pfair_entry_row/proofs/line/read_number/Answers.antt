@@ -1,4 +1,4 @@
-use Rattle.std.proofs.Common.{arith, ◌∙◌, sym}
+use Rattle.pfair_entry_row.proofs.Common.{arith, ◌∙◌, sym}
 use Rattle.std.specs.Cmp.Lexicographic.{bytes_decides}
 use Rattle.pfair_entry_row.proofs.Numbers.{no_text, not_read, read_is}
 use Rattle.pfair_entry_row.proofs.line.read_number.Goals as goal

@@ -1,4 +1,4 @@
-use Rattle.std.proofs.Common.{◌∙◌, sym}
+use Rattle.pfair_entry_row.proofs.Common.{◌∙◌, sym}
 use Rattle.pfair_entry_row.proofs.RowFields.{entry_row_injective}
 use Rattle.pfair_entry_row.specs.Line.{logged}
 use Rattle.pfair_entry_row.proofs.Refused.{read_back, sayable}

@@ -1,6 +1,4 @@
-use Rattle.std.proofs.Common.{arith}
-use Rattle.pfair_entry_row.proofs.Common.{is_plain-decimal}
-use Rattle.pfair_text.proofs.NameFacts.{is_plain-name}
+use Rattle.pfair_entry_row.proofs.Common.{is_plain-decimal, arith, is_plain-name}
 use Rattle.pfair_entry_row.proofs.write.add_entry.Goals as goal
 
 pub add_said-requires-in-Arrive-clause-plain : goal.add_said-requires-in-Arrive-clause-plain

@@ -1,5 +1,4 @@
-use Rattle.std.proofs.Common.{arith}
-use Rattle.pfair_entry_row.proofs.Common.{is_plain-decimal}
+use Rattle.pfair_entry_row.proofs.Common.{is_plain-decimal, arith}
 use Rattle.pfair_entry_row.proofs.write.add_said.Goals as goal
 
 pub add_row-requires-clause-plain : goal.add_row-requires-clause-plain

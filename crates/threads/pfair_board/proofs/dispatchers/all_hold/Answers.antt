@@ -1,5 +1,4 @@
-use Rattle.std.proofs.Common.{◌≡◌, ◌∙◌, subst, arith, ⊎_elim, Some, slice_get}
-use Rattle.pfair_board.proofs.Common.{slice_get_read, slice_get_within, get_or_from_slice_get, replica_of, Worked, Holds}
+use Rattle.pfair_board.proofs.Common.{slice_get_read, slice_get_within, get_or_from_slice_get, replica_of, Worked, Holds, ◌≡◌, ◌∙◌, subst, arith, ⊎_elim, Some, slice_get}
 use Rattle.std.proofs.lemmas.Bool.{cases_lt}
 use Rattle.pfair_board.proofs.dispatchers.all_hold.Goals as goal
 

@@ -1,5 +1,4 @@
-use Rattle.std.proofs.Common.{◌≡◌, ◌<◌, ℕ, slice_get, Some}
-use Rattle.pfair_board.proofs.Common.{replica_of, Worked, Holds}
+use Rattle.pfair_board.proofs.Common.{replica_of, Worked, Holds, ◌≡◌, ◌<◌, ℕ, slice_get, Some}
 use Rattle.pfair_board.proofs.dispatchers.all_hold.Given as goal
 
 abbrev pub invariant-loop-work : goal.invariant-loop-work

@@ -1,4 +1,4 @@
-use Rattle.std.proofs.Common.{arith}
+use Rattle.pfair_board.proofs.Common.{arith}
 use Rattle.pfair_board.proofs.dispatchers.first_fault.Goals as goal
 
 pub returns-then-slot-slots : goal.returns-then-slot-slots

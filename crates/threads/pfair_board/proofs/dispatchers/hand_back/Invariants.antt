@@ -1,7 +1,5 @@
-use Rattle.std.proofs.Common.{◌≡◌, ◌+◌, ℕ, slice_get, Some, vec_len}
-use Rattle.pfair_board.proofs.Common.{into_iter_items, into_iter_len, replica_of_logs, has_kept, DeskView}
+use Rattle.pfair_board.proofs.Common.{into_iter_items, into_iter_len, replica_of_logs, has_kept, DeskView, ◌≡◌, ◌+◌, ℕ, slice_get, Some, vec_len, IsGood, IsFullDesk, IsRunOf}
 use Rattle.pfair_table.specs.declared.planned.Run.{Run}
-use Rattle.pfair_board.specs.Finish.{IsGood, IsFullDesk, IsRunOf}
 use Rattle.pfair_board.proofs.dispatchers.hand_back.Given as goal
 
 -- what was taken apart is full, and what is left is good

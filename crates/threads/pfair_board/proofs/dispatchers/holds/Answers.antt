@@ -1,7 +1,4 @@
-use Rattle.std.proofs.Common.{◌∙◌, sym, subst}
-use Rattle.pfair_board.proofs.Common.{ReplicaRows, replica_of}
-use Rattle.std.proofs.lemmas.Bool.{true≢false}
-use Rattle.pfair_replica.specs.Replica.{Below}
+use Rattle.pfair_board.proofs.Common.{ReplicaRows, replica_of, ◌∙◌, sym, subst, true≢false, Below}
 use Rattle.pfair_board.proofs.dispatchers.holds.Goals.{then-is_ok, else-is_ok}
 use Rattle.pfair_board.proofs.dispatchers.holds.Goals as goal
 

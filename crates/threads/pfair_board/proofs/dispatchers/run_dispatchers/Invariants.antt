@@ -1,5 +1,4 @@
-use Rattle.std.proofs.Common.{◌≡◌, ◌≤◌, ℕ, [], Some, slice_get, vec_len, vec_capacity}
-use Rattle.pfair_board.proofs.Common.{as_tables}
+use Rattle.pfair_board.proofs.Common.{as_tables, ◌≡◌, ◌≤◌, ℕ, [], Some, slice_get, vec_len, vec_capacity}
 use Rattle.pfair_board.proofs.dispatchers.run_dispatchers.Given as goal
 
 -- so many are made, and none has a table

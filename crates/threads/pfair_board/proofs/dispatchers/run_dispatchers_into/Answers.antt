@@ -1,5 +1,4 @@
-use Rattle.std.proofs.Common.{subst, arith, None}
-use Rattle.pfair_board.proofs.Common.{plan, replica_of_logs, has_first}
+use Rattle.pfair_board.proofs.Common.{plan, replica_of_logs, has_first, subst, arith, None}
 use Rattle.pfair_board.proofs.Rows.{first_is, kept_plan, not_failed}
 use Rattle.pfair_board.proofs.dispatchers.run_dispatchers_into.Goals as goal
 

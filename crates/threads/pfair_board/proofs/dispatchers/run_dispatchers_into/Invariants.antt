@@ -1,5 +1,4 @@
-use Rattle.std.proofs.Common.{◌≡◌, ◌≤◌, ℕ, [], Option, Some, slice_get, vec_len, vec_capacity}
-use Rattle.pfair_board.proofs.Common.{has_first}
+use Rattle.pfair_board.proofs.Common.{has_first, ◌≡◌, ◌≤◌, ℕ, [], Option, Some, slice_get, vec_len, vec_capacity}
 use Rattle.pfair_board.proofs.dispatchers.run_dispatchers_into.Given as goal
 
 -- so many are made, and the first has no tables

@@ -1,5 +1,4 @@
-use Rattle.std.proofs.Common.{◌≡◌, ◌∙◌, sym, subst, None, IfOk, length}
-use Rattle.pfair_board.proofs.Common.{plan, replica_of, capacity_of, replica_of_logs, IsFirstFault}
+use Rattle.pfair_board.proofs.Common.{plan, replica_of, capacity_of, replica_of_logs, IsFirstFault, ◌≡◌, ◌∙◌, sym, subst, None, IfOk, length}
 use Rattle.pfair_board.proofs.FirstFaults.{first_of, run_fault}
 use Rattle.pfair_board.proofs.Rows.{same_replica}
 use Rattle.pfair_board.proofs.dispatchers.run_on.Goals as goal

@@ -1,5 +1,4 @@
-use Rattle.std.proofs.Common.{arith}
-use Rattle.pfair_board.proofs.Common.{slice_get_read, slice_get_within, get_or_from_slice_get}
+use Rattle.pfair_board.proofs.Common.{slice_get_read, slice_get_within, get_or_from_slice_get, arith}
 use Rattle.pfair_board.proofs.dispatchers.some_ends_in.Goals.{in-Err+else-eq, in_default}
 use Rattle.pfair_board.proofs.dispatchers.some_ends_in.Goals as goal
 

@@ -1,5 +1,4 @@
-use Rattle.std.proofs.Common.{◌≡◌, ◌<◌, ℕ, slice_get, Some, Err}
-use Rattle.pfair_board.proofs.Common.{Worked}
+use Rattle.pfair_board.proofs.Common.{Worked, ◌≡◌, ◌<◌, ℕ, slice_get, Some, Err}
 use Rattle.pfair_board.proofs.dispatchers.some_ends_in.Given as goal
 
 -- none so far ends in it

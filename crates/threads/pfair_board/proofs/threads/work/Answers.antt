@@ -1,7 +1,5 @@
-use Rattle.std.proofs.Common.{◌≡◌, ◌∙◌, [], sym, subst, refl, OnOk, IfOk, IfErr, Ok, Err, Result, slice_index_or, None}
-use Rattle.pfair_board.proofs.Common.{get_or_from_slice_get, replica_of, plan}
+use Rattle.pfair_board.proofs.Common.{get_or_from_slice_get, replica_of, plan, ◌≡◌, ◌∙◌, [], sym, subst, refl, OnOk, IfOk, IfErr, Ok, Err, Result, slice_index_or, None, IsWorkerFault}
 use Rattle.pfair_board.specs.Logs.{HoldsLog}
-use Rattle.pfair_board.specs.WorkerFaults.{IsWorkerFault}
 use Rattle.pfair_board.proofs.threads.work.Goals.{in-Ok, in-Err}
 use Rattle.pfair_board.proofs.threads.work.Goals as goal
 

@@ -1,6 +1,4 @@
-use Rattle.std.proofs.Common.{◌≡◌, ◌+◌, ◌∷◌, [], rules, arith, ap, subst, add-one, length, slice_get, Some, vec_len}
-use Rattle.pfair_board.proofs.Common.{into_iter_items, DeskState, IsWorkplaceOf, each_snoc}
-use Rattle.std.proofs.lemmas.Grind.{common_steps}
+use Rattle.pfair_board.proofs.Common.{into_iter_items, DeskState, IsWorkplaceOf, each_snoc, ◌≡◌, ◌+◌, ◌∷◌, [], rules, arith, ap, subst, add-one, length, slice_get, Some, vec_len, common_steps}
 use Rattle.pfair_board.proofs.Rows.{none_in_empty}
 use Rattle.pfair_board.proofs.threads.workplaces.Goals as goal
 

@@ -1,5 +1,4 @@
-use Rattle.std.proofs.Common.{◌≡◌, ◌+◌, ℕ, [], slice_get, Some, vec_len}
-use Rattle.pfair_board.proofs.Common.{into_iter_items, into_iter_len, DeskView, IsDeskOf, IsWorkplaceOf}
+use Rattle.pfair_board.proofs.Common.{into_iter_items, into_iter_len, DeskView, IsDeskOf, IsWorkplaceOf, ◌≡◌, ◌+◌, ℕ, [], slice_get, Some, vec_len}
 use Rattle.pfair_board.proofs.threads.workplaces.Given as goal
 
 -- the workplaces so far are those of the first rows, and the desks that are left are those of the next ones

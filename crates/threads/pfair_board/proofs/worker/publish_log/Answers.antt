@@ -1,5 +1,4 @@
-use Rattle.std.proofs.Common.{arith}
-use Rattle.pfair_board.proofs.Common.{slice_get_read, slice_get_within}
+use Rattle.pfair_board.proofs.Common.{slice_get_read, slice_get_within, arith}
 use Rattle.pfair_board.proofs.Working.{grown_trans}
 use Rattle.pfair_board.proofs.worker.publish_log.Goals as goal
 

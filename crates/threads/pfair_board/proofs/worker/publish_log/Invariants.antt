@@ -1,7 +1,5 @@
-use Rattle.std.proofs.Common.{◌≡◌, ◌+◌, ◌<◌, ℕ, slice_get, Some}
-use Rattle.pfair_board.proofs.Common.{held, IsDeskOf, GrownDesk}
+use Rattle.pfair_board.proofs.Common.{held, IsDeskOf, GrownDesk, ◌≡◌, ◌+◌, ◌<◌, ℕ, slice_get, Some, Logged}
 use Rattle.pfair_lattice.specs.declared.join_map.Flat.TheVariants.{One}
-use Rattle.pfair_entry.specs.Entry.{Logged}
 use Rattle.pfair_board.proofs.worker.publish_log.Given as goal
 
 -- the entries so far are held under the numbers from the old next number on

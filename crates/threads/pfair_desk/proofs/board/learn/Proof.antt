@@ -1,20 +1,18 @@
 -- What the other note owns is copied into the first one.
-use Rattle.std.proofs.Common.{◌≡◌, ℕ, List, [], ◌∷◌, refl, IfSome}
-use Rattle.pfair_desk.proofs.Common.{Agrees, noted, shared}
+use Rattle.pfair_desk.proofs.Common.{Agrees, noted, shared, ◌≡◌, ℕ, List, [], ◌∷◌, refl, IfSome, Val, fst∗, Fml, flft, sem, ‵, ◌⊛◌, ◌$◌, ◌∵◌, !, qed, move, keep, split, fsplit, fjoin, use1, RattleType}
 use mir.Syntax.{a_type, named}
-use mir.Val.{Val, vptr, vunit}
+use mir.Val.{vptr, vunit}
 use mir.MapTy.{inst_fn}
-use base.Logic.{SProp, emp, via, fst∗, apply∗, guard_i, all, all_e}
-use base.Fml.{Fml, ftrue, flft}
-use types.Logic.{sem}
-use types.Kit.{‵, raw, ◌⊛◌, given, later, ◌$◌, ◌∵◌, !, qed, by, move, keep, split, split3, join, fsplit, fsplit3, fjoin, learn, use0, use1, use2, await, rewrite, feq_i}
+use base.Logic.{SProp, emp, via, apply∗, guard_i, all, all_e}
+use base.Fml.{ftrue}
+use types.Kit.{raw, given, later, by, split3, join, fsplit3, learn, use0, use2, await, rewrite, feq_i}
 use types.Run.{of_opd, returns, enter, unit_lit}
 use types.ByLocal.{alloc_all, pass_all, free_all, look_at, sets}
 use contract.Monad.{fact, fact_i, fact_use}
 use contract.BorrowLft.{◌⊑◌}
 use contract.Running.{tables}
 use denote.Exit.{yes}
-use denote.RattleType.{RattleType, owns}
+use denote.RattleType.{owns}
 use denote.Signature.{types_at, plain}
 use denote.Builtin.{RefOf}
 use denote.Ref.{mut_vals, mut_Tells, shr_vals, shr_Tells}

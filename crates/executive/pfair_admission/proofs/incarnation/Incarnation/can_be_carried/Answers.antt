@@ -1,5 +1,4 @@
-use Rattle.std.proofs.Common.{◌≡◌, ℕ, ◌+◌, ◌*◌, ◌≤◌, ap, rules, ◌∙◌, arith}
-use Rattle.pfair_admission.proofs.Common.{sum_by, nat_tests, LAST_SLOT, Member, last_offset, carried, jobs_done}
+use Rattle.pfair_admission.proofs.Common.{sum_by, nat_tests, LAST_SLOT, Member, last_offset, carried, jobs_done, ◌≡◌, ℕ, ◌+◌, ◌*◌, ◌≤◌, ap, rules, ◌∙◌, arith}
 use Rattle.pfair_admission.proofs.Carrying.{last_offset_carried}
 use Rattle.pfair_admission.proofs.incarnation.Incarnation.can_be_carried.Goals as goal
 use Rattle.pfair_admission.proofs.incarnation.Incarnation.can_be_carried.Goals.{After-cost}

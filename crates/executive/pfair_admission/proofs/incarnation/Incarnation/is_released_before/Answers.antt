@@ -1,5 +1,4 @@
-use Rattle.std.proofs.Common.{◌≡◌, ◌≤◌, ap, ◌∙◌, arith}
-use Rattle.pfair_admission.proofs.Common.{nat_tests, Position, Member, theta}
+use Rattle.pfair_admission.proofs.Common.{nat_tests, Position, Member, theta, ◌≡◌, ◌≤◌, ap, ◌∙◌, arith}
 use Rattle.pfair_admission.proofs.Delays.{theta_rises}
 use Rattle.pfair_admission.proofs.incarnation.Incarnation.is_released_before.Goals as goal
 

@@ -1,6 +1,4 @@
-use Rattle.std.proofs.Common.{◌≡◌, ◌≢◌, ◌≤◌, ◌<◌, ◌+◌, ◌++◌, ◌∷◌, [], true, refl, sym, ap, subst, ◌∙◌, arith}
-use Rattle.pfair_admission.proofs.Common.{unwrap_or, Position, MAX_OFFSET, Member, last_offset, member_of, IsIncarnation}
-use Rattle.pfair_admission.specs.declared.incarnation.Incarnation.TheInside.{Inside}
+use Rattle.pfair_admission.proofs.Common.{unwrap_or, Position, MAX_OFFSET, Member, last_offset, member_of, IsIncarnation, ◌≡◌, ◌≢◌, ◌≤◌, ◌<◌, ◌+◌, ◌++◌, ◌∷◌, [], true, refl, sym, ap, subst, ◌∙◌, arith, Inside}
 use Rattle.pfair_admission.proofs.Delays.{theta_fits, own_fits, noted, next_put_off, later_put_off}
 use Rattle.pfair_admission.proofs.incarnation.Incarnation.put_off.Goals as goal
 use Rattle.pfair_admission.proofs.incarnation.Incarnation.put_off.Goals.{After-index, then-index, else-index+in_ok-add_at}

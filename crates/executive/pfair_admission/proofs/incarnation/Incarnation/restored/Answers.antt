@@ -1,5 +1,5 @@
-use Rattle.std.proofs.Common.{ℕ, List, ◌≤◌, ◌+◌, ap, sym, ◌∙◌, arith, nat_le, ◌==◌}
-use Rattle.pfair_admission.proofs.Common.{sum_by, filter, list_any, Position, MAX_OFFSET, Delay, own_delay}
+use Rattle.std.proofs.Common.{nat_le, ◌==◌}
+use Rattle.pfair_admission.proofs.Common.{sum_by, filter, list_any, Position, MAX_OFFSET, Delay, own_delay, ℕ, List, ◌≤◌, ◌+◌, ap, sym, ◌∙◌, arith}
 use Rattle.pfair_admission.proofs.Sums.{sum_filter}
 use Rattle.pfair_admission.proofs.incarnation.Incarnation.restored.Goals as goal
 use Rattle.pfair_admission.proofs.incarnation.Incarnation.restored.Goals.{After-delay_up_to}

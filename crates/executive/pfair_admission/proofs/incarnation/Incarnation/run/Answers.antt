@@ -1,6 +1,4 @@
-use Rattle.std.proofs.Common.{◌≡◌, ◌<◌, ◌+◌, ℕ, Option, None, sym, ap, subst, ◌∙◌, arith}
-use Rattle.pfair_admission.proofs.Common.{unwrap_or, Position, MAX_INDEX, Member, member_of}
-use Rattle.std.specs.Ordering.{nat_cmp}
+use Rattle.pfair_admission.proofs.Common.{unwrap_or, Position, MAX_INDEX, Member, member_of, ◌≡◌, ◌<◌, ◌+◌, ℕ, Option, None, sym, ap, subst, ◌∙◌, arith, nat_cmp}
 use Rattle.std.specs.BTreeMap as map
 use Rattle.pfair_admission.proofs.Delays.{stepped, stepped_fits, has_run}
 use Rattle.pfair_admission.proofs.incarnation.Incarnation.run.Goals as goal

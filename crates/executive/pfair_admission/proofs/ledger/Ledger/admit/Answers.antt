@@ -1,5 +1,4 @@
-use Rattle.std.proofs.Common.{rules, ◌≡◌, ◌++◌, ◌∷◌, [], Result, Ok, Err, OnOk, Some, cond, ap, ◌∙◌, nat_eq}
-use Rattle.pfair_admission.proofs.Common.{lookup, insert_entry, insert_entry-new, name_eq, Member, newcomer, present, listed, Numbered}
+use Rattle.pfair_admission.proofs.Common.{lookup, insert_entry, insert_entry-new, name_eq, Member, newcomer, present, listed, Numbered, rules, ◌≡◌, ◌++◌, ◌∷◌, [], Result, Ok, Err, OnOk, Some, cond, ap, ◌∙◌, nat_eq}
 use Rattle.pfair_admission.proofs.Deciding.{arrived, not_arrived, stood}
 use Rattle.pfair_admission.proofs.Kept.{ledger_more, present_pushed}
 use Rattle.pfair_admission.proofs.MemberLists.{none_freed_present}

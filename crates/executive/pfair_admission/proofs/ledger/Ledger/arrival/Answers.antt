@@ -1,6 +1,6 @@
-use Rattle.std.proofs.Common.{◌+◌, ◌*◌, ◌%◌, sym, ap, ◌∙◌, not, nat_lt, ◌==◌, if◌then◌else◌}
-use Rattle.pfair_admission.proofs.Common.{units_of, claimed, present, is_there, listed, Decision, Admitted, Refused}
-use Rattle.pfair_admission.specs.declared.decision.Refusal.TheVariants.{NameTaken, PeriodOutsideFrame, NoRoom}
+use Rattle.std.proofs.Common.{nat_lt, ◌==◌}
+use Rattle.pfair_admission.proofs.Common.{units_of, claimed, present, is_there, listed, Decision, Admitted, Refused, ◌+◌, ◌*◌, ◌%◌, sym, ap, ◌∙◌, not, if◌then◌else◌, NameTaken}
+use Rattle.pfair_admission.specs.declared.decision.Refusal.TheVariants.{PeriodOutsideFrame, NoRoom}
 use Rattle.pfair_admission.proofs.Written.{taken}
 use Rattle.pfair_admission.proofs.ledger.Ledger.arrival.Goals as goal
 

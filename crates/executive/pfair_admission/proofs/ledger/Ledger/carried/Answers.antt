@@ -1,5 +1,4 @@
-use Rattle.std.proofs.Common.{◌≡◌, ◌++◌, ◌∷◌, [], Some, cond, map, true, subst, ap, ◌∙◌, arith, nat_eq}
-use Rattle.pfair_admission.proofs.Common.{lookup, insert_entry, insert_entry-new, NameValue, name_eq, carried, listed, IsRegister, Member}
+use Rattle.pfair_admission.proofs.Common.{lookup, insert_entry, insert_entry-new, NameValue, name_eq, carried, listed, IsRegister, Member, ◌≡◌, ◌++◌, ◌∷◌, [], Some, cond, map, true, subst, ap, ◌∙◌, arith, nat_eq}
 use Rattle.pfair_admission.proofs.Registers.{fresh}
 use Rattle.pfair_admission.proofs.Successors.{able_at, all_listed, carried_more, ledger_carried}
 use Rattle.pfair_admission.proofs.ledger.Ledger.carried.Goals as goal

@@ -1,5 +1,4 @@
-use Rattle.std.proofs.Common.{◌≡◌, ◌+◌, ◌<◌, ◌++◌, ◌∷◌, [], length, sym, subst, arith}
-use Rattle.pfair_admission.proofs.Common.{announcements, membership, EachBounded, Membership}
+use Rattle.pfair_admission.proofs.Common.{announcements, membership, EachBounded, Membership, ◌≡◌, ◌+◌, ◌<◌, ◌++◌, ◌∷◌, [], length, sym, subst, arith}
 use Rattle.std.proofs.lemmas.Result.{err_from_is_err_and}
 use Rattle.pfair_admission.proofs.Boundaries.{SoFar, one_more, bounded_so_far, room_so_far, length_announcements, said_item, limits_item}
 use Rattle.pfair_admission.proofs.ledger.Ledger.decide_all.Goals as goal

@@ -1,5 +1,4 @@
-use Rattle.std.proofs.Common.{◌+◌, ◌≤◌}
-use Rattle.pfair_admission.proofs.Common.{announcements, is_there, membership, IsLedger}
+use Rattle.pfair_admission.proofs.Common.{announcements, is_there, membership, IsLedger, ◌+◌, ◌≤◌}
 use Rattle.pfair_admission.proofs.Boundaries.{SoFar}
 use Rattle.pfair_admission.proofs.ledger.Ledger.decide_all.Given as goal
 

@@ -1,5 +1,4 @@
-use Rattle.std.proofs.Common.{rules, ◌≡◌, IfOk, sym, ap, ◌∙◌, arith, not}
-use Rattle.pfair_admission.proofs.Common.{values_of, set_value_at, is_freed, late_release, member_named, present, is_there, listed}
+use Rattle.pfair_admission.proofs.Common.{values_of, set_value_at, is_freed, late_release, member_named, present, is_there, listed, rules, ◌≡◌, IfOk, sym, ap, ◌∙◌, arith, not}
 use Rattle.pfair_admission.proofs.Changes.{delayed_if_ok, is_written, late_like, stays_on_err, IsWritten}
 use Rattle.pfair_admission.proofs.Deciding.{if_decided, late_decided, late_same, none_late, room_of_named, stood}
 use Rattle.pfair_admission.proofs.Kept.{ledger_written}

@@ -1,5 +1,4 @@
-use Rattle.std.proofs.Common.{◌≡◌, ℕ, ◌+◌, ◌-◌, ◌≤◌, cond, Some, sym, ap, ◌∙◌, arith}
-use Rattle.pfair_admission.proofs.Common.{values_of, same_Some, set_value_at, with_value_at, Share, units_of, Depart, Decision, Member, departure, effect, member_named, present, with_freeing, earlier_of, is_there, listed, IsLedger}
+use Rattle.pfair_admission.proofs.Common.{values_of, same_Some, set_value_at, with_value_at, Share, units_of, Depart, Decision, Member, departure, effect, member_named, present, with_freeing, earlier_of, is_there, listed, IsLedger, ◌≡◌, ℕ, ◌+◌, ◌-◌, ◌≤◌, cond, Some, sym, ap, ◌∙◌, arith}
 use Rattle.pfair_admission.proofs.Changes.{departed, is_written, not_departed, same_like}
 use Rattle.pfair_admission.proofs.Deciding.{none_departs, stood}
 use Rattle.pfair_admission.proofs.Kept.{gone_units, held_units, ledger_left, ledger_written}

@@ -1,5 +1,4 @@
-use Rattle.std.proofs.Common.{◌≡◌, ℕ, Some, None, arith, rules, sym, ap, subst, ◌∙◌, nat_eq, slice_get}
-use Rattle.pfair_admission.proofs.Common.{lookup, nat_tests, name_eq, listed, IsFound}
+use Rattle.pfair_admission.proofs.Common.{lookup, nat_tests, name_eq, listed, IsFound, ◌≡◌, ℕ, Some, None, arith, rules, sym, ap, subst, ◌∙◌, nat_eq, slice_get}
 use Rattle.pfair_admission.proofs.Registers.{found_at, found_none, found_some, parts_at, values_at}
 use Rattle.pfair_admission.proofs.ledger.Ledger.find.Goals as goal
 

@@ -1,4 +1,4 @@
-use Rattle.std.proofs.Common.{◌≡◌, true, Some, refl, sym, ◌∙◌, rules, slice_get}
+use Rattle.pfair_admission.proofs.Common.{◌≡◌, true, Some, refl, sym, ◌∙◌, rules, slice_get}
 use Rattle.pfair_admission.proofs.Registers.{only_at, same_name}
 use Rattle.pfair_admission.proofs.ledger.Ledger.find_at.Goals as goal
 

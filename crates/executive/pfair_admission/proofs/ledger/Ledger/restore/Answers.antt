@@ -1,5 +1,4 @@
-use Rattle.std.proofs.Common.{◌≡◌, true, List, ◌++◌, ◌∷◌, [], Result, Ok, Err, OnOk, Some, cond, length, length-append, refl, sym, ap, ◌∙◌, arith, nat_eq}
-use Rattle.pfair_admission.proofs.Common.{lookup, values_of, insert_entry, insert_entry-new, name_eq, Member, arrival, claimed, Admitted, listed, whole, Numbered, member_in}
+use Rattle.pfair_admission.proofs.Common.{lookup, values_of, insert_entry, insert_entry-new, name_eq, Member, arrival, claimed, Admitted, listed, whole, Numbered, member_in, ◌≡◌, true, List, ◌++◌, ◌∷◌, [], Result, Ok, Err, OnOk, Some, cond, length, length-append, refl, sym, ap, ◌∙◌, arith, nat_eq}
 use Rattle.pfair_admission.proofs.Deciding.{stood}
 use Rattle.pfair_admission.proofs.Kept.{ledger_joined, values_pushed}
 use Rattle.pfair_admission.proofs.Written.{filter_all}

@@ -1,5 +1,4 @@
-use Rattle.std.proofs.Common.{◌≡◌, sym, ap, subst, ◌∙◌, arith}
-use Rattle.pfair_admission.proofs.Common.{values_of, claimed, present, NoneFreed, is_there, listed, Numbered}
+use Rattle.pfair_admission.proofs.Common.{values_of, claimed, present, NoneFreed, is_there, listed, Numbered, ◌≡◌, sym, ap, subst, ◌∙◌, arith}
 use Rattle.pfair_admission.proofs.Deciding.{product_fits, stood}
 use Rattle.pfair_admission.proofs.MemberLists.{none_freed_before, none_freed_present, present_all}
 use Rattle.pfair_admission.proofs.Registers.{register_all, register_kept, values_kept}

@@ -1,5 +1,4 @@
-use Rattle.std.proofs.Common.{◌≡◌, ◌+◌, ◌-◌, length, sym, ap, subst, ◌∙◌, arith, IfOk}
-use Rattle.pfair_admission.proofs.Common.{MAX_HEARD, announcements, EachBounded, Roster, NoneFreed, Membership, decisions_on, is_there, listed, membership}
+use Rattle.pfair_admission.proofs.Common.{MAX_HEARD, announcements, EachBounded, Roster, NoneFreed, Membership, decisions_on, is_there, listed, membership, ◌≡◌, ◌+◌, ◌-◌, length, sym, ap, subst, ◌∙◌, arith, IfOk}
 use Rattle.pfair_admission.proofs.Boundaries.{begun, bounded_later, bounded_present, decided_err, decided_ok, with_heard}
 use Rattle.pfair_admission.proofs.Deciding.{stood}
 use Rattle.pfair_admission.proofs.Kept.{kept_less, unswept_rest}

@@ -1,5 +1,4 @@
-use Rattle.std.proofs.Common.{subst, sym, ap, arith}
-use Rattle.pfair_admission.proofs.Common.{AllByRecursion, CanBeCarried, listed, Roster, EachBounded}
+use Rattle.pfair_admission.proofs.Common.{AllByRecursion, CanBeCarried, listed, Roster, EachBounded, subst, sym, ap, arith}
 use Rattle.pfair_admission.proofs.Successors.{bounded_carried}
 use Rattle.pfair_admission.proofs.members.Members.carried.Goals as goal
 

@@ -1,5 +1,4 @@
-use Rattle.std.proofs.Common.{◌∙◌, sym, ap, slice_get}
-use Rattle.pfair_admission.proofs.Common.{Roster}
+use Rattle.pfair_admission.proofs.Common.{Roster, ◌∙◌, sym, ap, slice_get}
 use Rattle.pfair_admission.proofs.Successors.{able_more}
 use Rattle.pfair_admission.proofs.members.Members.first_left_behind.Goals as goal
 

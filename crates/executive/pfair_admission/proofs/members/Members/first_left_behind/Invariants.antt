@@ -1,5 +1,4 @@
-use Rattle.std.proofs.Common.{take}
-use Rattle.pfair_admission.proofs.Common.{AllByRecursion, CanBeCarried}
+use Rattle.pfair_admission.proofs.Common.{AllByRecursion, CanBeCarried, take}
 use Rattle.pfair_admission.proofs.members.Members.first_left_behind.Given as goal
 
 abbrev pub invariant-loop-place : goal.invariant-loop-place

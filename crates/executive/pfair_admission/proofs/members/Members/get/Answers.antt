@@ -1,5 +1,4 @@
-use Rattle.std.proofs.Common.{List, true, refl, sym, ap, ◌∙◌}
-use Rattle.pfair_admission.proofs.Common.{option_copied, Member, member_named, listed, Roster}
+use Rattle.pfair_admission.proofs.Common.{option_copied, Member, member_named, listed, Roster, List, true, refl, sym, ap, ◌∙◌}
 use Rattle.pfair_admission.proofs.Written.{filter_all, is_there_now, within}
 use Rattle.pfair_admission.proofs.members.Members.get.Goals as goal
 

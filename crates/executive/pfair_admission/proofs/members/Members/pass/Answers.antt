@@ -1,5 +1,4 @@
-use Rattle.std.proofs.Common.{◌≡◌, Some, sym, ap, subst, ◌∙◌, arith}
-use Rattle.pfair_admission.proofs.Common.{EachBounded, Roster, Membership, listed, membership}
+use Rattle.pfair_admission.proofs.Common.{EachBounded, Roster, Membership, listed, membership, ◌≡◌, Some, sym, ap, subst, ◌∙◌, arith}
 use Rattle.pfair_admission.proofs.Boundaries.{bounded_present}
 use Rattle.pfair_admission.proofs.Deciding.{stood}
 use Rattle.pfair_admission.proofs.Kept.{unswept_all}

@@ -1,5 +1,5 @@
-use Rattle.std.proofs.Common.{◌≡◌, List, Option, true, refl, sym, ap, ◌∙◌, arith, is_some, if◌then◌else◌}
-use Rattle.pfair_admission.proofs.Common.{option_map, values_of, set_value_at, Member, member_named, quantum_of, ran, running, seatless, listed, Roster}
+use Rattle.std.proofs.Common.{is_some}
+use Rattle.pfair_admission.proofs.Common.{option_map, values_of, set_value_at, Member, member_named, quantum_of, ran, running, seatless, listed, Roster, ◌≡◌, List, Option, true, refl, sym, ap, ◌∙◌, arith, if◌then◌else◌}
 use Rattle.pfair_admission.proofs.Boundaries.{bounded_run}
 use Rattle.pfair_admission.proofs.Changes.{ran_like, ran_listed, roster_ran}
 use Rattle.pfair_admission.proofs.Kept.{ledger_written}

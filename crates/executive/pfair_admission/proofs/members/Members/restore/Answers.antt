@@ -1,5 +1,4 @@
-use Rattle.std.proofs.Common.{ap, ◌∙◌, arith}
-use Rattle.pfair_admission.proofs.Common.{whole, member_in, Roster}
+use Rattle.pfair_admission.proofs.Common.{whole, member_in, Roster, ap, ◌∙◌, arith}
 use Rattle.pfair_admission.proofs.Restoring.{bounded_restored, length_restored, length_values}
 use Rattle.pfair_admission.proofs.members.Members.restore.Goals as goal
 

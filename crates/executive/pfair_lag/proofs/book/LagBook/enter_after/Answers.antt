@@ -1,6 +1,4 @@
-use Rattle.std.proofs.Common.{◌≡◌, not, sym, ap, ◌∙◌, arith, is_some}
-use Rattle.pfair_lag.proofs.Common.{common_steps, true≢false, tally_of}
-use Rattle.pfair_weight.specs.Options.{nothing}
+use Rattle.pfair_lag.proofs.Common.{common_steps, true≢false, tally_of, ◌≡◌, not, sym, ap, ◌∙◌, arith, is_some, nothing}
 use Rattle.indexmap.proofs.CallerLemmas.{insert_entry-new}
 use Rattle.pfair_lag.proofs.BookLemmas.{contained, entered_there, entered_new, kept_new}
 use Rattle.pfair_lag.proofs.book.LagBook.enter_after.Goals as goal

@@ -1,5 +1,4 @@
-use Rattle.std.proofs.Common.{Some, sym, ap, ◌∙◌}
-use Rattle.pfair_lag.proofs.Common.{option_map, option_copied, lag_of, tally_shown}
+use Rattle.pfair_lag.proofs.Common.{option_map, option_copied, lag_of, tally_shown, Some, sym, ap, ◌∙◌}
 use Rattle.pfair_lag.proofs.BookLemmas.{tally_kept, sound_found}
 use Rattle.pfair_lag.proofs.book.LagBook.lag.Goals as goal
 

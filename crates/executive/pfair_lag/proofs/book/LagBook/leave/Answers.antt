@@ -1,4 +1,4 @@
-use Rattle.std.proofs.Common.{ap, sym, ◌∙◌, is_some}
+use Rattle.pfair_lag.proofs.Common.{ap, sym, ◌∙◌, is_some}
 use Rattle.pfair_lag.proofs.BookLemmas.{contained, left_shown, kept_left}
 use Rattle.pfair_lag.proofs.book.LagBook.leave.Goals as goal
 

@@ -1,4 +1,4 @@
-use Rattle.std.proofs.Common.{◌∙◌}
+use Rattle.pfair_lag.proofs.Common.{◌∙◌}
 use Rattle.pfair_lag.proofs.BookLemmas.{length_shown}
 use Rattle.pfair_lag.proofs.book.LagBook.len.Goals as goal
 

@@ -1,8 +1,5 @@
-use Rattle.std.proofs.Common.{◌≡◌, Option, Some, sym, ap, ◌∙◌, slice_get}
-use Rattle.pfair_lag.proofs.Common.{option_map}
+use Rattle.pfair_lag.proofs.Common.{option_map, ◌≡◌, Option, Some, sym, ap, ◌∙◌, slice_get, Account, NameValue}
 use Rattle.std.specs.Map.Iter.{deref_pair}
-use Rattle.pfair_lag.specs.declared.book.Account.{Account}
-use Rattle.pfair_weight.specs.Name.{NameValue}
 use Rattle.pfair_lag.proofs.BookLemmas.{name_shown, names_apart}
 use Rattle.pfair_lag.proofs.book.LagBook.name_at.Goals as goal
 

@@ -1,6 +1,4 @@
-use Rattle.std.proofs.Common.{◌<◌, ◌-◌, sym, subst}
-use Rattle.pfair_lag.proofs.Common.{Book}
-use Rattle.pfair_lag.specs.declared.book.TheConstants.{START}
+use Rattle.pfair_lag.proofs.Common.{Book, ◌<◌, ◌-◌, sym, subst, START}
 use Rattle.pfair_lag.proofs.BookLemmas.{each_fits, recorded_shown, kept_recorded}
 use Rattle.pfair_lag.proofs.book.LagBook.record.Goals as goal
 

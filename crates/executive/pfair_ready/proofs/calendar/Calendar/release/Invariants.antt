@@ -1,5 +1,4 @@
-use Rattle.std.proofs.Common.{◌≡◌, length}
-use Rattle.pfair_ready.proofs.Common.{IsHeap, IsNoted, Moves, heap_items, later_cmp}
+use Rattle.pfair_ready.proofs.Common.{IsHeap, IsNoted, Moves, heap_items, later_cmp, ◌≡◌, length}
 use Rattle.pfair_ready.proofs.calendar.Calendar.release.Given as goal
 
 abbrev pub invariant-loop-date : goal.invariant-loop-date

@@ -1,5 +1,4 @@
-use Rattle.std.proofs.Common.{refl, sym, subst, List, Contains}
-use Rattle.pfair_ready.proofs.Common.{Date, IsHeap, Reverse, later_cmp}
+use Rattle.pfair_ready.proofs.Common.{Date, IsHeap, Reverse, later_cmp, refl, sym, subst, List, Contains}
 use Rattle.pfair_ready.proofs.CalendarLemmas.{keeps_far}
 use Rattle.pfair_ready.proofs.calendar.Calendar.reserve.Goals as goal
 

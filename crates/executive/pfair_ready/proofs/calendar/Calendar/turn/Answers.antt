@@ -1,6 +1,4 @@
-use Rattle.std.proofs.Common.{◌<◌, ◌≤◌, ◌+◌, refl, ap, arith, ℕ, length, ◌%◌}
-use Rattle.pfair_ready.proofs.Common.{slice_get_read, Calendar, heap_items, in_bucket, IsNoted}
-use Rattle.std.specs.Vec.{with_item}
+use Rattle.pfair_ready.proofs.Common.{slice_get_read, Calendar, heap_items, in_bucket, IsNoted, ◌<◌, ◌≤◌, ◌+◌, refl, ap, arith, ℕ, length, ◌%◌, with_item}
 use Rattle.pfair_ready.proofs.CalendarLemmas.{emptied_next, emptied_past, moves_bucket, moves_turned}
 use Rattle.pfair_ready.proofs.calendar.Calendar.turn.Goals as goal
 use Rattle.pfair_ready.proofs.calendar.Calendar.turn.Goals.{then-bucket-len+in_ok-release_all, else-bucket-len}

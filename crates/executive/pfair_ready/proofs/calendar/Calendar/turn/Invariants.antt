@@ -1,5 +1,4 @@
-use Rattle.std.proofs.Common.{◌≡◌, ◌≤◌, ◌<◌, ◌+◌, ℕ, []}
-use Rattle.pfair_ready.proofs.Common.{IsNoted, Moves, heap_items, under}
+use Rattle.pfair_ready.proofs.Common.{IsNoted, Moves, heap_items, under, ◌≡◌, ◌≤◌, ◌<◌, ◌+◌, ℕ, []}
 use Rattle.pfair_ready.proofs.calendar.Calendar.turn.Given as goal
 
 -- the buckets of the slots so far are empty

@@ -1,5 +1,4 @@
-use Rattle.std.proofs.Common.{List, map, min, ◌∙◌, ◌≡◌, ◌≤◌, ◌<◌, length, sym, subst, refl, arith, vec_capacity}
-use Rattle.pfair_ready.proofs.Common.{length-map, Key, pd2_cmp, first_by_rank, IsCovered, Content, Queue, heap_items, released}
+use Rattle.pfair_ready.proofs.Common.{length-map, Key, pd2_cmp, first_by_rank, IsCovered, Content, Queue, heap_items, released, List, map, min, ◌∙◌, ◌≡◌, ◌≤◌, ◌<◌, length, sym, subst, refl, arith, vec_capacity}
 use Rattle.pfair_ready.proofs.CoverLemmas.{covered_moved}
 use Rattle.pfair_ready.proofs.Taking.{IsTaking, one_more, room_for, taking_none, taking_dead, taking_live, first_taken}
 use Rattle.pfair_ready.proofs.TurnLemmas.{top_number}

@@ -1,5 +1,4 @@
-use Rattle.std.proofs.Common.{◌≡◌, ◌≤◌, length, map, min, vec_capacity}
-use Rattle.pfair_ready.proofs.Common.{heap_items}
+use Rattle.pfair_ready.proofs.Common.{heap_items, ◌≡◌, ◌≤◌, length, map, min, vec_capacity}
 use Rattle.pfair_ready.proofs.Taking.{IsTaking}
 use Rattle.pfair_ready.proofs.heap.HeapReady.select.Given as goal
 

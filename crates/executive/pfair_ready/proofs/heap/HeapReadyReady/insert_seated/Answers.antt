@@ -1,5 +1,5 @@
-use Rattle.std.proofs.Common.{◌≡◌, ◌≤◌, ◌⊎◌, inl, inr, refl, sym, ap, ◌∙◌, false, not, cond, ℕ, Option, OnOk, Ok, Err, Result, true≢false, is_some}
-use Rattle.pfair_ready.proofs.Common.{Content, Queue, HasTurn, IsCovered, heap_items}
+use Rattle.std.proofs.Common.{OnOk, Result, true≢false}
+use Rattle.pfair_ready.proofs.Common.{Content, Queue, HasTurn, IsCovered, heap_items, ◌≡◌, ◌≤◌, ◌⊎◌, inl, inr, refl, sym, ap, ◌∙◌, false, not, cond, ℕ, Option, Ok, Err, is_some}
 use Rattle.std.specs.Result.{is_err}
 use Rattle.std.specs.FinMap as finmap
 use Rattle.pfair_ready.proofs.CoverLemmas.{HasDate, covered_kept, covered_more, put_back}

@@ -1,6 +1,4 @@
-use Rattle.std.proofs.Common.{arith}
-use Rattle.std.proofs.lemmas.Grind.{common_steps}
-use Rattle.pfair_ready.proofs.Common.{heap_items}
+use Rattle.pfair_ready.proofs.Common.{heap_items, arith, common_steps}
 use Rattle.pfair_ready.proofs.CoverLemmas.{covered_none}
 use Rattle.pfair_ready.proofs.heap.HeapReadyReady.new.Goals as goal
 

@@ -1,8 +1,6 @@
-use Rattle.std.proofs.Common.{rules, ◌≡◌, not, filter, sym, ap, ◌∙◌}
-use Rattle.pfair_ready.proofs.Common.{apart_filter, name_eq, queue_of}
-use Rattle.std.proofs.lemmas.Fn.{filter_same}
+use Rattle.std.proofs.Common.{filter}
+use Rattle.pfair_ready.proofs.Common.{apart_filter, name_eq, queue_of, rules, ◌≡◌, not, sym, ap, ◌∙◌, filter_same, PlainEntry}
 use Rattle.std.specs.FinMap as finmap
-use Rattle.pfair_ready.specs.declared.plain.PlainEntry.{PlainEntry}
 use Rattle.pfair_ready.proofs.PlainListLemmas.{name_of, contained, queue_of_filter, retain_but}
 use Rattle.pfair_ready.proofs.plain.PlainReadyReady.remove.Goals as goal
 

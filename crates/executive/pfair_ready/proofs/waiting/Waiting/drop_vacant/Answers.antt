@@ -1,5 +1,4 @@
-use Rattle.std.proofs.Common.{rules, ap, ◌∙◌}
-use Rattle.pfair_ready.proofs.Common.{queue_in}
+use Rattle.pfair_ready.proofs.Common.{queue_in, rules, ap, ◌∙◌}
 use Rattle.std.specs.FinMap as finmap
 use Rattle.indexmap.proofs.CallerLemmas.{filter-RetainsPairs}
 use Rattle.pfair_ready.proofs.WaitingLemmas.{live_kept}

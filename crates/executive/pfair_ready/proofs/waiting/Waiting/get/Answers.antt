@@ -1,5 +1,4 @@
-use Rattle.std.proofs.Common.{Some, sym, ap, ◌∙◌}
-use Rattle.pfair_ready.proofs.Common.{Key, Queue, held_under}
+use Rattle.pfair_ready.proofs.Common.{Key, Queue, held_under, Some, sym, ap, ◌∙◌}
 use Rattle.std.specs.FinMap as finmap
 use Rattle.pfair_ready.proofs.WaitingLemmas.{flat, queue_at}
 use Rattle.pfair_ready.proofs.waiting.Waiting.get.Goals as goal

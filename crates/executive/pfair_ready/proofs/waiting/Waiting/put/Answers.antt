@@ -1,5 +1,4 @@
-use Rattle.std.proofs.Common.{◌≡◌, false, sym, ap, ◌∙◌, OnErr, Ok, Err}
-use Rattle.pfair_ready.proofs.Common.{Queue}
+use Rattle.pfair_ready.proofs.Common.{Queue, ◌≡◌, false, sym, ap, ◌∙◌, OnErr, Ok, Err}
 use Rattle.std.specs.FinMap as finmap
 use Rattle.pfair_ready.proofs.WaitingLemmas.{absent}
 use Rattle.pfair_ready.proofs.waiting.Waiting.put.Goals as goal

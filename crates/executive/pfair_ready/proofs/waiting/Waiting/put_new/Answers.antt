@@ -1,5 +1,4 @@
-use Rattle.std.proofs.Common.{Some, ap, ◌∙◌}
-use Rattle.pfair_ready.proofs.Common.{Queue, HeldKey, held_under}
+use Rattle.pfair_ready.proofs.Common.{Queue, HeldKey, held_under, Some, ap, ◌∙◌}
 use Rattle.std.specs.FinMap as finmap
 use Rattle.pfair_ready.proofs.WaitingLemmas.{queue_put}
 use Rattle.pfair_ready.proofs.waiting.Waiting.put_new.Goals as goal

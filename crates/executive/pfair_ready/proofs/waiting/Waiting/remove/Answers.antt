@@ -1,5 +1,4 @@
-use Rattle.std.proofs.Common.{◌≡◌, None, refl, sym, ap, subst, ◌∙◌}
-use Rattle.pfair_ready.proofs.Common.{Queue}
+use Rattle.pfair_ready.proofs.Common.{Queue, ◌≡◌, None, refl, sym, ap, subst, ◌∙◌}
 use Rattle.std.specs.FinMap as finmap
 use Rattle.pfair_ready.proofs.WaitingLemmas.{absent, contained, queue_taken}
 use Rattle.pfair_ready.proofs.waiting.Waiting.remove.Goals as goal

@@ -1,7 +1,5 @@
-use Rattle.std.proofs.Common.{sym, ap, ◌∙◌, is_some}
-use Rattle.pfair_ready.proofs.Common.{Queue, is_due}
+use Rattle.pfair_ready.proofs.Common.{Queue, is_due, sym, ap, ◌∙◌, is_some, name_of}
 use Rattle.std.specs.FinMap as finmap
-use Rattle.pfair_weight.specs.Number.{name_of}
 use Rattle.pfair_ready.proofs.WaitingLemmas.{none_there}
 use Rattle.pfair_ready.proofs.waiting.Waiting.take.Goals as goal
 

@@ -1,5 +1,4 @@
-use Rattle.std.proofs.Common.{arith, inl, inr, ◌<◌, ap}
-use Rattle.pfair_replica.proofs.Common.{common_steps, replica_of, torn_in, fallen_in}
+use Rattle.pfair_replica.proofs.Common.{common_steps, replica_of, torn_in, fallen_in, arith, inl, inr, ◌<◌, ap}
 use Rattle.pfair_replica.proofs.TornKeys.{flat_next, flat_some}
 use Rattle.pfair_replica.proofs.Merging.{on_err_here}
 use Rattle.pfair_replica.proofs.replica.Replica.faults.Goals as goal

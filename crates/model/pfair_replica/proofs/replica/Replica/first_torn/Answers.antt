@@ -1,5 +1,4 @@
-use Rattle.std.proofs.Common.{ap, ◌∙◌, is_some}
-use Rattle.pfair_replica.proofs.Common.{replica_of}
+use Rattle.pfair_replica.proofs.Common.{replica_of, ap, ◌∙◌, is_some}
 use Rattle.pfair_replica.proofs.FirstTorn.{first_listed}
 use Rattle.pfair_replica.proofs.TornKeys.{torn_test}
 use Rattle.pfair_replica.proofs.replica.Replica.first_torn.Goals as goal

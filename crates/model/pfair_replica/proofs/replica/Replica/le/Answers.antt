@@ -1,5 +1,4 @@
-use Rattle.std.proofs.Common.{ℕ, ◌≡◌, sym, ap, subst, arith, true, rules, ⊎_elim, refl}
-use Rattle.pfair_replica.proofs.Common.{false≢true, cases_eq, cases_lt, option_and_then, nat_cmp, get, HeldBelow, none_below, Row, held}
+use Rattle.pfair_replica.proofs.Common.{false≢true, cases_eq, cases_lt, option_and_then, nat_cmp, get, HeldBelow, none_below, Row, held, ℕ, ◌≡◌, sym, ap, subst, arith, true, rules, ⊎_elim, refl}
 use Rattle.pfair_replica.proofs.replica.Replica.le.Goals as goal
 
 pub returns-then-not-row_le : goal.returns-then-not-row_le

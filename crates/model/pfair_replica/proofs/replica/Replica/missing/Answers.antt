@@ -1,5 +1,4 @@
-use Rattle.std.proofs.Common.{◌≡◌, ◌<◌, ◌+◌, sym, ap, subst, arith, true, None, rules, is_none, find}
-use Rattle.pfair_replica.proofs.Common.{common_steps, held, replica_of, IsLeastMissing, missing, numbers_to}
+use Rattle.pfair_replica.proofs.Common.{common_steps, held, replica_of, IsLeastMissing, missing, numbers_to, ◌≡◌, ◌<◌, ◌+◌, sym, ap, subst, arith, true, None, rules, is_none, find}
 use Rattle.pfair_replica.proofs.Listing.{find_none, find_first, missing_is_least}
 use Rattle.pfair_replica.proofs.replica.Replica.missing.Goals as goal
 

@@ -1,6 +1,4 @@
-use Rattle.std.proofs.Common.{◌+◌, ◌<◌, ◌++◌, refl, sym, ap, ◌∙◌, arith, length, append_assoc, Some}
-use Rattle.pfair_replica.proofs.Common.{replica_of, Replica, sound_beginning, said_behind, said_by}
-use Rattle.pfair_replica.specs.Agenda.{said_at}
+use Rattle.pfair_replica.proofs.Common.{replica_of, Replica, sound_beginning, said_behind, said_by, ◌+◌, ◌<◌, ◌++◌, refl, sym, ap, ◌∙◌, arith, length, append_assoc, Some, said_at}
 use Rattle.pfair_replica.proofs.Merging.{on_err_here}
 use Rattle.pfair_replica.proofs.SoundEntries.{entry_there, entry_is}
 use Rattle.pfair_replica.proofs.SaidBehind.{all_noted, noted_next, some_behind}

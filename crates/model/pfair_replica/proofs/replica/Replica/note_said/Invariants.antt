@@ -1,7 +1,4 @@
-use Rattle.std.proofs.Common.{ℕ, ◌≡◌, ◌++◌, List}
-use Rattle.pfair_replica.proofs.Common.{replica_of, said_behind}
-use Rattle.pfair_entry.specs.declared.entry.Said.{Said}
-use Rattle.pfair_replica.specs.Agenda.{said_at}
+use Rattle.pfair_replica.proofs.Common.{replica_of, said_behind, ℕ, ◌≡◌, ◌++◌, List, Said, said_at}
 use Rattle.pfair_replica.proofs.replica.Replica.note_said.Given as goal
 
 abbrev pub invariant-loop-place : goal.invariant-loop-place

@@ -1,5 +1,4 @@
-use Rattle.std.proofs.Common.{◌≡◌, ◌+◌, ◌<◌, arith, ap, Some}
-use Rattle.pfair_replica.proofs.Common.{Torn, held, replica_of}
+use Rattle.pfair_replica.proofs.Common.{Torn, held, replica_of, ◌≡◌, ◌+◌, ◌<◌, arith, ap, Some}
 use Rattle.pfair_replica.proofs.TornKeys.{torn_listed}
 use Rattle.pfair_replica.proofs.Merging.{on_err_here}
 use Rattle.pfair_replica.proofs.replica.Replica.push_torn.Goals as goal

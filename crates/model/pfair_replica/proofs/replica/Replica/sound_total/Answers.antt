@@ -1,5 +1,4 @@
-use Rattle.std.proofs.Common.{◌∙◌}
-use Rattle.pfair_replica.proofs.Common.{replica_of}
+use Rattle.pfair_replica.proofs.Common.{replica_of, ◌∙◌}
 use Rattle.pfair_replica.proofs.AllBeginnings.{total_is}
 use Rattle.pfair_replica.proofs.replica.Replica.sound_total.Goals as goal
 

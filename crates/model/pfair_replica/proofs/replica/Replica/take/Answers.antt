@@ -1,5 +1,4 @@
-use Rattle.std.proofs.Common.{arith, inr, ◌∙◌}
-use Rattle.pfair_replica.proofs.Common.{only, held_in, replica_of}
+use Rattle.pfair_replica.proofs.Common.{only, held_in, replica_of, arith, inr, ◌∙◌}
 use Rattle.pfair_replica.proofs.Merging.{replica_taken, between_below}
 use Rattle.pfair_replica.proofs.Following.{before_entry}
 use Rattle.pfair_replica.proofs.replica.Replica.take.Goals as goal

@@ -1,5 +1,4 @@
-use Rattle.std.proofs.Common.{refl, sym, ◌∙◌}
-use Rattle.pfair_replica.proofs.Common.{false≢true, slice_get_read, held_in}
+use Rattle.pfair_replica.proofs.Common.{false≢true, slice_get_read, held_in, refl, sym, ◌∙◌}
 use Rattle.pfair_replica.proofs.Following.{left_by_entry, room_by_entry, entry_torn, entry_untorn}
 use Rattle.pfair_replica.proofs.rows.Counters.follow_entry.Goals as goal
 

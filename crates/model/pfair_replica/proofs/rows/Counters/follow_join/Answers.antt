@@ -1,5 +1,4 @@
-use Rattle.std.proofs.Common.{◌<◌, ◌≤◌, ◌∙◌, ap, length, arith}
-use Rattle.pfair_replica.proofs.Common.{length-set, held_in}
+use Rattle.pfair_replica.proofs.Common.{length-set, held_in, ◌<◌, ◌≤◌, ◌∙◌, ap, length, arith}
 use Rattle.pfair_replica.proofs.Following.{midway_end, midway_as_it_was, midway_next}
 use Rattle.pfair_replica.proofs.rows.Counters.follow_join.Goals as goal
 

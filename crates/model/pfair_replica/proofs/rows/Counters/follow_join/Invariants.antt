@@ -1,5 +1,4 @@
-use Rattle.std.proofs.Common.{◌≡◌, length}
-use Rattle.pfair_replica.proofs.Common.{held_in}
+use Rattle.pfair_replica.proofs.Common.{held_in, ◌≡◌, length}
 use Rattle.pfair_replica.proofs.Following.{Midway}
 use Rattle.pfair_replica.proofs.rows.Counters.follow_join.Given as goal
 

@@ -1,5 +1,4 @@
-use Rattle.std.proofs.Common.{rules, ◌≡◌, sym, ap, ◌∙◌, arith, length, replicate}
-use Rattle.pfair_replica.proofs.Common.{length-replicate, least_mark, total_count}
+use Rattle.pfair_replica.proofs.Common.{length-replicate, least_mark, total_count, rules, ◌≡◌, sym, ap, ◌∙◌, arith, length, replicate}
 use Rattle.pfair_replica.proofs.AllBeginnings.{none, least_of_none, total_of_none}
 use Rattle.pfair_replica.proofs.rows.Counters.new.Goals as goal
 

@@ -1,4 +1,4 @@
-use Rattle.std.proofs.Common.{◌∙◌, ap, sym, take, length}
+use Rattle.pfair_weight.proofs.Common.{◌∙◌, ap, sym, take, length}
 use Rattle.pfair_weight.proofs.Length.{name_taken}
 use Rattle.pfair_weight.proofs.name.TaskName.as_bytes.Goals as goal
 

@@ -1,4 +1,4 @@
-use Rattle.std.proofs.Common.{arith, ◌≤◌, length, ◌∙◌, sym}
+use Rattle.pfair_weight.proofs.Common.{arith, ◌≤◌, length, ◌∙◌, sym}
 use Rattle.pfair_weight.proofs.Padding.{is_name, name_stored, is_padded}
 use Rattle.pfair_weight.proofs.name.TaskName.from_bytes.Goals as goal
 

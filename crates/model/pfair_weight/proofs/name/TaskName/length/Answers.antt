@@ -1,5 +1,4 @@
-use Rattle.std.proofs.Common.{◌-◌, ◌/◌, ◌∙◌, ap, length}
-use Rattle.pfair_weight.proofs.Common.{w128, leading_zeros}
+use Rattle.pfair_weight.proofs.Common.{w128, leading_zeros, ◌-◌, ◌/◌, ◌∙◌, ap, length}
 use Rattle.pfair_weight.proofs.Length.{name_length}
 use Rattle.pfair_weight.proofs.name.TaskName.length.Goals as goal
 

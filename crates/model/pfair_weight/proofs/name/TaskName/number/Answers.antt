@@ -1,5 +1,4 @@
-use Rattle.std.proofs.Common.{◌≡◌, ◌∙◌, ap, subst}
-use Rattle.pfair_weight.proofs.Common.{w128, from_be_bytes, slice_cmp, nat_cmp, IsTaskName, NameValue}
+use Rattle.pfair_weight.proofs.Common.{w128, from_be_bytes, slice_cmp, nat_cmp, IsTaskName, NameValue, ◌≡◌, ◌∙◌, ap, subst}
 use Rattle.pfair_weight.specs.Number.{name_of, number_of}
 use Rattle.pfair_weight.proofs.ByteOrder.{is_number, name_back, numbers_order}
 use Rattle.pfair_weight.proofs.name.TaskName.number.Goals as goal

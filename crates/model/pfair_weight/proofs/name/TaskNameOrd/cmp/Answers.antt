@@ -1,5 +1,4 @@
-use Rattle.std.proofs.Common.{◌∙◌, ap}
-use Rattle.pfair_weight.proofs.Common.{slice_cmp, nat_cmp}
+use Rattle.pfair_weight.proofs.Common.{slice_cmp, nat_cmp, ◌∙◌, ap}
 use Rattle.pfair_weight.proofs.name.TaskNameOrd.cmp.Goals as goal
 
 pub returns : goal.returns

@@ -1,6 +1,4 @@
-use Rattle.std.proofs.Common.{arith, ◌≡◌, ◌+◌, ◌-◌, ◌*◌, ◌<◌, ◌≤◌, ap}
-use Rattle.pfair_weight.proofs.Common.{common_steps, div_ceil, div_ceil_rises, mul-le, le_refl, MAX_CLOSE}
-use Rattle.pfair_weight.specs.Close.{Close}
+use Rattle.pfair_weight.proofs.Common.{common_steps, div_ceil, div_ceil_rises, mul-le, le_refl, MAX_CLOSE, arith, ◌≡◌, ◌+◌, ◌-◌, ◌*◌, ◌<◌, ◌≤◌, ap, Close}
 use Rattle.pfair_weight.proofs.Cascades.{grown, end_fits, more_of, more_between, ceiling_is}
 use Rattle.pfair_weight.proofs.stepper.Cascade.advance.Goals as goal
 use Rattle.pfair_weight.proofs.stepper.Cascade.advance.Goals.{After-ceiling}

@@ -1,5 +1,4 @@
-use Rattle.std.proofs.Common.{arith}
-use Rattle.pfair_weight.proofs.Common.{common_steps, rounded_twice}
+use Rattle.pfair_weight.proofs.Common.{common_steps, rounded_twice, arith}
 use Rattle.pfair_weight.proofs.Cascades.{ceiling_is}
 use Rattle.pfair_weight.proofs.stepper.Cascade.end.Goals as goal
 

@@ -1,4 +1,4 @@
-use Rattle.std.proofs.Common.{◌≡◌, ◌+◌, ◌*◌}
+use Rattle.pfair_weight.proofs.Common.{◌≡◌, ◌+◌, ◌*◌}
 use Rattle.pfair_weight.proofs.stepper.Fraction.add_times.Given as goal
 
 abbrev pub invariant-loop-time : goal.invariant-loop-time

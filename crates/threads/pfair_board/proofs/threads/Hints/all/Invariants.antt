@@ -1,4 +1,4 @@
-use Rattle.std.proofs.Common.{◌≡◌, length, vec_len}
+use Rattle.pfair_board.proofs.Common.{◌≡◌, length, vec_len}
 use Rattle.pfair_board.proofs.threads.Hints.all.Given as goal
 
 abbrev pub invariant-loop : goal.invariant-loop

@@ -1,5 +1,4 @@
-use Rattle.std.proofs.Common.{◌≡◌, ◌≤◌, length}
-use Rattle.pfair_board.proofs.Common.{IsAtWork}
+use Rattle.pfair_board.proofs.Common.{IsAtWork, ◌≡◌, ◌≤◌, length}
 use Rattle.pfair_board.proofs.worker.Worker.catch_up.Given as goal
 
 -- each turn has planned a slot

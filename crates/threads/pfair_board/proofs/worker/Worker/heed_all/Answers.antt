@@ -1,4 +1,4 @@
-use Rattle.std.proofs.Common.{arith}
+use Rattle.pfair_board.proofs.Common.{arith}
 use Rattle.pfair_board.proofs.Working.{learned_trans, at_work_later}
 use Rattle.pfair_board.proofs.worker.Worker.heed_all.Goals as goal
 

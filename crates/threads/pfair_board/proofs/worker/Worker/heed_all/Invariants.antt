@@ -1,5 +1,4 @@
-use Rattle.std.proofs.Common.{◌≡◌}
-use Rattle.pfair_board.proofs.Common.{IsDeskOf, HasLearned, IsAtWork}
+use Rattle.pfair_board.proofs.Common.{IsDeskOf, HasLearned, IsAtWork, ◌≡◌}
 use Rattle.pfair_board.proofs.worker.Worker.heed_all.Given as goal
 
 abbrev pub invariant-loop : goal.invariant-loop

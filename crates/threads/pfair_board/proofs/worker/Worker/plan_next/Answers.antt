@@ -1,7 +1,4 @@
-use Rattle.std.proofs.Common.{◌≡◌, ◌∙◌, sym, ap, subst, None}
-use Rattle.pfair_board.proofs.Common.{ReplicaRows, replica_of, plan}
-use Rattle.pfair_replica.specs.Replica.{Below}
-use Rattle.pfair_table.specs.Refinement.{Dispatch}
+use Rattle.pfair_board.proofs.Common.{ReplicaRows, replica_of, plan, ◌≡◌, ◌∙◌, sym, ap, subst, None, Below, Dispatch}
 use Rattle.pfair_board.proofs.worker.Worker.plan_next.Goals as goal
 
 pub plan_next-requires-clause-above : goal.plan_next-requires-clause-above

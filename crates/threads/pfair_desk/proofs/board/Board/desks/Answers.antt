@@ -1,6 +1,4 @@
-use Rattle.std.proofs.Common.{◌≡◌, ◌∙◌, ap, arith, map, sym}
-use Rattle.pfair_desk.proofs.Common.{cell_name, BoardFrame, fresh_desk, state_of}
-use Rattle.std.proofs.lemmas.Grind.{common_steps}
+use Rattle.pfair_desk.proofs.Common.{cell_name, BoardFrame, fresh_desk, state_of, ◌≡◌, ◌∙◌, ap, arith, map, sym, common_steps}
 use Rattle.pfair_desk.proofs.Rows.{each_snoc}
 use Rattle.pfair_desk.proofs.board.Board.desks.Goals as goal
 

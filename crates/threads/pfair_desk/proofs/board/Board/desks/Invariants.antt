@@ -1,5 +1,4 @@
-use Rattle.std.proofs.Common.{◌≡◌, ℕ, Some, length, slice_get}
-use Rattle.pfair_desk.proofs.Common.{DeskView, state_of, fresh_desk}
+use Rattle.pfair_desk.proofs.Common.{DeskView, state_of, fresh_desk, ◌≡◌, ℕ, Some, length, slice_get}
 use Rattle.pfair_desk.proofs.board.Board.desks.Given as goal
 
 abbrev pub invariant-loop-processor : goal.invariant-loop-processor

@@ -1,4 +1,4 @@
-use Rattle.std.proofs.Common.{◌≡◌, length}
+use Rattle.pfair_desk.proofs.Common.{◌≡◌, length}
 use Rattle.pfair_desk.proofs.board.Board.new.Given as goal
 
 abbrev pub invariant-loop : goal.invariant-loop

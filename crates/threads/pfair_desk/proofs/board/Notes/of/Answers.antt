@@ -1,4 +1,4 @@
-use Rattle.std.proofs.Common.{arith}
+use Rattle.pfair_desk.proofs.Common.{arith}
 use Rattle.pfair_desk.proofs.NoteLists.{names_push, blank_push}
 use Rattle.pfair_desk.proofs.board.Notes.of.Goals as goal
 

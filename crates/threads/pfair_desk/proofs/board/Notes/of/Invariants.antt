@@ -1,5 +1,4 @@
-use Rattle.std.proofs.Common.{◌≡◌, map, take, replicate, None}
-use Rattle.pfair_desk.proofs.Common.{cell_name}
+use Rattle.pfair_desk.proofs.Common.{cell_name, ◌≡◌, map, take, replicate, None}
 use Rattle.pfair_desk.proofs.board.Notes.of.Given as goal
 
 abbrev pub invariant-loop-cell : goal.invariant-loop-cell

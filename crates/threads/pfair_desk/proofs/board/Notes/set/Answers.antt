@@ -1,5 +1,4 @@
-use Rattle.std.proofs.Common.{rules, ◌≡◌, sym, ◌∙◌, ap, None, slice_index_or}
-use Rattle.pfair_desk.proofs.Common.{knowing}
+use Rattle.pfair_desk.proofs.Common.{knowing, rules, ◌≡◌, sym, ◌∙◌, ap, None, slice_index_or}
 use Rattle.pfair_desk.proofs.NoteLists.{view_learned, view_same, unknown_at}
 use Rattle.pfair_desk.proofs.board.Notes.set.Goals as goal
 

@@ -1,5 +1,4 @@
-use Rattle.std.proofs.Common.{arith}
-use Rattle.pfair_desk.proofs.Common.{get_or_past, length-map}
+use Rattle.pfair_desk.proofs.Common.{get_or_past, length-map, arith}
 use Rattle.pfair_desk.proofs.NotedLemmas.{more_refl, more_trans}
 use Rattle.pfair_desk.proofs.board.Notes.share.Goals as goal
 

@@ -1,5 +1,4 @@
-use Rattle.std.proofs.Common.{◌≡◌, ◌<◌, ℕ, None, Some, slice_index_or}
-use Rattle.pfair_desk.proofs.Common.{Logged, KnowMore}
+use Rattle.pfair_desk.proofs.Common.{Logged, KnowMore, ◌≡◌, ◌<◌, ℕ, None, Some, slice_index_or}
 use Rattle.pfair_desk.proofs.board.Notes.share.Given as goal
 
 -- what the other list knows of the cells so far is known

@@ -1,5 +1,4 @@
-use Rattle.std.proofs.Common.{arith}
-use Rattle.pfair_desk.proofs.Common.{get_or_past, length-map}
+use Rattle.pfair_desk.proofs.Common.{get_or_past, length-map, arith}
 use Rattle.pfair_desk.proofs.NoteLists.{more_shared, shared_at, alike_at, seen_at}
 use Rattle.pfair_desk.proofs.board.Notes.share_one.Goals as goal
 

@@ -1,5 +1,4 @@
-use Rattle.std.proofs.Common.{◌≡◌, ap, sym, ◌∙◌, subst, refl, Some, arith}
-use Rattle.pfair_desk.proofs.Common.{One, held, replica_of, IsKey, DeskView, learned, state_of, Knowledge}
+use Rattle.pfair_desk.proofs.Common.{One, held, replica_of, IsKey, DeskView, learned, state_of, Knowledge, ◌≡◌, ap, sym, ◌∙◌, subst, refl, Some, arith}
 use Rattle.pfair_desk.proofs.NotedLemmas.{in_order_after, in_order_only, keeps_after, now_one, place_there}
 use Rattle.pfair_desk.proofs.desk.Desk.look.Goals.{in-Ok, in-Err}
 use Rattle.pfair_desk.proofs.desk.Desk.look.Goals as goal

@@ -1,5 +1,4 @@
-use Rattle.std.proofs.Common.{◌∙◌, ap, None, length, replicate}
-use Rattle.pfair_desk.proofs.Common.{length-map, cell_name, replica_of}
+use Rattle.pfair_desk.proofs.Common.{length-map, cell_name, replica_of, ◌∙◌, ap, None, length, replicate}
 use Rattle.pfair_desk.proofs.NotedLemmas.{in_order_fresh}
 use Rattle.pfair_desk.proofs.desk.Desk.of.Goals as goal
 

@@ -1,5 +1,4 @@
-use Rattle.std.proofs.Common.{◌≡◌, ◌≤◌, ap, sym, subst, arith, refl}
-use Rattle.pfair_desk.proofs.Common.{Replica, replica_of, IsKey, DeskView, Knowledge}
+use Rattle.pfair_desk.proofs.Common.{Replica, replica_of, IsKey, DeskView, Knowledge, ◌≡◌, ◌≤◌, ap, sym, subst, arith, refl}
 use Rattle.pfair_desk.proofs.NotedLemmas.{in_order_after, in_order_next, keeps_after, now_one, place_there}
 use Rattle.pfair_desk.proofs.desk.Desk.put.Goals as goal
 

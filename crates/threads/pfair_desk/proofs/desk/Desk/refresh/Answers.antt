@@ -1,4 +1,4 @@
-use Rattle.std.proofs.Common.{arith}
+use Rattle.pfair_desk.proofs.Common.{arith}
 use Rattle.pfair_desk.proofs.Gains.{row_alike, rows_alike, same_trans, no_gap_on}
 use Rattle.pfair_desk.proofs.desk.Desk.refresh.Goals as goal
 

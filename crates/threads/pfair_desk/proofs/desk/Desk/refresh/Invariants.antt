@@ -1,5 +1,4 @@
-use Rattle.std.proofs.Common.{◌≡◌, ◌≤◌, ◌*◌, ℕ}
-use Rattle.pfair_desk.proofs.Common.{held, replica_of, Keeps, gained_in_rows, NoGapInRow, SameDesk}
+use Rattle.pfair_desk.proofs.Common.{held, replica_of, Keeps, gained_in_rows, NoGapInRow, SameDesk, ◌≡◌, ◌≤◌, ◌*◌, ℕ}
 use Rattle.pfair_desk.proofs.desk.Desk.refresh.Given as goal
 
 abbrev pub invariant-loop-processor : goal.invariant-loop-processor

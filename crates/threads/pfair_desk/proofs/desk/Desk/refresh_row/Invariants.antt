@@ -1,5 +1,4 @@
-use Rattle.std.proofs.Common.{◌≡◌, ◌<◌, ◌≤◌, ◌-◌, ◌+◌, ℕ, IsSome}
-use Rattle.pfair_desk.proofs.Common.{held, replica_of, Keeps, gained_in_row, SameDesk}
+use Rattle.pfair_desk.proofs.Common.{held, replica_of, Keeps, gained_in_row, SameDesk, ◌≡◌, ◌<◌, ◌≤◌, ◌-◌, ◌+◌, ℕ, IsSome}
 use Rattle.pfair_desk.proofs.desk.Desk.refresh_row.Given as goal
 
 abbrev pub invariant-loop-number : goal.invariant-loop-number
