@@ -1,21 +1,25 @@
 -- What the parser makes of the words of a program gives what is answered.
-use Rattle.std.proofs.Common.{arith, ◌≡◌, subst, inl, List, Result, Ok, Err}
-use Rattle.pfair_words.proofs.Common.{App, Text, subcommand_rows_of, IsParsed, Named, Matches, ProgramFault, Memory}
-use Rattle.clap.specs.declared.error.kind.ErrorKind.{ErrorKind}
-use Rattle.clap.specs.declared.parser.matches.ArgMatches.{ArgMatches}
-use Rattle.pfair_words.specs.Answers.{ToAny, ToTaken, ToWords}
+use Rattle.std.proofs.Common.{◌≡◌, subst, sym, inl, inr, List, Result, Ok, Err, IsErrAnd}
+use Rattle.pfair_words.proofs.Common.{App, Text, subcommand_rows_of, IsParsed, Named, Help, Matches, ProgramFault, CommandLine, Memory}
+use Rattle.pfair_words.specs.Answers.{ToAny, ToWords}
 use Rattle.pfair_words.specs.declared.command.Parsed.{Parsed}
 
--- the same words, at the line by its name
-pub parsed_at : (words : List Text) (app line : App) (p q : Parsed) → app ≡ line → IsParsed app words p → p ≡ q → IsParsed line words q
-parsed_at words app line p q e is at = subst (λ a. IsParsed a words q) e (subst (IsParsed app words) at is)
+module _ {A : Type 0} (line app : App) (to_command : Named → Result A ProgramFault → Type 0) (is_text : A → Type 0) (words : List Text) (e : app ≡ line) where
+  parsed : (p q : Result Parsed ProgramFault) → IsParsed app words p → p ≡ q → IsParsed line words q
+  parsed p q is same = subst (λ a. IsParsed a words q) e (subst (IsParsed app words) same is)
 
-module _ {A : Type 0} (line : App) (to_command : Named → Result A ProgramFault → Type 0) (to_kind : ErrorKind → Result A ProgramFault → Type 0) where
-  answer : (words : List Text) (r : Result A ProgramFault) → ToTaken line to_command to_kind words r → ToWords line to_command to_kind words r
-  answer words (Ok asked) h = inl h
-  answer words (Err Memory) h = tt
-  answer words (Err fault) h = inl h
+  pub taken : (p : Result Parsed ProgramFault) (m : _) → IsParsed app words p → p ≡ Ok (Matches m) → (r : Result A ProgramFault) → ToAny line to_command is_text (subcommand_rows_of m) r → ToWords line to_command is_text words r
+  taken p m is at (Err Memory) h = tt
+  taken p m is at r h = let took = parsed p (Ok (Matches m)) is at in inl (took.0, subst (λ n. ToAny line to_command is_text n r) took.1 h)
 
-  pub taken : (words : List Text) (app : App) (p : Parsed) (m : ArgMatches) (r : Result A ProgramFault) → app ≡ line → IsParsed app words p → p ≡ Matches m
-      → ToAny line to_command to_kind (subcommand_rows_of m) r → ToWords line to_command to_kind words r
-  taken words app p m r e is at h = grind (arith, parsed_at, answer)
+  pub text : (p : Result Parsed ProgramFault) (t : _) → IsParsed app words p → p ≡ Ok (Help t) → (asked : A) → is_text asked → ToWords line to_command is_text words (Ok asked)
+  text p t is at asked h = let told = parsed p (Ok (Help t)) is at in inr (told.0, told.1, (h, told.2))
+
+  pub refused : (p : Result Parsed ProgramFault) (fault : ProgramFault) → IsParsed app words p → p ≡ Err fault → (r : Result A ProgramFault) → IsErrAnd r (λ f. f ≡ fault) → ToWords line to_command is_text words r
+  refused p fault is at (Ok asked) own = absurd own
+  refused p fault is at (Err f) own = subst (λ f. ToWords line to_command is_text words (Err f)) (sym own) (by fault (parsed p (Err fault) is at))
+    where
+      by : (f : ProgramFault) → IsParsed line words (Err f) → ToWords line to_command is_text words (Err f)
+      by Memory h = tt
+      by CommandLine h = inr h
+      by _ h = absurd h

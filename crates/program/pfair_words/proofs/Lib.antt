@@ -1,5 +1,6 @@
-mod Answered
+pub mod Answered
 mod Common
+pub mod Rows
 pub mod FirstWord
 pub mod LineFacts
 pub mod PlainFacts

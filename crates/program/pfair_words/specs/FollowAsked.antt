@@ -1,13 +1,12 @@
 -- What the words of `pfair_follow` ask for, by the name of their command and the words under the names of its arguments.
 use Rattle.std.specs.Prelude.{ℕ, ◌≡◌, ◌≤◌, ◌⊎◌, ⊤, List, Option, None, Some, Result, Ok, Err, codes, string_bytes}
 use Rattle.clap.specs.Words.{Row, Text, first_of}
-use Rattle.clap.specs.declared.error.kind.ErrorKind.{ErrorKind}
 use Rattle.clap.specs.Walk.{one_of}
 use Rattle.pfair_table.specs.declared.settings.TheConstants.Settings.{MAX_SLOTS}
 use Rattle.pfair_table.specs.Limits.{IsSettings}
 use Rattle.pfair_table.specs.Table.{Settings}
-use Rattle.pfair_words.specs.Answers.{ToAny, ToTaken, ToUntaken, ToWords}
-use Rattle.pfair_words.specs.Parse.{AskFile, IsFlag, IsNumber, IsNumberIfAny, IsRefusalKind, IsTextIfAny, IsTextKind, Named}
+use Rattle.pfair_words.specs.Answers.{ToAny, ToWords}
+use Rattle.pfair_words.specs.Parse.{AskFile, IsFlag, IsNumber, IsNumberIfAny, IsTextIfAny, Named}
 use Rattle.pfair_words.specs.FollowLine.{line}
 use Rattle.pfair_words.specs.declared.follow.Feed.{Feed}
 use Rattle.pfair_words.specs.declared.follow.Resumed.{Resumed}
@@ -33,9 +32,6 @@ pub record AskFrom (rows : List Row) (from : ℕ) : Type 0 where
   pub number : IsNumber rows (codes "from") from
   pub in_range : from ≤ MAX_SLOTS
 
-abbrev pub AsksNoSlots : List Row → Type 0
-AsksNoSlots rows = (slots : ℕ) → ¬ IsNumber rows (codes "slots") slots
-
 -- a run that begins with the state of a file, by all but the file
 pub record AskResumed (rows : List Row) (resumed : Resumed) : Type 0 where
   pub slots : IsNumber rows (codes "slots") resumed.slots
@@ -50,7 +46,7 @@ AskStart rows (Later resumed) = (first_of (codes "resume") rows ≡ Some (string
 abbrev pub AsksNoStart : List Row → Type 0
 AsksNoStart rows =
     ((first_of (codes "resume") rows ≡ None) × AsksNoSettings rows)
-    ⊎ ((file : Text) × (first_of (codes "resume") rows ≡ Some file) × AsksNoSlots rows)
+    ⊎ ((file : Text) × (first_of (codes "resume") rows ≡ Some file) × ((slots : ℕ) → ¬ IsNumber rows (codes "slots") slots))
 
 -- a run
 pub record AskFeed (rows : List Row) (feed : Feed) : Type 0 where
@@ -74,6 +70,11 @@ Ask named (Decisions feed) = AskFed (codes "decisions") named feed
 Ask named (Lags feed) = AskFed (codes "lags") named feed
 Ask named (Help text) = ⊥
 
+-- a text about the program
+abbrev pub IsText : Asked → Type 0
+IsText (Help text) = ⊤
+IsText _ = ⊥
+
 -- no command asks for anything
 pub record AskNothing (named : Named) : Type 0 where
   pub no_entries : (file : Text) → ¬ AskFile (codes "entries") named file
@@ -81,34 +82,16 @@ pub record AskNothing (named : Named) : Type 0 where
   pub no_decisions : named.0 ≡ codes "decisions" → AsksNoFeed named.1
   pub no_lags : named.0 ≡ codes "lags" → AsksNoFeed named.1
 
--- why a command is refused: it asks for nothing
-abbrev pub IsRefusedAs : Named → ProgramFault → Type 0
-IsRefusedAs named Memory = ⊤
-IsRefusedAs named CommandLine = AskNothing named
-IsRefusedAs named _ = ⊥
-
 -- what is answered to a command
 abbrev pub IsAnswerTo : Named → Result Asked ProgramFault → Type 0
 IsAnswerTo named (Ok asked) = Ask named asked
-IsAnswerTo named (Err fault) = IsRefusedAs named fault
-
--- what is answered if the parser gives no command but an error of this kind: a text about the program, a refusal, or a failed allocation
-abbrev pub IsAnswerToKind : ErrorKind → Result Asked ProgramFault → Type 0
-IsAnswerToKind kind (Ok (Help text)) = IsTextKind kind
-IsAnswerToKind kind (Ok _) = ⊥
-IsAnswerToKind kind (Err Memory) = ⊤
-IsAnswerToKind kind (Err CommandLine) = IsRefusalKind kind
-IsAnswerToKind kind (Err _) = ⊥
+IsAnswerTo named (Err Memory) = ⊤
+IsAnswerTo named (Err CommandLine) = AskNothing named
+IsAnswerTo named (Err _) = ⊥
 
 abbrev pub IsAnswerToAny : Option Named → Result Asked ProgramFault → Type 0
-IsAnswerToAny = ToAny line IsAnswerTo IsAnswerToKind
-
-abbrev pub IsAnswerToTaken : List Text → Result Asked ProgramFault → Type 0
-IsAnswerToTaken = ToTaken line IsAnswerTo IsAnswerToKind
-
-abbrev pub IsAnswerToUntaken : List Text → Result Asked ProgramFault → Type 0
-IsAnswerToUntaken = ToUntaken line IsAnswerTo IsAnswerToKind
+IsAnswerToAny = ToAny line IsAnswerTo IsText
 
 -- what is answered to words
 abbrev pub IsAnswer : List Text → Result Asked ProgramFault → Type 0
-IsAnswer = ToWords line IsAnswerTo IsAnswerToKind
+IsAnswer = ToWords line IsAnswerTo IsText

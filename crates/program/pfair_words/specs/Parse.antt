@@ -1,5 +1,5 @@
 -- What the parser makes of words, and what stands under the names of arguments.
-use Rattle.std.specs.Prelude.{ℕ, ◌≡◌, ◌≢◌, ◌<◌, ◌^◌, ◌⊎◌, true, false, List, [], map, Option, Some, None, MatchOption, codes, String, string_bytes}
+use Rattle.std.specs.Prelude.{ℕ, ◌≡◌, ◌≢◌, ◌<◌, ◌^◌, ◌⊎◌, true, false, List, [], map, Option, Some, None, MatchOption, Result, Ok, Err, ⊤, codes, String, string_bytes}
 use Rattle.std.specs.declared.alloc.Global.{Global}
 use Rattle.std.specs.Option.{option_map}
 use Rattle.std.specs.Str.Parse.{IsNumeral, digits_value, without_leading_plus}
@@ -8,7 +8,9 @@ use Rattle.clap.specs.Walk.{one_of}
 use Rattle.clap.specs.declared.error.kind.ErrorKind.{ErrorKind}
 use Rattle.clap.specs.declared.error.kind.ErrorKind.TheVariants.{DisplayHelp, DisplayVersion, OutOfMemory}
 use Rattle.pfair_words.specs.declared.command.Parsed.{Parsed}
-use Rattle.pfair_words.specs.declared.command.Parsed.TheVariants.{Matches, Help, Refused}
+use Rattle.pfair_words.specs.declared.command.Parsed.TheVariants.{Matches, Help}
+use Rattle.pfair_file.specs.declared.program_fault.ProgramFault.{ProgramFault}
+use Rattle.pfair_file.specs.declared.program_fault.ProgramFault.TheVariants.{CommandLine, Memory}
 
 abbrev pub texts : List (String Global) → List Text
 texts words = map string_bytes words
@@ -67,13 +69,10 @@ IsTaken line words P = (fault_of line words ≡ []) × P (subcommand_of line wor
 abbrev pub IsUntaken : App → List Text → (ErrorKind → Type 0) → Type 0
 IsUntaken line words P = (kind : ErrorKind) × IsAmong kind (fault_of line words) × P kind
 
--- what is made of words that the parser doesn't take, by the kind of its error
-abbrev pub IsUntakenAs : ErrorKind → Parsed → Type 0
-IsUntakenAs kind (Matches matches) = ⊥
-IsUntakenAs kind (Help text) = IsTextKind kind
-IsUntakenAs kind Refused = IsRefusalKind kind
-
 -- what is made of words
-abbrev pub IsParsed : App → List Text → Parsed → Type 0
-IsParsed line words (Matches matches) = IsTaken line words (λ named. subcommand_rows_of matches ≡ named)
-IsParsed line words parsed = IsUntaken line words (λ kind. IsUntakenAs kind parsed)
+abbrev pub IsParsed : App → List Text → Result Parsed ProgramFault → Type 0
+IsParsed line words (Ok (Matches matches)) = IsTaken line words (λ named. subcommand_rows_of matches ≡ named)
+IsParsed line words (Ok (Help text)) = IsUntaken line words IsTextKind
+IsParsed line words (Err CommandLine) = IsUntaken line words IsRefusalKind
+IsParsed line words (Err Memory) = ⊤
+IsParsed line words (Err _) = ⊥

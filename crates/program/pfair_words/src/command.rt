@@ -1,13 +1,15 @@
 //! What the command lines of both programs are made of, and how words are read by them.
+#![tactic(auto, using(crate::proofs::Rows::by_rows))]
+
 ghost use Rattle.std.specs.Prelude.{◌≡◌, IfOk, Ok, false, ◌⊎◌, ℕ, MatchResult, None, Some, codes, string_bytes, true};
-ghost use Rattle.clap.specs.Words.{AddsSubcommand, new_app, rule_of, app_of, first_of, found_of, is_simple_and_free, kind_of, rows_of};
+ghost use Rattle.clap.specs.Words.{AddsSubcommand, new_app, rule_of, app_of, first_of, found_of, is_simple_and_free, rows_of, with_rule};
 ghost use Rattle.pfair_words.specs.Line as line;
 ghost use Rattle.clap.specs.Walk.{one_of};
-ghost use Rattle.pfair_words.specs.Parse.{IsFlag, IsNumber, IsNumberIfAny, IsParsed, IsTextIfAny, IsUntakenAs, texts};
+ghost use Rattle.pfair_words.specs.Parse.{IsFlag, IsNumber, IsNumberIfAny, IsParsed, IsTextIfAny, texts};
 ghost use Rattle.pfair_file.specs.declared.program_fault.ProgramFault.TheVariants.{CommandLine, Memory};
 
 use clap::error::ErrorKind;
-use clap::{Arg, ArgAction, ArgMatches, Command, Error};
+use clap::{Arg, ArgAction, ArgMatches, Command};
 use pfair_file::ProgramFault;
 use std::alloc::{AllocError, Global};
 
@@ -73,15 +75,19 @@ pub(crate) fn command<'a>(alloc: Global, name: &'a str, texts: Texts) -> Command
         .after_help(texts.after)
 }
 
-/// The task file that a command is over.
-pub(crate) fn file<'a>(alloc: Global) -> Arg<'a>
-    ensures rule { rule_of result ≡ line.file }
-    ensures here { result.global ≡ false }
+/// A command over a task file, without its flags.
+pub(crate) fn over_file<'a>(
+    alloc: Global,
+    name: &'a str,
+    texts: Texts,
+) -> Result<Command<'a>, AllocError>
+    ensures { IfOk result (line.IsRead (with_rule (new_app name.now) line.file)) }
 {
-    Arg::new(alloc, "file")
+    let file = Arg::new(alloc, "file")
         .value_name("FILE")
         .help("Task file: TOML, at most 67108864 bytes")
-        .required(true)
+        .required(true);
+    command(alloc, name, texts).arg(file)
 }
 
 /// The flag by which rows get their places.
@@ -107,45 +113,37 @@ pub(crate) fn flag<'a>(alloc: Global, name: &'a str, help: &'a str) -> Arg<'a>
         .action(ArgAction::SetTrue)
 }
 
-/// What the parser makes of words.
+/// What words that the parser takes ask for.
 #[derive(Drop)]
 pub(crate) enum Parsed<'a> {
-    /// It takes them.
+    /// A command.
     Matches(ArgMatches<'a>),
-    /// They ask for a text about the program: how it is used, or its name and version.
+    /// A text about the program: how it is used, or its name and version.
     Help(String),
-    /// It refuses them.
-    Refused,
 }
 
 /// Reads the words after the program's name by its command line.
 ///
 /// # Errors
-/// [`AllocError`] if an allocation fails.
+/// [`ProgramFault::CommandLine`] if the parser refuses them, and [`ProgramFault::Memory`] if an
+/// allocation fails.
 pub(crate) fn parse<'a>(
     alloc: Global,
     command: Command<'a>,
     words: &'a [String],
-) -> Result<Parsed<'a>, AllocError>
+) -> Result<Parsed<'a>, ProgramFault>
     requires { is_simple_and_free (app_of command) ≡ true }
-    ensures { IfOk result (IsParsed (app_of command.entry) (texts words.now)) }
+    ensures { IsParsed (app_of command.entry) (texts words.now) result }
 {
     match command.try_get_matches_from(words) {
         Ok(matches) => Ok(Parsed::Matches(matches)),
-        Err(error) => untaken(alloc, &error),
-    }
-}
-
-// Help, the version, or a refusal.
-fn untaken<'a>(alloc: Global, error: &Error) -> Result<Parsed<'a>, AllocError>
-    ensures { IfOk result (IsUntakenAs (kind_of error.now)) }
-{
-    match error.kind() {
-        ErrorKind::DisplayHelp | ErrorKind::DisplayVersion => {
-            Ok(Parsed::Help(error.to_string(alloc)?))
-        }
-        ErrorKind::OutOfMemory => Err(AllocError),
-        _ => Ok(Parsed::Refused),
+        Err(error) => match error.kind() {
+            ErrorKind::DisplayHelp | ErrorKind::DisplayVersion => {
+                Ok(Parsed::Help(error.to_string(alloc)?))
+            }
+            ErrorKind::OutOfMemory => Err(ProgramFault::Memory),
+            _ => Err(ProgramFault::CommandLine),
+        },
     }
 }
 
@@ -159,10 +157,7 @@ pub(crate) fn file_name(alloc: Global, words: &ArgMatches<'_>) -> Result<String,
         (λ name. first_of (codes "file") (rows_of (found_of words.now)) ≡ Some (string_bytes name))
         (λ e. (e ≡ Memory) ⊎ ((e ≡ CommandLine) × (first_of (codes "file") (rows_of (found_of words.now)) ≡ None))) }
 {
-    match words.get_str("file") {
-        Some(file) => Ok(String::from_str(alloc, file)?),
-        None => Err(ProgramFault::CommandLine),
-    }
+    text_if_any(alloc, words, "file")?.ok_or(ProgramFault::CommandLine)
 }
 
 /// The word under a name, if there is one.

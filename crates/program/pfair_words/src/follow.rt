@@ -2,7 +2,7 @@
 ghost use Rattle.std.specs.Prelude.{◌≡◌, ◌⊎◌, MatchResult, IfOk, false};
 ghost use Rattle.clap.specs.Words.{found_of, rows_of, subcommand_rows_of, new_app, rule_of};
 ghost use Rattle.pfair_words.specs.Parse.{texts};
-ghost use Rattle.pfair_words.specs.FollowAsked.{AskFeed, AskResumed, AskSettings, AskStart, AsksNoFeed, AsksNoSettings, AsksNoSlots, AsksNoStart, IsAnswer, IsAnswerToAny};
+ghost use Rattle.pfair_words.specs.FollowAsked.{AskFeed, AskSettings, AskStart, AsksNoFeed, AsksNoSettings, AsksNoStart, IsAnswer, IsAnswerToAny};
 ghost use Rattle.pfair_file.specs.declared.program_fault.ProgramFault.TheVariants.{CommandLine, Memory};
 ghost use Rattle.pfair_words.specs.Line.{IsRead};
 ghost use Rattle.pfair_words.specs.FollowLine as line;
@@ -10,8 +10,8 @@ ghost use Rattle.pfair_words.specs.FollowLine as line;
 mod help;
 
 use crate::command::{
-    Parsed, Texts, affinity, command, file, file_name, flag, is_set, number, number_if_any, parse,
-    program, text_if_any, with,
+    Parsed, Texts, affinity, command, file_name, flag, is_set, number, number_if_any, over_file,
+    parse, program, text_if_any, with,
 };
 use clap::builder::ValueParser;
 use clap::{Arg, ArgMatches, Command};
@@ -92,7 +92,6 @@ pub fn read_words(alloc: Global, words: &[String]) -> Result<Asked, ProgramFault
     match parse(alloc, command_line(alloc)?, words)? {
         Parsed::Matches(matches) => read_matches(alloc, &matches),
         Parsed::Help(text) => Ok(Asked::Help { text }),
-        Parsed::Refused => Err(ProgramFault::CommandLine),
     }
 }
 
@@ -146,23 +145,14 @@ fn read_start(alloc: Global, words: &ArgMatches<'_>) -> Result<Start, ProgramFau
         (λ e. (e ≡ Memory) ⊎ ((e ≡ CommandLine) × AsksNoStart (rows_of (found_of words.now)))) }
 {
     match text_if_any(alloc, words, "resume")? {
-        Some(file) => Ok(Start::Later(read_resumed(words, file)?)),
+        Some(file) => Ok(Start::Later(Resumed {
+            file,
+            slots: number(words, "slots")?,
+            processors: number_if_any(words, "processors"),
+            frame: number_if_any(words, "frame"),
+        })),
         None => Ok(Start::First(read_settings(words)?)),
     }
-}
-
-// The run that begins with the state of this file.
-fn read_resumed(words: &ArgMatches<'_>, file: String) -> Result<Resumed, ProgramFault>
-    ensures { MatchResult result
-        (λ resumed. (resumed.file ≡ file) × AskResumed (rows_of (found_of words.now)) resumed)
-        (λ e. (e ≡ CommandLine) × AsksNoSlots (rows_of (found_of words.now))) }
-{
-    Ok(Resumed {
-        file,
-        slots: number(words, "slots")?,
-        processors: number_if_any(words, "processors"),
-        frame: number_if_any(words, "frame"),
-    })
 }
 
 // The settings that the options tell.
@@ -181,37 +171,17 @@ fn read_settings(words: &ArgMatches<'_>) -> Result<Settings, ProgramFault>
 fn command_line<'a>(alloc: Global) -> Result<Command<'a>, AllocError>
     ensures { IfOk result (IsRead line.line) }
 {
-    let follow = with(
-        program(alloc, "pfair_follow", ABOUT, AFTER)?,
-        entries(alloc),
-    )?;
+    let follow = program(alloc, "pfair_follow", ABOUT, AFTER)?;
+    let follow = with(follow, over_file(alloc, "entries", ENTRIES_TEXTS))?;
     let follow = with(follow, replay(alloc))?;
-    let follow = with(follow, decisions(alloc))?;
-    with(follow, lags(alloc))
-}
-
-fn entries<'a>(alloc: Global) -> Result<Command<'a>, AllocError>
-    ensures { IfOk result (IsRead line.entries) }
-{
-    command(alloc, "entries", ENTRIES_TEXTS).arg(file(alloc))
+    let follow = with(follow, run(alloc, "decisions", DECISIONS_TEXTS))?;
+    with(follow, run(alloc, "lags", LAGS_TEXTS))
 }
 
 fn replay<'a>(alloc: Global) -> Result<Command<'a>, AllocError>
     ensures { IfOk result (IsRead line.replay) }
 {
     run(alloc, "replay", REPLAY_TEXTS)?.arg(affinity(alloc))
-}
-
-fn decisions<'a>(alloc: Global) -> Result<Command<'a>, AllocError>
-    ensures { IfOk result (IsRead line.decisions) }
-{
-    run(alloc, "decisions", DECISIONS_TEXTS)
-}
-
-fn lags<'a>(alloc: Global) -> Result<Command<'a>, AllocError>
-    ensures { IfOk result (IsRead line.lags) }
-{
-    run(alloc, "lags", LAGS_TEXTS)
 }
 
 // A command over a run, with its options.
@@ -229,35 +199,39 @@ fn run<'a>(alloc: Global, name: &'a str, texts: Texts) -> Result<Command<'a>, Al
 fn with_settings<'a>(alloc: Global, name: &'a str, texts: Texts) -> Result<Command<'a>, AllocError>
     ensures { IfOk result (IsRead (line.with_settings (new_app name.now))) }
 {
-    let slots = numbered(alloc, "slots", "S", SLOTS_HELP, Settings::MAX_SLOTS).required(true);
+    let processors = Settings::MAX_PROCESSORS as u64;
+    let slots = numbered(alloc, "slots", "S", SLOTS_HELP, 1, Settings::MAX_SLOTS);
     command(alloc, name, texts)
-        .arg(numbered(
-            alloc,
-            "processors",
-            "M",
-            PROCESSORS_HELP,
-            Settings::MAX_PROCESSORS as u64,
-        ))?
-        .arg(numbered(alloc, "frame", "F", FRAME_HELP, Settings::MAX_FRAME))?
-        .arg(slots)
+        .arg(numbered(alloc, "processors", "M", PROCESSORS_HELP, 1, processors))?
+        .arg(numbered(alloc, "frame", "F", FRAME_HELP, 1, Settings::MAX_FRAME))?
+        .arg(slots.required(true))
 }
 
-// An option with a number from 1 to `most`.
+// The first slot whose rows are written: 0 if it isn't given.
+fn from<'a>(alloc: Global) -> Arg<'a>
+    ensures rule { rule_of result ≡ line.from }
+    ensures here { result.global ≡ false }
+{
+    numbered(alloc, "from", "SLOT", FROM_HELP, 0, Settings::MAX_SLOTS).default_value("0")
+}
+
+// An option with a number from `least` to `most`.
 fn numbered<'a>(
     alloc: Global,
     name: &'a str,
     value_name: &'a str,
     help: &'a str,
+    least: u64,
     most: u64,
 ) -> Arg<'a>
-    ensures rule { rule_of result ≡ line.option name.now 1 most }
+    ensures rule { rule_of result ≡ line.option name.now least most }
     ensures here { result.global ≡ false }
 {
     Arg::new(alloc, name)
         .long(name)
         .value_name(value_name)
         .help(help)
-        .value_parser(ValueParser::Unsigned(1, most))
+        .value_parser(ValueParser::Unsigned(least, most))
 }
 
 // An option with the name of a file.
@@ -269,17 +243,4 @@ fn worded<'a>(alloc: Global, name: &'a str, help: &'a str) -> Arg<'a>
         .long(name)
         .value_name("FILE")
         .help(help)
-}
-
-// The first slot whose rows are written: 0 if it isn't given.
-fn from<'a>(alloc: Global) -> Arg<'a>
-    ensures rule { rule_of result ≡ line.from }
-    ensures here { result.global ≡ false }
-{
-    Arg::new(alloc, "from")
-        .long("from")
-        .value_name("SLOT")
-        .help(FROM_HELP)
-        .default_value("0")
-        .value_parser(ValueParser::Unsigned(0, Settings::MAX_SLOTS))
 }

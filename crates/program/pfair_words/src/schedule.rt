@@ -10,7 +10,7 @@ ghost use Rattle.pfair_words.specs.ScheduleLine as line;
 mod help;
 
 use crate::command::{
-    Parsed, affinity, command, file, file_name, is_set, number, parse, program, with,
+    Parsed, affinity, command, file_name, is_set, number, over_file, parse, program, with,
 };
 use clap::builder::ValueParser;
 use clap::{Arg, ArgMatches, Command};
@@ -61,7 +61,6 @@ pub fn read_words(alloc: Global, words: &[String]) -> Result<Asked, ProgramFault
     match parse(alloc, command_line(alloc)?, words)? {
         Parsed::Matches(matches) => read_matches(alloc, &matches),
         Parsed::Help(text) => Ok(Asked::Help { text }),
-        Parsed::Refused => Err(ProgramFault::CommandLine),
     }
 }
 
@@ -98,10 +97,8 @@ fn read_windows(words: &ArgMatches<'_>) -> Result<Asked, ProgramFault>
     if count > MAX_COUNT {
         return Err(ProgramFault::CommandLine);
     }
-    match Weight::new(cost, period) {
-        Ok(weight) => Ok(Asked::Windows { weight, count }),
-        Err(fault) => Err(ProgramFault::Weight(fault)),
-    }
+    let weight = Weight::new(cost, period).map_err(ProgramFault::Weight)?;
+    Ok(Asked::Windows { weight, count })
 }
 
 // The command line as `clap` is to read it.
@@ -110,8 +107,8 @@ fn command_line<'a>(alloc: Global) -> Result<Command<'a>, AllocError>
 {
     let pfair = with(program(alloc, "pfair", ABOUT, AFTER)?, windows(alloc))?;
     let pfair = with(pfair, replay(alloc))?;
-    let pfair = with(pfair, decisions(alloc))?;
-    with(pfair, lags(alloc))
+    let pfair = with(pfair, over_file(alloc, "decisions", DECISIONS_TEXTS))?;
+    with(pfair, over_file(alloc, "lags", LAGS_TEXTS))
 }
 
 fn windows<'a>(alloc: Global) -> Result<Command<'a>, AllocError>
@@ -126,21 +123,7 @@ fn windows<'a>(alloc: Global) -> Result<Command<'a>, AllocError>
 fn replay<'a>(alloc: Global) -> Result<Command<'a>, AllocError>
     ensures { IfOk result (IsRead line.replay) }
 {
-    command(alloc, "replay", REPLAY_TEXTS)
-        .arg(file(alloc))?
-        .arg(affinity(alloc))
-}
-
-fn decisions<'a>(alloc: Global) -> Result<Command<'a>, AllocError>
-    ensures { IfOk result (IsRead line.decisions) }
-{
-    command(alloc, "decisions", DECISIONS_TEXTS).arg(file(alloc))
-}
-
-fn lags<'a>(alloc: Global) -> Result<Command<'a>, AllocError>
-    ensures { IfOk result (IsRead line.lags) }
-{
-    command(alloc, "lags", LAGS_TEXTS).arg(file(alloc))
+    over_file(alloc, "replay", REPLAY_TEXTS)?.arg(affinity(alloc))
 }
 
 // A number from 0 to `most`, which has to be there.
