@@ -1,5 +1,5 @@
 -- How a command over a task file ends, whatever it writes.
-use Rattle.std.proofs.Common.{arith, ℕ, List, Option, None, Some, Result, Ok, Err, ◌≡◌, inr, refl, subst, sym, IfSome, IsErrAnd}
+use Rattle.std.proofs.Common.{arith, ℕ, List, Option, None, Some, Result, Ok, Err, ◌≡◌, refl, subst, sym, IfSome, IsErrAnd}
 use Rattle.std.specs.Io.KnownBytes.{Appends, Keeps}
 use Rattle.pfair_text.specs.Output.{TakesPrefix}
 use Rattle.pfair_file.specs.Commands.{IsCommandOf}
@@ -31,21 +31,9 @@ module _ {T : Type 0} {IsOutput : List ℕ → (List ℕ → Type 0) → Type 0}
   module _ {A : Type 0} {a : A} (taken : TakesOneFile (Ok a) given left) where
     pub ends_well : {after : Option (List ℕ)} {shown : List ℕ} (x : T) → ((P : List ℕ → Type 0) → P shown → IfSome given (λ bytes. IsOutput bytes P)) → Appends before after shown
         → IsCommandOf IsOutput IsFault (Ok x) given left before after
-    ends_well {after = after} x made sent = record {
-      ok = made (Appends before after) sent;
-      refused = tt;
-      taken = record { long = λ same. cc same; unread = λ same. cc same; within = taken.within; within_fault = tt; end = taken.end; end_fault = tt; most = taken.most };
-      nothing = tt;
-      cut = λ same. cc same;
-    }
+    ends_well x made sent = grind arith
 
     -- or by its writer
     pub ends_cut : {after : Option (List ℕ)} {shown : List ℕ} (r : Result T ProgramFault) → IsErrAnd r (λ e. e ≡ WriteFailed) → ((P : List ℕ → Type 0) → P shown → IfSome given (λ bytes. IsOutput bytes P)) → TakesPrefix before after shown
         → IsCommandOf IsOutput IsFault r given left before after
-    ends_cut {after = after} r is made sent = err_is (λ r. IsCommandOf IsOutput IsFault r given left before after) r WriteFailed is (record {
-      ok = tt;
-      refused = inr refl;
-      taken = record { long = λ same. cc same; unread = λ same. cc same; within = tt; within_fault = λ short known. taken.within; end = tt; end_fault = λ short read known. taken.end; most = taken.most };
-      nothing = λ other. absurd (other refl);
-      cut = λ same. made (TakesPrefix before after) sent;
-    })
+    ends_cut r is made sent = grind (arith, err_is)

@@ -3,4 +3,4 @@ mod Common
 mod FirstFaults
 mod LogFacts
 mod OrderFacts
-mod TableFacts
+pub mod TableFacts

@@ -2,6 +2,7 @@
 use Rattle.std.proofs.Common.{ℕ, List, [], ◌∷◌, ◌++◌, Result, Ok, Err, ◌≡◌, ◌∙◌, ◌+◌, ◌<◌, length, get_or, append_assoc, append-nil, refl, sym, ap, subst, arith}
 use Rattle.pfair_file.proofs.Common.{length-set, get_or-set_same, get_or-set_other, Members, Logged, empty_logs, Logs, logs_after, with_entries, with_entry, longer_log, FileFault}
 use Rattle.std.proofs.lemmas.Grind.{common_steps}
+use Rattle.pfair_entry.specs.Results.{and_then}
 use Rattle.pfair_entry.specs.declared.notice.NoticeFault.{NoticeFault}
 use Rattle.pfair_file.specs.FileOrder.{LogsAreInFileOrder, entries_for, entry_for, entry_list}
 use Rattle.pfair_file.specs.Tables.{made_at}
@@ -17,15 +18,8 @@ record IsAfter (logs after : Logs) (found : Result Made FileFault) : Type 0 wher
   pub same_many : length after ≡ length logs
   pub longer : (p : ℕ) → p < length logs → get_or after p [] ≡ get_or logs p [] ++ entry_for p found
 
-after-made : (logs after : Logs) (made : Made) → logs_after logs made ≡ Ok after → IsAfter logs after (Ok made)
-after-made logs after made h = grind (arith, longer-is, length-set, get_or-set_same, get_or-set_other, append-nil)
-
-after-table : (version place : ℕ) (logs after : Logs) (table : Members) → with_entry version place logs table ≡ Ok after → IsAfter logs after (made_at version (length logs) place table)
-after-table version place logs after table h = go (made_at version (length logs) place table) refl h
-  where
-    go : (r : Result Made FileFault) → made_at version (length logs) place table ≡ r → with_entry version place logs table ≡ Ok after → IsAfter logs after (made_at version (length logs) place table)
-    go (Err f) e g = absurd (let bad = rw e at g in cc bad)
-    go (Ok made) e g = rw e (after-made logs after made (rw e at g))
+after-found : (logs after : Logs) (found : Result Made FileFault) → and_then (λ made. logs_after logs made) found ≡ Ok after → IsAfter logs after found
+after-found logs after found h = grind (arith, longer-is, length-set, get_or-set_same, get_or-set_other, append-nil)
 
 -- the logs after some tables
 pub after-tables : (version processors place : ℕ) (logs after : Logs) (tables : List Members) → length logs ≡ processors → with_entries version place logs tables ≡ Ok after
@@ -39,7 +33,7 @@ after-tables version processors place logs after (table ∷ tables) size h p wit
         → get_or after p [] ≡ get_or logs p [] ++ entries_for version processors p place (table ∷ tables)
     go (Err f) e g ih = absurd (let bad = rw e at g in cc bad)
     go (Ok next) e g ih =
-        let step = after-table version place logs next table e in
+        let step = after-found logs next (made_at version (length logs) place table) e in
         let rest = ih next (step.same_many ∙ size) (rw e at g) in
         let here : get_or next p [] ≡ get_or logs p [] ++ entry_for p (made_at version processors place table) = rw size at (step.longer p (subst (λ n. p < n) (sym size) within)) in
         rest ∙ (ap (λ xs. xs ++ entries_for version processors p (place + 1) tables) here ∙ append_assoc (get_or logs p []) _ _)

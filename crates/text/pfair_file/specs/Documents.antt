@@ -1,5 +1,5 @@
 -- What a file's bytes say.
-use Rattle.std.specs.Prelude.{ℕ, List, [], ◌∷◌, ◌++◌, ◌-◌, Bool, true, Option, None, Some, Result, Ok, if◌then◌else◌, length, map, nat_lt, ok_or, replicate, slice_get}
+use Rattle.std.specs.Prelude.{ℕ, List, [], ◌∷◌, ◌++◌, ◌-◌, true, Option, None, Some, Result, Ok, if◌then◌else◌, length, map, nat_lt, ok_or, replicate, slice_get}
 use Rattle.std.specs.Option.{option_map_or}
 use Rattle.std.specs.Str.{is_utf8}
 use Rattle.toml.specs.Data.{Data, Members, as_array, get_member}
@@ -31,17 +31,11 @@ entries_in version logs (Some d) = and_then (λ items. with_items version logs i
 abbrev pub entries_at : ℕ → Logs → Members → Result Logs FileFault
 entries_at version logs table = entries_in version logs (get_member (key_of field.Entries) table)
 
--- the last entry of a log
-abbrev pub last_entry : List Logged → Option Logged
-last_entry log = slice_get log (length log - 1)
-
--- whether a log has no entry, or its last floor is below the number of slots
-abbrev pub is_open : ℕ → List Logged → Bool
-is_open slots log = option_map_or (λ e. nat_lt e.floor slots) (last_entry log) true
-
--- a log with the entry that closes it
+-- a log with the entry that closes it, if it has no entry or its last floor is below the number of slots
 abbrev pub closed : ℕ → List Logged → List Logged
-closed slots log = if is_open slots log then log ++ (record { floor = slots; said = None }) ∷ [] else log
+closed slots log =
+    let is_open = option_map_or (λ e. nat_lt e.floor slots) (slice_get log (length log - 1)) true in
+    if is_open then log ++ (record { floor = slots; said = None }) ∷ [] else log
 
 abbrev pub close_all : ℕ → Logs → Logs
 close_all slots logs = map (closed slots) logs
@@ -50,16 +44,14 @@ close_all slots logs = map (closed slots) logs
 abbrev pub logs_at : ℕ → Settings → Members → Result Logs FileFault
 logs_at version settings table = and_then (λ logs. Ok (close_all settings.slots logs)) (entries_at version (empty_logs settings.processors) table)
 
--- what a table says, or its first fault
-abbrev pub script_of : Members → Result LoggedRun FileFault
-script_of table =
+-- what a file says, or its first fault
+abbrev pub script_of_file : List ℕ → Result LoggedRun FileFault
+script_of_file bytes =
+    and_then (λ table.
     and_then (λ version.
     and_then (λ settings.
     and_then (λ logs. Ok (record { settings = settings; logs = logs }))
     (logs_at version settings table))
     (settings_of table))
-    (version_of table)
-
--- what a file says, or its first fault
-abbrev pub script_of_file : List ℕ → Result LoggedRun FileFault
-script_of_file bytes = and_then script_of (ok_or (document bytes) NotToml)
+    (version_of table))
+    (ok_or (document bytes) NotToml)

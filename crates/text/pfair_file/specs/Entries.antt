@@ -16,18 +16,14 @@ use Rattle.pfair_file.specs.declared.tables.TheConstants.{MOST_ENTRIES}
 abbrev pub Logs : Type 0
 Logs = List (List Logged)
 
--- the next entry of a log, of which a file leaves room for the closing one
-abbrev pub next_entry_of : List Logged → Result Logged NoticeFault → Result Logged NoticeFault
-next_entry_of log made = if nat_le MOST_ENTRIES (length log) then Err LogFull else made
-
 -- the log of a processor with one more entry, or why it has none
 abbrev pub with_next : ℕ → List Logged → Result Logged NoticeFault → Result (List Logged) FileFault
 with_next processor log (Ok entry) = Ok (log ++ entry ∷ [])
 with_next processor log (Err cause) = Err (fault.Entry processor (length log + 1) cause)
 
--- the log of a processor after a table that makes this entry
+-- the log of a processor after a table that makes this entry: a file leaves room for the closing one
 abbrev pub longer_log : ℕ → List Logged → Result Logged NoticeFault → Result (List Logged) FileFault
-longer_log processor log made = with_next processor log (next_entry_of log made)
+longer_log processor log made = with_next processor log (if nat_le MOST_ENTRIES (length log) then Err LogFull else made)
 
 -- the logs after a table that makes this
 abbrev pub logs_after : Logs → Made → Result Logs FileFault

@@ -54,18 +54,7 @@ abbrev pub is_refusal : ProgramFault → Bool
 is_refusal (Row fault) = true
 is_refusal NoSuchProcessor = true
 is_refusal NumberOutOfRange = true
-is_refusal (Weight fault) = false
-is_refusal (Torn proc number) = false
-is_refusal Spent = false
-is_refusal (Stalled slot) = false
-is_refusal GateGaveUp = false
-is_refusal Astray = false
-is_refusal (File fault) = false
-is_refusal FileTooLong = false
-is_refusal ReadFailed = false
-is_refusal WriteFailed = false
-is_refusal CommandLine = false
-is_refusal Memory = false
+is_refusal _ = false
 
 -- ---- the faults of the crates below
 

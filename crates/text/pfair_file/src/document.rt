@@ -8,7 +8,7 @@ ghost use Rattle.pfair_file.specs.declared.fault.FileFault.TheVariants.{Memory, 
 ghost use Rattle.pfair_file.specs.Headers.{settings_of, version_of};
 
 use crate::fault::FileFault;
-use crate::field::{Field, find, integer, number, within};
+use crate::field::{Field, integer, number, within};
 use crate::tables::{MOST_ENTRIES, add_entries};
 use pfair_entry::Entry;
 use pfair_table::{Script, Settings};
@@ -42,9 +42,7 @@ fn parse(alloc: Global, bytes: &[u8]) -> Result<Table, FileFault>
     ensures ok { IfOk result (λ t. document bytes.now ≡ Some (table_view t)) }
     ensures fault { IfErr result (λ f. f ≢ Memory → (f ≡ NotToml) × (document bytes.now ≡ None)) }
 {
-    let Ok(text) = std::str::from_utf8(bytes) else {
-        return Err(FileFault::NotToml);
-    };
+    let text = std::str::from_utf8(bytes).map_err(|_| FileFault::NotToml)?;
     match toml::table_from_str(alloc, text) {
         Ok(table) => Ok(table),
         Err(fault) if fault.is_memory() => Err(FileFault::Memory),
@@ -64,45 +62,13 @@ fn read_logs(
     ensures count { IfOk result (λ logs. vec_len logs ≡ settings.processors) }
     ensures short { IfOk result (λ logs. IsTrue (list_all is_short (lists_of logs.items))) }
 {
-    let mut logs = make_logs(alloc, settings.processors())?;
-    add_tables(&mut logs, version, table)?;
+    let mut logs = Vec::new(alloc);
+    for _ in 0..settings.processors() {
+        logs.push(Vec::new(alloc)).ok().ok_or(FileFault::Memory)?;
+    }
+    add_entries(&mut logs, version, table)?;
     close_logs(&mut logs, settings.slots())?;
     Ok(logs)
-}
-
-// An empty log for each processor.
-fn make_logs(alloc: Global, processors: u8) -> Result<Vec<Vec<Entry>>, AllocError>
-    ensures ok { IfOk result (λ logs. lists_of logs.items ≡ empty_logs processors) }
-    ensures count { IfOk result (λ logs. vec_len logs ≡ processors) }
-    ensures short { IfOk result (λ logs. All (λ log. vec_len log ≤ MOST_ENTRIES) logs.items) }
-{
-    let mut logs = Vec::new(alloc);
-    for _ in 0..processors {
-        logs.push(Vec::new(alloc))?;
-    }
-    Ok(logs)
-}
-
-// Adds the entries of a file.
-fn add_tables(logs: &mut Vec<Vec<Entry>>, version: u64, table: &Table) -> Result<(), FileFault>
-    requires some { 1 ≤ vec_len logs.old }
-    requires few { vec_len logs.old ≤ Settings.MAX_PROCESSORS }
-    requires short { All (λ log. vec_len log ≤ MOST_ENTRIES) logs.old.items }
-    ensures ok { OnOk result (entries_at version (lists_of logs.old.items) (table_view table.now) ≡ Ok (lists_of logs.new.items)) }
-    ensures fault { IfErr result (λ f. f ≢ Memory → entries_at version (lists_of logs.old.items) (table_view table.now) ≡ Err f) }
-    ensures same { vec_len logs.new ≡ vec_len logs.old }
-    ensures short { All (λ log. vec_len log ≤ MOST_ENTRIES) logs.new.items }
-{
-    match find(table, Field::Entries) {
-        None => Ok(()),
-        Some(value) => match value.as_array() {
-            None => Err(FileFault::WrongKind {
-                place: 0,
-                field: Field::Entries,
-            }),
-            Some(items) => add_entries(logs, version, items.as_slice()),
-        },
-    }
 }
 
 // Closes each log.
@@ -122,11 +88,7 @@ fn close_log(log: &mut Vec<Entry>, slots: u64) -> Result<(), AllocError>
     requires { slots ≤ Settings.MAX_SLOTS }
     ensures { OnOk result (log.new.items ≡ closed slots log.old.items) }
 {
-    let is_open = match log.last() {
-        None => true,
-        Some(entry) => entry.floor() < slots,
-    };
-    if is_open {
+    if log.last().is_none_or(|entry| entry.floor() < slots) {
         let Ok(entry) = Entry::new(slots, None) else {
             unreachable!()
         };

@@ -18,25 +18,19 @@ pub enum FileFault {
     /// Number 61: a key isn't there.
     #[error("missing {field} at {place}")]
     Missing {
-        /// The table's number, or 0.
         place: u64,
-        /// The key.
         field: Field,
     },
     /// Number 62: what stands at a key is of another kind than the key asks for.
     #[error("{field} of wrong kind at {place}")]
     WrongKind {
-        /// The table's number, or 0.
         place: u64,
-        /// The key.
         field: Field,
     },
     /// Number 63: what stands at a key is of the right kind, and out of the key's range.
     #[error("{field} out of range at {place}")]
     Range {
-        /// The table's number, or 0.
         place: u64,
-        /// The key.
         field: Field,
     },
     /// Number 64: the keys of a table are in order, and make no entry.

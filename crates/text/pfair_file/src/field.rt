@@ -94,8 +94,7 @@ fn value(table: &Table, place: u64, field: Field) -> Result<&Value, FileFault>
 pub fn integer(table: &Table, place: u64, field: Field) -> Result<i64, FileFault>
     ensures { result ≡ integer_at (table_view table.now) place field }
 {
-    let found = value(table, place, field)?;
-    found
+    value(table, place, field)?
         .as_integer()
         .ok_or(FileFault::WrongKind { place, field })
 }
@@ -104,8 +103,9 @@ pub fn integer(table: &Table, place: u64, field: Field) -> Result<i64, FileFault
 pub fn text(table: &Table, place: u64, field: Field) -> Result<&str, FileFault>
     ensures { result_map_both (λ t. t.now) (λ e. e) result ≡ text_at (table_view table.now) place field }
 {
-    let found = value(table, place, field)?;
-    found.as_str().ok_or(FileFault::WrongKind { place, field })
+    value(table, place, field)?
+        .as_str()
+        .ok_or(FileFault::WrongKind { place, field })
 }
 
 // Returns an integer that isn't negative, or the fault.

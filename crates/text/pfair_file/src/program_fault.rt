@@ -125,11 +125,10 @@ impl ProgramFault {
     pub fn is_refusal(&self) -> bool
         ensures { result ≡ is_refusal self.now }
     {
-        match self {
-            ProgramFault::Row(_) | ProgramFault::NoSuchProcessor | ProgramFault::NumberOutOfRange =>
-                true,
-            _ => false,
-        }
+        matches!(
+            self,
+            ProgramFault::Row(_) | ProgramFault::NoSuchProcessor | ProgramFault::NumberOutOfRange
+        )
     }
 }
 

@@ -1,10 +1,13 @@
 //! The entries of a task file: each table makes one.
 ghost use Rattle.std.specs.Prelude.{◌≡◌, ◌≢◌, ◌≤◌, All, IfErr, OnOk, Ok, Err, is_some, vec_len, option_map};
-ghost use Rattle.toml.specs.View.{items_view, table_view};
+ghost use Rattle.std.specs.List.{list_all};
+ghost use Rattle.toml.specs.Data.{as_table};
+ghost use Rattle.toml.specs.View.{table_view, view};
 ghost use Rattle.pfair_table.specs.Script.{lists_of};
-ghost use Rattle.pfair_file.specs.Entries.{tables_of, with_entry, with_items, longer_log};
+ghost use Rattle.pfair_file.specs.Entries.{with_entry, longer_log};
 ghost use Rattle.pfair_file.specs.declared.fault.FileFault.TheVariants.{Memory};
-ghost use Rattle.pfair_file.specs.Tables.{made_at, early_at, fields_at, kind_at, notice_at};
+ghost use Rattle.pfair_file.specs.Documents.{entries_at};
+ghost use Rattle.pfair_file.specs.Tables.{made_at, early_at, kind_at, notice_at};
 ghost use Rattle.std.specs.Result.{result_map_both};
 ghost use Rattle.pfair_entry.specs.Notice.{noticed};
 
@@ -36,34 +39,27 @@ fn add_entry(
 
 // Whether each value is a table.
 fn are_tables(items: &[Value]) -> bool
-    ensures { result ≡ is_some (tables_of (items_view items.now)) }
+    ensures { result ≡ list_all (λ v. is_some (as_table (view v))) items.now }
 {
-    for value in items {
-        if value.as_table().is_none() {
-            return false;
-        }
-    }
-    true
+    items.iter().all(|value| value.as_table().is_some())
 }
 
-/// Adds the entries of an array of tables.
-pub fn add_entries(
-    logs: &mut Vec<Vec<Entry>>,
-    version: u64,
-    items: &[Value],
-) -> Result<(), FileFault>
+/// Adds the entries of a file.
+pub fn add_entries(logs: &mut Vec<Vec<Entry>>, version: u64, table: &Table) -> Result<(), FileFault>
     requires some { 1 ≤ vec_len logs.old }
     requires few { vec_len logs.old ≤ Settings.MAX_PROCESSORS }
     requires short { All (λ log. vec_len log ≤ MOST_ENTRIES) logs.old.items }
-    ensures ok { OnOk result (with_items version (lists_of logs.old.items) (items_view items.now) ≡ Ok (lists_of logs.new.items)) }
-    ensures fault { IfErr result (λ f. f ≢ Memory → with_items version (lists_of logs.old.items) (items_view items.now) ≡ Err f) }
+    ensures ok { OnOk result (entries_at version (lists_of logs.old.items) (table_view table.now) ≡ Ok (lists_of logs.new.items)) }
+    ensures fault { IfErr result (λ f. f ≢ Memory → entries_at version (lists_of logs.old.items) (table_view table.now) ≡ Err f) }
     ensures same { vec_len logs.new ≡ vec_len logs.old }
     ensures short { All (λ log. vec_len log ≤ MOST_ENTRIES) logs.new.items }
 {
-    let no_table = FileFault::WrongKind {
-        place: 0,
-        field: Field::Entries,
+    let field = Field::Entries;
+    let no_table = FileFault::WrongKind { place: 0, field };
+    let Some(value) = find(table, field) else {
+        return Ok(());
     };
+    let items = value.as_array().ok_or(no_table)?.as_slice();
     if !are_tables(items) {
         return Err(no_table);
     }
@@ -136,7 +132,14 @@ fn read_notice(table: &Table, place: u64, version: u64) -> Result<Option<Notice<
     };
     let at = natural_number(table, place, Field::At)?;
     let name = text(table, place, Field::Name)?.as_bytes();
-    let change = change_fields(table, place, version).change(kind)?;
+    let fields = ChangeFields {
+        cost: natural_number(table, place, Field::Cost),
+        period: natural_number(table, place, Field::Period),
+        early: read_early(table, place, version),
+        index: natural_number(table, place, Field::Index),
+        by: natural_number(table, place, Field::By),
+    };
+    let change = fields.change(kind)?;
     Ok(Some(Notice { at, name, change }))
 }
 
@@ -151,19 +154,6 @@ fn read_kind(table: &Table, place: u64) -> Result<Option<Kind>, FileFault>
     let name = value.as_str().ok_or(FileFault::WrongKind { place, field })?;
     let kind = Kind::named(name.as_bytes()).ok_or(FileFault::Range { place, field })?;
     Ok(Some(kind))
-}
-
-// The keys that kinds of announcements ask for beside those of all.
-fn change_fields(table: &Table, place: u64, version: u64) -> ChangeFields<FileFault>
-    ensures { result ≡ fields_at version place (table_view table.now) }
-{
-    ChangeFields {
-        cost: natural_number(table, place, Field::Cost),
-        period: natural_number(table, place, Field::Period),
-        early: read_early(table, place, version),
-        index: natural_number(table, place, Field::Index),
-        by: natural_number(table, place, Field::By),
-    }
 }
 
 // Whether a task that arrives may run early: never in version 1.

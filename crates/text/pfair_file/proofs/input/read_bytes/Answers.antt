@@ -1,14 +1,11 @@
-use Rattle.std.proofs.Common.{ℕ, List, Option, None, Some, ◌≡◌, ◌≤◌, ◌-◌, ◌++◌, length, take, arith, rules, ◌∙◌, ap, sym}
+use Rattle.std.proofs.Common.{ℕ, List, Option, ◌≡◌, ◌≤◌, ◌-◌, ◌++◌, length, take, arith, rules}
 use Rattle.pfair_file.proofs.Common.{append_assoc, length-append}
 use Rattle.std.specs.Io.KnownBytes.{Consumes}
 use Rattle.pfair_file.proofs.input.read_bytes.Goals as goal
 
 -- bytes that came, and then more
 consumes-more : (old mid new : Option (List ℕ)) (first more : List ℕ) → Consumes old mid first → Consumes mid new more → Consumes old new (first ++ more)
-consumes-more None mid new first more a b = tt
-consumes-more (Some xs) None new first more a b = absurd a
-consumes-more (Some xs) (Some ys) None first more a b = absurd b
-consumes-more (Some xs) (Some ys) (Some zs) first more a b = a ∙ ap (λ rest. first ++ rest) b ∙ sym (append_assoc first more zs)
+consumes-more old mid new first more a b = grind (arith, append_assoc)
 
 pub returns-in_err-extend_from_slice-in-Ok-clause-most : goal.returns-in_err-extend_from_slice-in-Ok-clause-most
 returns-in_err-extend_from_slice-in-Ok-clause-most g c =

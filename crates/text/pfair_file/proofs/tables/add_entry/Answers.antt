@@ -17,8 +17,7 @@ longer_there : (logs : Vec (Vec Logged Global) Global) (version place : ℕ) (ta
     → made_at version (length (lists_of logs.items)) place table ≡ Ok made → (r : Result (Unit {0}) FileFault)
     → OnOk r (longer_log made.processor log.items made.entry ≡ Ok new.items)
     → OnOk r (with_entry version place (lists_of logs.items) table ≡ Ok (lists_of (set logs.items made.processor new)))
-longer_there logs version place table made log new within at read (Ok x) longer = grind (arith, log_there, map-set)
-longer_there logs version place table made log new within at read (Err e) longer = longer
+longer_there logs version place table made log new within at read r longer = grind (arith, log_there, map-set)
 
 -- if the table's entry is refused
 refused_there : (logs : Vec (Vec Logged Global) Global) (version place : ℕ) (table : Members) (made : Made) (log : Vec Logged Global)
@@ -26,8 +25,7 @@ refused_there : (logs : Vec (Vec Logged Global) Global) (version place : ℕ) (t
     → made_at version (length (lists_of logs.items)) place table ≡ Ok made → (r : Result (Unit {0}) FileFault)
     → IfErr r (λ f. f ≢ Memory → longer_log made.processor log.items made.entry ≡ Err f)
     → IfErr r (λ f. f ≢ Memory → with_entry version place (lists_of logs.items) table ≡ Err f)
-refused_there logs version place table made log within at read (Ok x) refused = refused
-refused_there logs version place table made log within at read (Err e) refused = grind (arith, log_there)
+refused_there logs version place table made log within at read r refused = grind (arith, log_there)
 
 within : (c : After-append) → c.in_ok-made.made.processor < length c.args.logs.now.items
 within c = grind (arith, common_steps)
