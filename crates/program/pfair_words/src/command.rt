@@ -16,6 +16,9 @@ use std::alloc::{AllocError, Global};
 // The version of both programs, which `--version` prints after the name.
 const VERSION: &str = "0.6.0";
 
+/// What help says of the flag by which rows get their places.
+pub(crate) const AFFINITY_HELP: &str = "End each row with its place, the processor that runs it";
+
 /// What help says of a program or of a command.
 #[derive(Clone, Copy)]
 pub(crate) struct Texts {
@@ -88,18 +91,6 @@ pub(crate) fn over_file<'a>(
         .help("Task file: TOML, at most 67108864 bytes")
         .required(true);
     command(alloc, name, texts).arg(file)
-}
-
-/// The flag by which rows get their places.
-pub(crate) fn affinity<'a>(alloc: Global) -> Arg<'a>
-    ensures rule { rule_of result ≡ line.affinity }
-    ensures here { result.global ≡ false }
-{
-    flag(
-        alloc,
-        "affinity",
-        "End each row with its place, the processor that runs it",
-    )
 }
 
 /// A flag of this name.

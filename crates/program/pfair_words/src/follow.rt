@@ -10,8 +10,8 @@ ghost use Rattle.pfair_words.specs.FollowLine as line;
 mod help;
 
 use crate::command::{
-    Parsed, Texts, affinity, command, file_name, flag, is_set, number, number_if_any, over_file,
-    parse, program, text_if_any, with,
+    AFFINITY_HELP, Parsed, Texts, command, file_name, flag, is_set, number, number_if_any,
+    over_file, parse, program, text_if_any, with,
 };
 use clap::builder::ValueParser;
 use clap::{Arg, ArgMatches, Command};
@@ -181,7 +181,7 @@ fn command_line<'a>(alloc: Global) -> Result<Command<'a>, AllocError>
 fn replay<'a>(alloc: Global) -> Result<Command<'a>, AllocError>
     ensures { IfOk result (IsRead line.replay) }
 {
-    run(alloc, "replay", REPLAY_TEXTS)?.arg(affinity(alloc))
+    run(alloc, "replay", REPLAY_TEXTS)?.arg(flag(alloc, "affinity", AFFINITY_HELP))
 }
 
 // A command over a run, with its options.

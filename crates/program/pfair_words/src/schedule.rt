@@ -10,7 +10,8 @@ ghost use Rattle.pfair_words.specs.ScheduleLine as line;
 mod help;
 
 use crate::command::{
-    Parsed, affinity, command, file_name, is_set, number, over_file, parse, program, with,
+    AFFINITY_HELP, Parsed, command, file_name, flag, is_set, number, over_file, parse, program,
+    with,
 };
 use clap::builder::ValueParser;
 use clap::{Arg, ArgMatches, Command};
@@ -123,7 +124,7 @@ fn windows<'a>(alloc: Global) -> Result<Command<'a>, AllocError>
 fn replay<'a>(alloc: Global) -> Result<Command<'a>, AllocError>
     ensures { IfOk result (IsRead line.replay) }
 {
-    over_file(alloc, "replay", REPLAY_TEXTS)?.arg(affinity(alloc))
+    over_file(alloc, "replay", REPLAY_TEXTS)?.arg(flag(alloc, "affinity", AFFINITY_HELP))
 }
 
 // A number from 0 to `most`, which has to be there.
