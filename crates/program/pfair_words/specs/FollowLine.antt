@@ -9,23 +9,9 @@ use Rattle.pfair_words.specs.Line.{affinity, file, flag, program}
 abbrev pub option : List ℕ → (least most : ℕ) → Rule
 option name least most = record (new_rule name) { long = Some name; value_names = 1; parser = Some (Unsigned least most) }
 
-abbrev pub processors : Rule
-processors = option (codes "processors") 1 MAX_PROCESSORS
-
-abbrev pub frame : Rule
-frame = option (codes "frame") 1 MAX_FRAME
-
--- it has to be there
-abbrev pub slots : Rule
-slots = record (option (codes "slots") 1 MAX_SLOTS) { required = true }
-
 -- the first slot whose rows are written: 0 if it isn't given
 abbrev pub from : Rule
 from = record (option (codes "from") 0 MAX_SLOTS) { defaults = codes "0" ∷ [] }
-
--- the flag by which a refused row ends the run
-abbrev pub strict : Rule
-strict = flag (codes "strict")
 
 -- an option of this name, behind which stands the name of a file
 abbrev pub worded : List ℕ → Rule
@@ -33,11 +19,12 @@ worded name = record (new_rule name) { long = Some name; value_names = 1 }
 
 -- a command with the options of settings
 abbrev pub with_settings : App → App
-with_settings a = with_rule (with_rule (with_rule a processors) frame) slots
+with_settings a =
+    with_rule (with_rule (with_rule a (option (codes "processors") 1 MAX_PROCESSORS)) (option (codes "frame") 1 MAX_FRAME)) (record (option (codes "slots") 1 MAX_SLOTS) { required = true })
 
 -- a command with the options of a run
 abbrev pub with_run : App → App
-with_run a = with_rule (with_rule (with_rule (with_rule (with_settings a) from) strict) (worded (codes "resume"))) (worded (codes "save"))
+with_run a = with_rule (with_rule (with_rule (with_rule (with_settings a) from) (flag (codes "strict"))) (worded (codes "resume"))) (worded (codes "save"))
 
 abbrev pub entries : App
 entries = with_rule (new_app (codes "entries")) file
