@@ -12,10 +12,7 @@ pub enum Step {
     /// It planned this slot.
     Planned(u64),
     /// Nothing: the next slot is at or past the frontier, below which the logs are settled.
-    Waiting {
-        /// The frontier.
-        frontier: u64,
-    },
+    Waiting { frontier: u64 },
     /// Nothing: all slots of the run are planned.
     Done,
 }
@@ -23,15 +20,10 @@ pub enum Step {
 /// Why a slot was not planned, or nothing reopened.
 #[derive(Clone, Copy, Debug, PartialEq, Eq, Error)]
 pub enum PlanFault {
-    /// An entry has two contents; this is the least such key. Planned slots stay, and no further slot
-    /// is planned.
+    /// An entry has two contents: the least such key is number `number` (from 1) in the log of
+    /// processor `proc` (from 0). Planned slots stay, and no further slot is planned.
     #[error("entry {number} of processor {proc} torn")]
-    Torn {
-        /// The processor in whose log the entry stands, counted from 0.
-        proc: u8,
-        /// Its number in that log, counted from 1.
-        number: u32,
-    },
+    Torn { proc: u8, number: u32 },
     /// An allocation failed in an earlier plan: the dispatcher has to be reopened.
     #[error("spent")]
     Spent,
@@ -68,14 +60,9 @@ impl From<AllocError> for PlanFault {
 /// Why no next run begins.
 #[derive(Clone, Copy, Debug, PartialEq, Eq, Error)]
 pub enum NextRunFault {
-    /// An entry has two contents; this is the least such key.
+    /// As [`PlanFault::Torn`].
     #[error("entry {number} of processor {proc} torn")]
-    Torn {
-        /// The processor in whose log the entry stands, counted from 0.
-        proc: u8,
-        /// Its number in that log, counted from 1.
-        number: u32,
-    },
+    Torn { proc: u8, number: u32 },
     /// An allocation failed in an earlier plan: the dispatcher has to be reopened.
     #[error("spent")]
     Spent,
@@ -88,10 +75,7 @@ pub enum NextRunFault {
     PastLastSlot,
     /// This member can't be carried into a next run, and each one admitted before it can.
     #[error("cannot carry a member")]
-    CannotCarry {
-        /// The member's name.
-        name: TaskName,
-    },
+    CannotCarry { name: TaskName },
     /// An allocation failed.
     #[error("out of memory")]
     Memory,
@@ -152,12 +136,9 @@ pub enum RunFault {
     /// The board holds something other than the script's logs.
     #[error("gone astray")]
     Astray,
-    /// The logs don't cover all slots: they settle only those below this one.
+    /// The logs don't cover all slots: they settle only those below this one, their frontier.
     #[error("stalled at slot {slot}")]
-    Stalled {
-        /// The frontier of the logs.
-        slot: u64,
-    },
+    Stalled { slot: u64 },
 }
 
 impl RunFault {

@@ -19,15 +19,8 @@ use std::alloc::{AllocError, Global};
 /// What can happen to a dispatcher.
 #[derive(Drop)]
 pub enum Event {
-    /// An entry comes: that of this processor (from 0) with this number (from 1).
-    Take {
-        /// The processor in whose log it stands.
-        proc: u8,
-        /// Its number in that log.
-        number: u32,
-        /// The entry.
-        entry: Entry,
-    },
+    /// An entry comes: that with this number (from 1) in the log of this processor (from 0).
+    Take { proc: u8, number: u32, entry: Entry },
     /// All entries of another replica come.
     Absorb(Replica),
     /// The next slot is to be planned.

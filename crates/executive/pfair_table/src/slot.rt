@@ -21,7 +21,6 @@ use std::mem;
 /// A quantum of a slot: which task has it, and for which of its subtasks.
 #[derive(Clone, Copy, Debug, PartialEq, Eq)]
 pub struct Pick {
-    /// The task.
     pub name: TaskName,
     /// The index of its subtask, counted from 1.
     pub index: u64,
@@ -34,9 +33,7 @@ pub struct Decided {
     pub proc: u8,
     /// The entry's number in that log, counted from 1.
     pub number: u32,
-    /// What is announced.
     pub announcement: Announcement,
-    /// What was decided on it.
     pub decision: Decision,
 }
 
