@@ -1,7 +1,9 @@
 -- What a finished run leaves can be taken over by a next run, and finished runs that agree leave the same.
 use Rattle.std.proofs.Common.{ℕ, ◌+◌, ◌≤◌, ◌<◌, ◌≡◌, sym, ap, subst, ◌∙◌, arith, Bool, false, List, length, map, Result, Ok, Err, IfErr, OnOk}
-use Rattle.pfair_table.proofs.Common.{AllByRecursion, ReplicaRows, replica_of, Replica, IsReplica, has_torn, said, same_said, Queue, carried, CanBeCarried, Roster, Machine, Member, Decided, AreLeftAt, IsCarried, CanBeFollowed, IsFinished, IsNextRunFault, IsResumeFault, LeaveAlike, end_of, left_by, members_left, table_before, places_before, places_in, IsFit, ArePlacesOf, last_or, Dispatch, IsKept, members_after, Settings, Origin, Carried, Table, machine, slot_of, history}
+use Rattle.pfair_table.proofs.Common.{IsNextStep, AllByRecursion, ReplicaRows, replica_of, Replica, IsReplica, has_torn, said, same_said, Queue, carried, CanBeCarried, Roster, Machine, Member, Decided, AreLeftAt, IsCarried, CanBeFollowed, IsFinished, IsNextRunFault, IsResumeFault, LeaveAlike, end_of, left_by, members_left, table_before, places_before, places_in, IsFit, ArePlacesOf, last_or, Dispatch, IsKept, members_after, Settings, Origin, Carried, Table, machine, slot_of, history}
 use Rattle.std.specs.Result.{IsErrAnd}
+use Rattle.pfair_table.specs.declared.answer.Step.{Step}
+use Rattle.pfair_table.specs.declared.answer.Step.TheVariants.{Done}
 use Rattle.pfair_table.specs.declared.answer.NextRunFault.{NextRunFault}
 use Rattle.pfair_table.specs.declared.answer.NextRunFault.TheVariants.{Torn, Spent, Unfinished, PastLastSlot, CannotCarry, Memory}
 use Rattle.pfair_admission.specs.declared.members.TheConstants.Members.{LAST_SLOT}
@@ -46,6 +48,12 @@ module _ {o : Origin} {s : Settings} {replica : Replica} {tables : List Table} {
 
 -- ---- a finished dispatcher, as it is seen
 
+pub finished_seen : {o : Origin} {s : Settings} {x : ReplicaRows} {tables : List Table} {decided : List (List Decided)} {forgotten : ℕ} {spent : Bool} {d : Dispatch} {n : ℕ} {step : Step}
+    → record { settings = s; origin = o; replica = x; tables = tables; decided = decided; forgotten = forgotten; spent = spent } ≡ d → (has_torn (replica_of x) ≡ false) × (spent ≡ false)
+    → n ≡ length tables → IsNextStep s (replica_of x) n step → step ≡ Done → IsFinished d
+finished_seen {s} {x} {n} seen able long is done =
+    subst IsFinished seen (record { whole = able.0; able = able.1; all = subst (λ k. s.slots ≤ k) long (subst (IsNextStep s (replica_of x) n) done is) })
+
 module _ {o : Origin} {s : Settings} {x : ReplicaRows} {tables : List Table} {decided : List (List Decided)} {forgotten : ℕ} {spent : Bool} {roster : Roster} {now : ℕ} {waiting : Queue} (kept : IsKept o s (replica_of x) tables decided spent roster now waiting) (sound : IsReplica (replica_of x)) (d : Dispatch) (seen : record { settings = s; origin = o; replica = x; tables = tables; decided = decided; forgotten = forgotten; spent = spent } ≡ d) (finished : IsFinished d) where
   -- its members are those left
   pub left_seen : roster.members ≡ members_left d
@@ -61,19 +69,10 @@ module _ {o : Origin} {s : Settings} {x : ReplicaRows} {tables : List Table} {de
 -- ---- a run that is resumed with what is left
 
 pub followed_seen : {A : Type 0} (r : Result A NextRunFault) (d : Dispatch) (slots : ℕ) → CanBeFollowed d slots → OnOk r (CanBeFollowed d slots)
-followed_seen (Ok x) d slots can = can
-followed_seen (Err f) d slots can = tt
+followed_seen r d slots can = grind arith
 
 pub fault_seen : {A : Type 0} (r : Result A NextRunFault) (d : Dispatch) (c : Carried) (slots : ℕ) → c ≡ left_by d → CanBeFollowed d slots → IfErr r (IsResumeFault c slots) → IfErr r (IsNextRunFault d slots)
-fault_seen (Ok x) d c slots is can fault = tt
-fault_seen (Err (Torn proc number)) d c slots is can fault = absurd fault
-fault_seen (Err Spent) d c slots is can fault = absurd fault
-fault_seen (Err Unfinished) d c slots is can fault = absurd fault
-fault_seen (Err PastLastSlot) d c slots is can fault =
-    let within = can.within in
-    let slot_is : c.slot ≡ end_of d = ap (λ (e : Carried). e.slot) is in absurd (omega (arith, within, slot_is, fault))
-fault_seen (Err (CannotCarry name)) d c slots is can fault = absurd fault
-fault_seen (Err Memory) d c slots is can fault = can
+fault_seen r d c slots is can fault = (let slot_is = ap (λ (e : Carried). e.slot) is in grind (arith, slot_is, can.within))
 
 -- Of finished runs that began alike and hold what agrees, a next run takes over the same.
 pub left_alike : {o q : Origin} {s r : Settings} {x y : ReplicaRows} {tx ty : List Table} {dx dy : List (List Decided)} {bx by : Bool} {fx fy : ℕ} {mx my : Roster} {nx ny : ℕ} {hx hy : Queue}

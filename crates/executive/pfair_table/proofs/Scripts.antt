@@ -23,10 +23,10 @@ entry_more : (log : List Logged) (i : ℕ) (e : Logged) → slice_get log i ≡ 
 entry_more [] i e h n = absurd (cc)
 entry_more (f ∷ log) zero e h zero = refl
 entry_more (f ∷ log) zero e h (suc zero) = ap (λ (x : Logged). Some (One x)) (sym (same_Some f e h))
-entry_more (f ∷ log) zero e h (suc (suc n)) = ap (λ b. if b then Some (One e) else None) (ne_eqb (suc (suc n)) 1 (λ same. omega (arith, same)))
-entry_more (f ∷ log) (suc i) e h zero = ap (λ b. if b then Some (One e) else None) (eqb-zero-suc (suc i))
-entry_more (f ∷ log) (suc i) e h (suc zero) = ap (λ b. held_join entry_eq (Some (One f)) (if b then Some (One e) else None)) (ne_eqb 1 (suc (suc i)) (λ same. omega (arith, same)))
-entry_more (f ∷ log) (suc i) e h (suc (suc n)) = ap (λ b. held_join entry_eq (entry_of (take i log) (suc n)) (if b then Some (One e) else None)) (eqb-suc-suc (suc n) (suc i)) ∙ entry_more log i e h (suc n)
+entry_more (f ∷ log) zero e h (suc (suc n)) = grind arith
+entry_more (f ∷ log) (suc i) e h zero = grind arith
+entry_more (f ∷ log) (suc i) e h (suc zero) = grind arith
+entry_more (f ∷ log) (suc i) e h (suc (suc n)) = grind (arith, eqb-suc-suc, entry_more log i e h (suc n))
 
 -- behind the logs before it
 one_more : (logs : List (List Logged)) (log : List Logged) (i : ℕ) (e : Logged) → slice_get log i ≡ Some e → (j n : ℕ)
@@ -50,8 +50,8 @@ log_begun logs begun = λ x. record { processors = length logs; capacity = capac
 
 pub log_fits : (logs : List (List Logged)) (k : ℕ) (log : List Logged) → slice_get logs k ≡ Some log → length log ≤ capacity_of logs
 log_fits [] k log h = absurd (cc)
-log_fits (first ∷ logs) zero log h = let same : first ≡ log = same_Some first log h in let long = ap (λ (l : List Logged). length l) same in omega (arith, long)
-log_fits (first ∷ logs) (suc k) log h = let fits = log_fits logs k log h in omega (arith, fits)
+log_fits (first ∷ logs) zero log h = omega (arith, ap length (same_Some first log h))
+log_fits (first ∷ logs) (suc k) log h = omega (arith, log_fits logs k log h)
 
 -- the log at a place, read where it stands
 pub log_at : (logs : List (Vec Logged Global)) (k : ℕ) (log : Vec Logged Global) → k < length logs → log ≡ slice_index_or logs k log → slice_get (lists_of logs) k ≡ Some log.items
@@ -90,15 +90,5 @@ entry_whole (e ∷ log) zero h = absurd (none-some Torn h)
 entry_whole (e ∷ log) (suc zero) h = absurd (cc)
 entry_whole (e ∷ log) (suc (suc n)) h = entry_whole log (suc n) h
 
-row_whole : (o : Option (List Logged)) (n : ℕ) → row_of o n ≢ Some Torn
-row_whole o n h = grind (arith, none-some, entry_whole)
-
 pub script_whole : (logs : List (List Logged)) → Untorn (replica_of_logs logs)
-script_whole logs k n h = row_whole (slice_get logs k) n h
-
--- ---- why a script isn't run
-
--- a script stalls if its frontier is too low
-pub stalls : {T : Type 0} (run : LoggedRun) (r : Result T RunFault) (fault : RunFault) (mark slots : ℕ) → IsErrAnd r (λ e. e ≡ fault) → mark ≡ frontier (replica_of_logs run.logs) → slots ≡ run.settings.slots
-    → (fault ≡ Stalled mark) × (mark < slots) → IfErr r (IsScriptFaultOf run)
-stalls run r fault mark slots own mark_is slots_are stalled = grind arith
+script_whole logs k n h = grind (arith, none-some, entry_whole)

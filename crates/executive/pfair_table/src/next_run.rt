@@ -51,9 +51,15 @@ impl<R: Ready> Dispatcher<R> {
         ensures spent { IfOk result (λ next. next.spent ≡ false) }
         ensures fault { IfErr result (IsNextRunFault self.now slots) }
     {
-        let slot = self.end(slots)?;
-        // a replica holds entries of its own logs
-        prove!(self.replica.processors() >= 1);
+        let planned = self.planned.len() as u64;
+        let step = self.planner.next_step(&self.replica, planned)?;
+        let Step::Done = step else {
+            return Err(NextRunFault::Unfinished);
+        };
+        let slot = slot_of(self.planned.origin(), self.planner.settings.slots());
+        if slot + slots > Members::LAST_SLOT {
+            return Err(NextRunFault::PastLastSlot);
+        }
         let left = &self.planner.members;
         if let Some(name) = left.first_left_behind() {
             return Err(NextRunFault::CannotCarry { name });
@@ -97,7 +103,11 @@ impl<R: Ready> Dispatcher<R> {
         if state.slot() + slots > Members::LAST_SLOT {
             return Err(NextRunFault::PastLastSlot);
         }
-        let settings = Settings::from_state(&state, slots);
+        let settings = Settings {
+            processors: state.members.processors(),
+            frame: state.members.frame(),
+            slots,
+        };
         Ok(Dispatcher::begin(alloc, settings, capacity, Some(state))?)
     }
 
@@ -121,26 +131,6 @@ impl<R: Ready> Dispatcher<R> {
             table: Vec::from_slice(alloc, table)?,
             places: Vec::from_slice(alloc, places)?,
         })
-    }
-
-    // Returns the slot after the last one of all runs so far, if a run of so many slots can begin there.
-    fn end(&self, slots: u64) -> Result<u64, NextRunFault>
-        requires { slots ≤ Settings.MAX_SLOTS }
-        ensures slot { IfOk result (λ slot. slot ≡ end_of self.now) }
-        ensures finished { OnOk result (IsFinished self.now) }
-        ensures within { OnOk result (end_of self.now + slots ≤ LAST_SLOT) }
-        ensures fault { IfErr result (IsNextRunFault self.now slots) }
-    {
-        let planned = self.planned.len() as u64;
-        let step = self.planner.next_step(&self.replica, planned)?;
-        if step != Step::Done {
-            return Err(NextRunFault::Unfinished);
-        }
-        let slot = slot_of(self.planned.origin(), self.planner.settings.slots());
-        if slot + slots > Members::LAST_SLOT {
-            return Err(NextRunFault::PastLastSlot);
-        }
-        Ok(slot)
     }
 
     // A dispatcher that holds no entries and has planned nothing of a run that begins there.

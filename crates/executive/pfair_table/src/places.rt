@@ -1,6 +1,6 @@
 //! Places: which processor runs each row of a table, where a task that goes on running stays where
 //! it is.
-ghost use Rattle.std.specs.Prelude.{ℕ, ◌≡◌, ◌≤◌, ◌<◌, ◌+◌, ◌^◌, ◌∷◌, [], List, IfOk, OnOk, length, slice_get};
+ghost use Rattle.std.specs.Prelude.{ℕ, ◌≡◌, ◌≤◌, ◌<◌, ◌+◌, ◌^◌, ◌∷◌, List, IfOk, OnOk, length, slice_get};
 ghost use Rattle.std.specs.List.{AllByRecursion};
 ghost use Rattle.pfair_table.specs.Places.{kept_places, all_kept, free_place, filled, places_after, IsFit, place_of};
 ghost use Rattle.pfair_table.specs.PlacesInUse.{AreInUse};
@@ -46,39 +46,11 @@ fn keep_places(
     kept.clear();
     kept.reserve(table.len())?;
     if before.len() <= FEW_ROWS {
-        keep_by_rows(before, places, table, kept)
-    } else {
-        keep_by_buckets(before, places, table, kept)
+        for pick in table {
+            kept.push(find_place(before, places, &pick.name))?;
+        }
+        return Ok(());
     }
-}
-
-// The same, by a search through all rows of a short table.
-fn keep_by_rows(
-    before: &[Pick],
-    places: &[u8],
-    table: &[Pick],
-    kept: &mut Vec<Option<u8>>,
-) -> Result<(), AllocError>
-    requires { kept.old.items ≡ [] }
-    ensures { OnOk result (kept.new.items ≡ kept_places before.now places.now table.now) }
-{
-    for pick in table {
-        kept.push(find_place(before, places, &pick.name))?;
-    }
-    Ok(())
-}
-
-// The same, by the buckets of a table's rows.
-fn keep_by_buckets(
-    before: &[Pick],
-    places: &[u8],
-    table: &[Pick],
-    kept: &mut Vec<Option<u8>>,
-) -> Result<(), AllocError>
-    requires fit { IsFit Settings.MAX_PROCESSORS before.now }
-    requires empty { kept.old.items ≡ [] }
-    ensures { OnOk result (kept.new.items ≡ kept_places before.now places.now table.now) }
-{
     let buckets = Buckets::of(before);
     for pick in table {
         kept.push(buckets.place(before, places, &pick.name))?;
@@ -178,7 +150,6 @@ fn bucket_of(name: &TaskName) -> u8
     })
 }
 
-// The place of a row.
 fn place_of_row(places: &[u8], row: usize) -> Option<u8>
     ensures { result ≡ slice_get places.now row }
 {

@@ -8,7 +8,7 @@ ghost use Rattle.pfair_table.specs.Planned.{last_or, as_tables, as_places, with_
 use crate::places::places_beside;
 use crate::settings::Settings;
 use crate::slot::{Decided, Pick, SlotPlan};
-use crate::state::{Origin, slot_before};
+use crate::state::Origin;
 use pfair_replica::Replica;
 use std::alloc::{AllocError, Global};
 use std::collections::VecDeque;
@@ -63,20 +63,6 @@ fn last_of<T>(lists: &[Vec<T>]) -> &[T]
 pub(crate) struct PlannedSlot {
     pub plan: SlotPlan,
     pub places: Vec<u8>,
-}
-
-impl PlannedSlot {
-    // Lists with room for so many rows.
-    fn for_rows(alloc: Global, rows: usize) -> Result<PlannedSlot, AllocError> {
-        let plan = SlotPlan {
-            table: Vec::with_capacity(alloc, rows)?,
-            decided: Vec::new(alloc),
-        };
-        Ok(PlannedSlot {
-            plan,
-            places: Vec::with_capacity(alloc, rows)?,
-        })
-    }
 }
 
 /// The table of each slot that is planned, from slot 0 on, with its places, and the decisions at
@@ -141,7 +127,6 @@ impl Planned {
         &self.origin
     }
 
-    /// How many slots are planned, the forgotten ones among them.
     pub(crate) fn len(&self) -> usize
         ensures tables { result ≡ length self.now.tables }
         ensures decided { result ≡ length self.now.decided }
@@ -187,11 +172,13 @@ impl Planned {
     {
         match self.slots.back() {
             Some(planned) => (&planned.plan.table, &planned.places),
-            None => slot_before(&self.origin),
+            None => match &self.origin {
+                Some(state) => (&state.table, &state.places),
+                None => (&[], &[]),
+            },
         }
     }
 
-    /// Reserves memory for further slots, with that many rows each.
     pub(crate) fn reserve(&mut self, slots: usize, rows: usize) -> Result<(), AllocError>
         ensures { self.new ≡ self.old }
     {
@@ -250,7 +237,12 @@ fn add_rooms(
     rows: usize,
 ) -> Result<(), AllocError> {
     for _ in rooms.len()..slots {
-        rooms.push(PlannedSlot::for_rows(alloc, rows)?)?;
+        let plan = SlotPlan {
+            table: Vec::with_capacity(alloc, rows)?,
+            decided: Vec::new(alloc),
+        };
+        let places = Vec::with_capacity(alloc, rows)?;
+        rooms.push(PlannedSlot { plan, places })?;
     }
     Ok(())
 }

@@ -4,7 +4,7 @@ ghost use Rattle.std.specs.Prelude.{◌≡◌, ◌≤◌, ◌<◌, ◌+◌, fals
 ghost use Rattle.pfair_replica.specs.ReplicaRows.{replica_of};
 ghost use Rattle.pfair_replica.specs.Replica.{Replica as Held, IsReplica, has_torn, Untorn, sound_beginning, said};
 ghost use Rattle.pfair_table.specs.Limits.{IsOrigin};
-ghost use Rattle.pfair_table.specs.Readings.{AreReadingsOf, IsReadingOf, AreWhole, AreSilentAfter, entries_read, said_by_all};
+ghost use Rattle.pfair_table.specs.Readings.{AreReadingsOf, IsReadingOf, AreWhole, AreSilentAfter, entries_read};
 ghost use Rattle.pfair_table.specs.Refinement.{IsInStep, IsNextStep, IsNoStep};
 ghost use Rattle.pfair_table.specs.Planned.{with_next};
 ghost use Rattle.pfair_table.specs.Planning.{CanBePlanned, IsPlanOfSlot, IsPlannedOf};
@@ -66,7 +66,6 @@ impl<R: Ready> Planner<R> {
         })
     }
 
-    /// Reserves memory for slots of that many processors and for that many members.
     pub(crate) fn reserve(&mut self, processors: u8, tasks: usize) -> Result<(), AllocError>
         ensures settings { self.new.settings ≡ self.old.settings }
         ensures spent { self.new.spent ≡ self.old.spent }
@@ -197,12 +196,10 @@ pub(crate) fn plan_onto<R: Ready>(
     Ok(())
 }
 
-/// What the sound beginning of one processor says, as far as it was read.
+/// What the first `count` entries of a processor's sound beginning say, by slot.
 #[derive(Drop)]
 pub(crate) struct Reading {
-    /// How many entries were read.
     pub count: u32,
-    /// What these say, by slot.
     pub agenda: Agenda,
 }
 
@@ -224,16 +221,12 @@ impl Reading {
         ensures reading { IsReadingOf processor (sound_beginning (replica_of replica.now) processor) self.new }
         ensures whole { OnOk result (self.new.count ≡ length (sound_beginning (replica_of replica.now) processor)) }
     {
-        match replica.note_said(processor, self.count, &mut self.agenda) {
-            Ok(()) => {
-                self.count = replica.sound_count(processor);
-                Ok(())
-            }
-            Err(refused) => {
-                *self = Reading::new(alloc);
-                Err(refused)
-            }
+        if let Err(refused) = replica.note_said(processor, self.count, &mut self.agenda) {
+            *self = Reading::new(alloc);
+            return Err(refused);
         }
+        self.count = replica.sound_count(processor);
+        Ok(())
     }
 }
 
@@ -251,7 +244,6 @@ pub(crate) struct Readings {
 }
 
 impl Readings {
-    /// Nothing was read.
     pub(crate) fn new(alloc: Global, processors: u8) -> Result<Readings, AllocError>
         ensures { IfOk result (λ r. (x : Held) → x.processors ≡ processors → AreReadingsOf x r.by_processor.items) }
     {
@@ -281,10 +273,17 @@ impl Readings {
         ensures announced { IfOk result (λ announced. announced.items ≡ said (replica_of replica.now) slot) }
     {
         self.read_on(replica)?;
+        let mut announced = Vec::new(self.alloc);
         if slot > self.last {
-            return Ok(Vec::new(self.alloc));
+            return Ok(announced);
         }
-        self.said(slot)
+        for reading in &self.by_processor {
+            let said = reading.agenda.at(slot);
+            if !said.is_empty() {
+                announced.extend_from_slice(said)?;
+            }
+        }
+        Ok(announced)
     }
 
     // Reads the entries of all sound beginnings that weren't read yet, if there are any.
@@ -307,19 +306,5 @@ impl Readings {
         }
         self.read = replica.sound_total();
         Ok(())
-    }
-
-    // What was read for a slot, in order of processors, and of numbers for each processor.
-    fn said(&self, slot: u64) -> Result<Vec<Said>, AllocError>
-        ensures { IfOk result (λ announced. announced.items ≡ said_by_all self.now.by_processor.items slot) }
-    {
-        let mut announced = Vec::new(self.alloc);
-        for reading in &self.by_processor {
-            let said = reading.agenda.at(slot);
-            if !said.is_empty() {
-                announced.extend_from_slice(said)?;
-            }
-        }
-        Ok(announced)
     }
 }

@@ -1,9 +1,8 @@
 //! What a run is set to.
-ghost use Rattle.std.specs.Prelude.{◌≡◌, ◌≤◌};
+ghost use Rattle.std.specs.Prelude.{◌≡◌};
 ghost use Rattle.std.specs.Option.{SomeIff};
-ghost use Rattle.pfair_table.specs.Limits.{IsSettings, settings_from};
+ghost use Rattle.pfair_table.specs.Limits.{IsSettings};
 
-use crate::state::State;
 use pfair_admission::Members;
 use pfair_entry::Entry;
 use std::marker::Model;
@@ -12,9 +11,9 @@ use std::marker::Model;
 /// planned at most.
 #[derive(Clone, Copy, Debug, PartialEq, Eq)]
 pub struct Settings {
-    processors: u8,
-    frame: u64,
-    slots: u64,
+    pub(crate) processors: u8,
+    pub(crate) frame: u64,
+    pub(crate) slots: u64,
 }
 
 impl Model for Settings {
@@ -58,20 +57,6 @@ impl Settings {
             })
         } else {
             None
-        }
-    }
-
-    /// Returns the settings of a run of so many slots that begins with a state.
-    pub(crate) fn from_state(state: &State, slots: u64) -> Settings
-        requires some { 1 ≤ slots }
-        requires few { slots ≤ Settings.MAX_SLOTS }
-        ensures { result ≡ settings_from state.now slots }
-    {
-        let members = state.members();
-        Settings {
-            processors: members.processors(),
-            frame: members.frame(),
-            slots,
         }
     }
 

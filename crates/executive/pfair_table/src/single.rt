@@ -1,11 +1,9 @@
 //! A script's logs on one dispatcher.
-ghost use Rattle.std.specs.Prelude.{◌≡◌, ◌+◌, ◌<◌, ◌≤◌, List, [], IfOk, IfErr, OnOk, Some, None, false, slice_get, length, take};
+ghost use Rattle.std.specs.Prelude.{◌≡◌, ◌+◌, ◌<◌, ◌≤◌, List, [], IfOk, OnOk, Some, None, false, slice_get, length, take};
 ghost use Rattle.pfair_replica.specs.ReplicaRows.{replica_of};
 ghost use Rattle.pfair_table.specs.Script.{held_of, replica_of_logs};
-ghost use Rattle.pfair_table.specs.declared.answer.RunFault.TheVariants.{Stalled};
 ghost use Rattle.pfair_entry.specs.Entry.{Logged};
 
-use crate::answer::RunFault;
 use crate::dispatcher::Dispatcher;
 use crate::run::offer;
 use crate::script::Script;
@@ -33,17 +31,6 @@ pub fn take_script<R: Ready>(alloc: Global, script: &Script) -> Result<Dispatche
         take_log(&mut dispatcher, processor, script.log(processor))?;
     }
     Ok(dispatcher)
-}
-
-/// That a frontier is not below the number of slots.
-pub(crate) fn check_settled(frontier: u64, slots: u64) -> Result<(), RunFault>
-    ensures settled { OnOk result (slots ≤ frontier) }
-    ensures stalled { IfErr result (λ fault. (fault ≡ Stalled frontier) × (frontier < slots)) }
-{
-    if frontier < slots {
-        return Err(RunFault::Stalled { slot: frontier });
-    }
-    Ok(())
 }
 
 fn take_log<R: Ready>(

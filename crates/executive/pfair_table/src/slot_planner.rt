@@ -12,7 +12,7 @@ use crate::answer::{PlanFault, RunFault, Step};
 use crate::planner::Planner;
 use crate::script::Script;
 use crate::settings::Settings;
-use crate::single::{check_settled, take_script};
+use crate::single::take_script;
 use crate::slot::{Pick, SlotPlan};
 use pfair_ready::Ready;
 use pfair_replica::Replica;
@@ -110,7 +110,10 @@ impl<R: Ready> SlotPlanner<R> {
         let replica = take_script::<R>(alloc, script)?.into_replica();
         // a replica holds entries of its own logs
         prove!(replica.processors() >= 1);
-        check_settled(replica.frontier(), settings.slots())?;
+        let frontier = replica.frontier();
+        if frontier < settings.slots() {
+            return Err(RunFault::Stalled { slot: frontier });
+        }
         let planner = SlotPlanner::new(alloc, settings, &replica)?;
         Ok((replica, planner))
     }

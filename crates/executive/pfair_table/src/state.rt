@@ -3,7 +3,6 @@ ghost use Rattle.std.specs.Prelude.{◌≡◌, ◌≤◌, ◌==◌, [], IfOk, On
 ghost use Rattle.pfair_admission.specs.declared.members.TheConstants.Members.{LAST_SLOT};
 ghost use Rattle.pfair_entry.specs.Same.{name_eq};
 ghost use Rattle.pfair_table.specs.Limits.{AreLeftAt, IsState, can_add_row, first_state, with_row, IsOrigin};
-ghost use Rattle.pfair_table.specs.Places.{is_used, table_before, places_before};
 ghost use Rattle.pfair_table.specs.Table.{names_task, machine, slot_of, members_before};
 
 use crate::settings::Settings;
@@ -90,7 +89,11 @@ impl State {
         ensures able { IfOk result (λ added. added ≡ can_add_row self.old pick place) }
         ensures same { OnErr result (self.new ≡ self.old) }
     {
-        if !self.can_add_row(&pick, place) {
+        let processors = self.members.processors();
+        if self.table.len() >= processors as usize || place >= processors {
+            return Ok(false);
+        }
+        if names_task(&self.table, &pick.name) || self.places.contains(&place) {
             return Ok(false);
         }
         self.table.push(pick)?;
@@ -99,17 +102,6 @@ impl State {
             return Err(error.into());
         }
         Ok(true)
-    }
-
-    // Whether a row can stand behind those that are there.
-    fn can_add_row(&self, pick: &Pick, place: u8) -> bool
-        ensures { result ≡ can_add_row self.now pick.now place }
-    {
-        let processors = self.members.processors();
-        if self.table.len() >= processors as usize || place >= processors {
-            return false;
-        }
-        !names_task(&self.table, &pick.name) && !is_used(&self.places, place)
     }
 
     /// Returns the slot at which the run begins, counted from the first slot of the first run.
@@ -157,17 +149,6 @@ fn names_task(table: &[Pick], name: &TaskName) -> bool
     )
 }
 
-// Whether a place is one of those in use.
-fn is_used(places: &[u8], place: u8) -> bool
-    ensures { result ≡ is_used places.now place }
-{
-    places.iter().any(
-        |used: &u8| -> bool
-            ensures { result ≡ (used.now == place) }
-        { *used == place },
-    )
-}
-
 /// What a run takes over, if it isn't the first.
 pub(crate) type Origin = Option<State>;
 
@@ -195,16 +176,5 @@ pub(crate) fn slot_of(origin: &Origin, slot: u64) -> u64
     match origin {
         Some(state) => state.slot + slot,
         None => slot,
-    }
-}
-
-/// Returns the table of the slot before the run and its places, or no rows in a first run.
-pub(crate) fn slot_before(origin: &Origin) -> (&[Pick], &[u8])
-    ensures table { result.0.now ≡ table_before origin.now }
-    ensures places { result.1.now ≡ places_before origin.now }
-{
-    match origin {
-        Some(state) => (&state.table, &state.places),
-        None => (&[], &[]),
     }
 }

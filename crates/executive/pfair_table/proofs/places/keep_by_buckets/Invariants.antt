@@ -1,6 +1,0 @@
-use Rattle.std.proofs.Common.{◌≡◌, take}
-use Rattle.pfair_table.proofs.Common.{kept_places}
-use Rattle.pfair_table.proofs.places.keep_by_buckets.Given as goal
-
-abbrev pub invariant-loop-pick : goal.invariant-loop-pick
-invariant-loop-pick l = l.kept.items ≡ kept_places l.before l.places (take l.pick-index l.table)
