@@ -10,9 +10,7 @@ use Rattle.pfair_table.specs.Buckets.{bucket, AreBucketsOf}
 no_place : (rows : Table) (places : List ℕ) (name : Name) → ((r : ℕ) (p : Pick) → slice_get rows r ≡ Some p → name ≡ p.name → ⊥) → place_of rows places name ≡ None
 no_place [] places name none = refl
 no_place (p ∷ rows) [] name none = refl
-no_place (p ∷ rows) (k ∷ places) name none =
-    ap (λ b. if b then Some k else place_of rows places name) (false_from_ne_true (name_eq name p.name) (λ e. none 0 p refl (name_exact name p.name e)))
-    ∙ no_place rows places name (λ r q h. none (suc r) q h)
+no_place (p ∷ rows) (k ∷ places) name none = grind (arith, name_exact, none 0 p refl, no_place rows places name (λ r q h. none (suc r) q h))
 
 pub none_by_bucket : (rows : Table) (ends places : List ℕ) (name : Name) → AreBucketsOf rows ends → slice_index ends (bucket name) ≡ 0 → None ≡ place_of rows places name
 none_by_bucket rows ends places name of none = sym (no_place rows places name (λ r p h e. of.found r p h (ap (λ n. slice_index ends (bucket n)) (sym e) ∙ none)))
@@ -24,8 +22,7 @@ place_by_row (q ∷ rows) [] name r p once h same = refl
 place_by_row (q ∷ rows) (k ∷ places) name zero p once h same = grind (arith, name_itself)
 place_by_row (q ∷ rows) (k ∷ places) name (suc r) p once h same =
     let unlike : name_eq q.name p.name ≡ false = at_each (λ (x : Pick). name_eq q.name x.name ≡ false) rows r p (apart_head (λ (p : Pick). p.name) q rows once) h in
-    place_by_row rows places name r p (apart_tail (λ (p : Pick). p.name) q rows once) h same
-    ∙ sym (ap (λ b. if b then Some k else place_of rows places name) (ap (λ n. name_eq n q.name) (sym same) ∙ nat_list_eq_equiv.symm p.name q.name ∙ unlike))
+    grind (arith, unlike, nat_list_eq_equiv.symm, place_by_row rows places name r p (apart_tail (λ (p : Pick). p.name) q rows once) h same)
 
 -- ---- the rows entered so far
 

@@ -24,8 +24,7 @@ not_full bits used fits in_use few =
     elim (cases_lt (bits + 1) (2 ^ 64)) [
       | inl l ↦ l
       | inr g ↦ (let full : bits ≡ 2 ^ 64 - 1 = omega (arith, g, fits) in
-          let all = pigeons 64 used (λ k l. is_set (is_used used k) (bit_at bits k) (in_use k l) (ap (λ n. bit_at n k) full ∙ bit_at_ones 64 k l)) in
-          absurd (omega (arith, all, few)))
+          absurd (omega (arith, few, pigeons 64 used (λ k l. is_set (is_used used k) (bit_at bits k) (in_use k l) (ap (λ n. bit_at n k) full ∙ bit_at_ones 64 k l)))))
     ]
 
 -- the lowest bit that is clear is that of the free place
@@ -36,11 +35,7 @@ lowest_is_free bits used fits in_use =
     grind (arith, free_is, is_clear, is_set)
 
 pub in_use_with : (bits : ℕ) (used : List ℕ) (k : ℕ) → k < 64 → AreInUse bits used → AreInUse (bit_or bits (1 * 2 ^ k % 2 ^ 64)) (k ∷ used)
-in_use_with bits used k within in_use i l = by (k == i) refl
-  where
-    by : (b : Bool) → (k == i) ≡ b → bit_at (bit_or bits (1 * 2 ^ k % 2 ^ 64)) i ≡ (if (b || is_used used i) then 1 else 0)
-    by true e = ap (bit_at (bit_or bits (1 * 2 ^ k % 2 ^ 64))) (sym (eqb-true k i e)) ∙ bit_at_set_same w64 bits k within
-    by false e = bit_at_set_other w64 bits k within i (λ same. true≢false (sym (eq-eqb k i (sym same)) ∙ e)) ∙ in_use i l
+in_use_with bits used k within in_use i l = grind (arith, eqb-true, eq-eqb, bit_at_set_same w64 bits k within, bit_at_set_other w64 bits k within i, in_use i l)
 
 -- ---- the rows that keep a place
 
@@ -61,14 +56,9 @@ pub used_kept : (bits : ℕ) (j : ℕ) (rest kept : List (Option ℕ)) → AreUs
 used_kept bits j rest kept s = record {
   used = j ∷ s.used;
   in_use = in_use_with bits s.used j s.below.0 s.in_use;
-  same = λ k. swap (j == k) (is_used s.used k) (is_used (all_kept rest) k) ∙ s.same k;
+  same = λ k. (let same = s.same k in grind (arith, same));
   below = s.below.1;
 }
-  where
-    swap : (a b c : Bool) → ((a || b) || c) ≡ (b || (a || c))
-    swap true true c = refl
-    swap true false c = refl
-    swap false b c = refl
 
 pub used_end : (bits : ℕ) (kept : List (Option ℕ)) → AreUsedSoFar bits [] kept → AreInUse bits (all_kept kept)
 used_end bits kept s k l = grind arith
@@ -100,4 +90,4 @@ filled_free bits bits2 places k rest whole s free in_use fits =
     }
 
 pub room_left : (bits : ℕ) (places : List ℕ) (rest : List (Option ℕ)) (whole : List ℕ) → (s : AreFilledSoFar bits places (None ∷ rest) whole) → length s.used < 64
-room_left bits places rest whole s = let room = s.room in omega (arith, room)
+room_left bits places rest whole s = omega (arith, s.room)

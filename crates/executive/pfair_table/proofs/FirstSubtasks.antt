@@ -23,10 +23,10 @@ found_among (x ∷ members) name m e = grind (arith, same_Some, found_among memb
 
 pub found_own : (members : List Member) → NamesApart (λ (m : Member). m.name) members → (m : Member) → Among members m → member_named members m.name ≡ Some m
 found_own [] a m h = absurd h
-found_own (x ∷ members) a m (inl e) = ap (λ b. cond b (Some x) (member_named members m.name)) (ap (λ (y : Member). name_eq m.name y.name) (sym e) ∙ name_itself m.name) ∙ ap Some (sym e)
+found_own (x ∷ members) a m (inl e) = grind (arith, name_itself)
 found_own (x ∷ members) a m (inr h) =
-    ap (λ b. cond b (Some x) (member_named members m.name)) (nat_list_eq_equiv.symm m.name x.name ∙ among_all (λ (y : Member). name_eq x.name y.name ≡ false) members (apart_head (λ (m : Member). m.name) x members a) m h)
-    ∙ found_own members (apart_tail (λ (m : Member). m.name) x members a) m h
+    let other = among_all (λ (y : Member). name_eq x.name y.name ≡ false) members (apart_head (λ (m : Member). m.name) x members a) m h in
+    grind (arith, other, nat_list_eq_equiv.symm, found_own members (apart_tail (λ (m : Member). m.name) x members a) m h)
 
 -- ---- what is queued
 
@@ -99,7 +99,7 @@ module _ (n : ℕ) (members : List Member) (waiting : Queue) (named : NamesApart
   eligible_released k h =
       let t = eligible_member k h in
       let e : ℕ × Key = next_of t.0 in
-      let got : finmap.get waiting t.0.name ≡ Some e = queue t.0.name ∙ ap queued (found_own members named t.0 t.1) ∙ ap (λ d. if d then None else Some e) t.3 in
+      let got : finmap.get waiting t.0.name ≡ Some e = grind (arith, queue t.0.name, found_own members named t.0 t.1, t.3) in
       let rest = finmap.remove waiting t.0.name in
       subst (Among (released n waiting)) (sym t.2) (contains_among (released n waiting) e.1
       (Contains-permutation (e.1 ∷ released n rest) (released n waiting) e.1 (released_remove n waiting rest t.0.name e.0 e.1 got t.4 refl) (among_contains (e.1 ∷ released n rest) e.1 (inl refl))))

@@ -17,11 +17,7 @@ find_right p (x ∷ xs) ys none = ap (λ b. cond b (Some x) (find p (xs ++ ys)))
 -- if a number passes and none below it does
 find_number : (p : ℕ → Bool) (n k : ℕ) → k < n → p k ≡ true → ((i : ℕ) → i < k → p i ≡ false) → find p (numbers_below n) ≡ Some k
 find_number p zero k l e least = absurd (omega (arith, l))
-find_number p (suc n) k l e least =
-    elim (cases_lt k n) [
-      | inl h ↦ find_left p (numbers_below n) (n ∷ []) k (find_number p n k h e least)
-      | inr h ↦ (grind (arith, find_right, among_below))
-    ]
+find_number p (suc n) k l e least = grind (arith, cases_lt k n, find_left p (numbers_below n) (n ∷ []) k, find_right p (numbers_below n) (n ∷ []), among_below, find_number p n k)
 
 find_no_number : (p : ℕ → Bool) (n : ℕ) → ((i : ℕ) → i < n → p i ≡ false) → find p (numbers_below n) ≡ None
 find_no_number p n none = grind (arith, find_right, among_below)
@@ -68,13 +64,13 @@ least_free used zero = inl (λ k l. absurd (omega (arith, l)))
 least_free used (suc n) = elim (least_free used n) [ inl f ↦ by (is_used used n) refl f | inr t ↦ inr t ]
   where
     by : (b : Bool) → is_used used n ≡ b → ((k : ℕ) → k < n → is_used used k ≡ true) → ((k : ℕ) → k < suc n → is_used used k ≡ true) ⊎ ((k : ℕ) × (is_used used k ≡ false) × ((i : ℕ) → i < k → is_used used i ≡ true))
-    by true e f = inl (λ k l. elim (cases_lt k n) [ inl h ↦ f k h | inr g ↦ (let same : k ≡ n = omega (arith, l, g) in ap (is_used used) same ∙ e) ])
+    by true e f = inl (λ k l. grind (arith, cases_lt, f k))
     by false e f = inr (n, e, f)
 
 -- The free place is not in use, and not above the count of those that are.
 pub free_place_is_free : (used : List ℕ) → (is_used used (free_place used) ≡ false) × (free_place used ≤ length used)
 free_place_is_free used =
     elim (least_free used (suc (length used))) [
-      | inl f ↦ (let full = pigeons (suc (length used)) used f in absurd (omega (arith, full)))
-      | inr t ↦ (let is = free_is used t.0 t.1 t.2 in let same = is.0 in let le = is.1 in (ap (is_used used) same ∙ t.1, omega (arith, same, le)))
+      | inl f ↦ absurd (omega (arith, pigeons (suc (length used)) used f))
+      | inr t ↦ (let is = free_is used t.0 t.1 t.2 in (ap (is_used used) is.0 ∙ t.1, omega (arith, is)))
     ]

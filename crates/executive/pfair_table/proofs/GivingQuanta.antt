@@ -30,8 +30,8 @@ key_item first i seated item = ap (λ (s : Seated). s.key) item ∙ sym (get_or-
 apart_before : (xs : List Key) (k : Key) (ys : List Key) → NamesApart (λ (k : Key). k.name) (xs ++ k ∷ ys) → has_key_of k.name xs ≡ false
 apart_before [] k ys a = refl
 apart_before (x ∷ xs) k ys a =
-    ap (λ b. b || has_key_of k.name xs) (nat_list_eq_equiv.symm k.name x.name ∙ among_all (λ (y : Key). name_eq x.name y.name ≡ false) (xs ++ k ∷ ys) (apart_head (λ (k : Key). k.name) x (xs ++ k ∷ ys) a) k (among_right xs (k ∷ ys) k (inl refl)))
-    ∙ apart_before xs k ys (apart_tail (λ (k : Key). k.name) x (xs ++ k ∷ ys) a)
+    let other = among_all (λ (y : Key). name_eq x.name y.name ≡ false) (xs ++ k ∷ ys) (apart_head (λ (k : Key). k.name) x (xs ++ k ∷ ys) a) k (among_right xs (k ∷ ys) k (inl refl)) in
+    grind (arith, nat_list_eq_equiv.symm, other, apart_before xs k ys (apart_tail (λ (k : Key). k.name) x (xs ++ k ∷ ys) a))
 
 no_key : (ys : List Key) (name : Name) → AllByRecursion (λ y. name_eq name y.name ≡ false) ys → has_key_of name ys ≡ false
 no_key [] name other = refl
@@ -80,7 +80,7 @@ module _ {start : Roster} {first : List Key} {i : ℕ} {roster : Roster} {table 
 
     -- and its quantum is that of its next subtask
     pub runs_next : option_map quantum_of (running (member_named roster.members key.name)) ≡ Some (quantum_of may.0)
-    runs_next = ap (λ o. option_map quantum_of (running o)) still_found ∙ ap (λ b. option_map quantum_of (if b then None else Some may.0)) may.2
+    runs_next = grind (arith, still_found, may.2)
 
     -- so what waits under its name then is the subtask after that
     pub notified_on : {after : Roster} {anew : Queue} (quantum : Quantum) {new : Bool} → seatless quantum ≡ quantum_of may.0 → after ≡ record roster { members = ran key.name roster.members }
@@ -114,8 +114,5 @@ module _ {start : Roster} {first : List Key} {i : ℕ} {roster : Roster} {table 
             is ∙ ap (λ n. queued (member_named after.members n)) (sym same)
             ∙ sym (ap (λ b. if b then None else queued (member_named after.members name)) (ap (λ n. has_key_of n (drop (i + 1) first)) same ∙ apart_after (take i first) key (drop (i + 1) first) split_apart)))
         by name false q is =
-            is ∙ so.queue name
-            ∙ ap (λ (ks : List Key). if has_key_of name ks then None else queued (member_named roster.members name)) (drop_item first i key inside item)
-            ∙ ap (λ b. if b || has_key_of name (drop (i + 1) first) then None else queued (member_named roster.members name)) q
-            ∙ ap (λ (o : Option Member). if has_key_of name (drop (i + 1) first) then None else queued o)
-            (sym (ap (λ (r : Roster). member_named r.members name) after_is ∙ found_other name key.name with_quantum (λ m. refl) q roster.members))
+            let was = so.queue name ∙ ap (λ (ks : List Key). if has_key_of name ks then None else queued (member_named roster.members name)) (drop_item first i key inside item) in
+            grind (arith, was, found_other name key.name with_quantum (λ m. refl) q roster.members)

@@ -8,24 +8,13 @@ use Rattle.pfair_table.proofs.Steps.{plan_of_held, step_of_held, plan_next_slot}
 
 -- ---- whether the next slot can be planned
 
-one_false : (a b c : Bool) → b ≡ false → (a && (b && c)) ≡ false
-one_false a b c e = grind arith
-
-both_false : (a b c : Bool) → c ≡ false → (a && (b && c)) ≡ false
-both_false a b c e = grind arith
-
 pub next_planned : (s : Settings) (x : Replica) (n slot : ℕ) (step : Step) → IsNextStep s x n step → step ≡ Planned slot → (n < frontier x) × (n < s.slots) × (slot ≡ n) × IsTrue (is_plannable s x n)
-next_planned s x n slot (Planned m) is same = (let m_is : m ≡ slot = cc in let at = is.0 in let can = is.1 in grind (arith, m_is))
-next_planned s x n slot (Waiting from) is same = absurd (cc)
-next_planned s x n slot Done is same = absurd (cc)
+next_planned s x n slot step is same = grind (arith, same, is)
 
 pub next_none : (s : Settings) (x : Replica) (n : ℕ) (step : Step) → IsNextStep s x n step → ((slot : ℕ) → step ≢ Planned slot) → (is_plannable s x n ≡ false) × (min (frontier x) s.slots ≤ n)
 next_none s x n (Planned slot) is other = absurd (other slot refl)
-next_none s x n (Waiting from) is other =
-    (let at = is.1 in let le = is.2 in
-    let far : frontier x ≤ n = omega (arith, at, le) in
-    (one_false (not (has_torn x)) (nat_lt n (frontier x)) (nat_lt n s.slots) (le-ltb n (frontier x) far), omega (arith, far)))
-next_none s x n Done is other = (both_false (not (has_torn x)) (nat_lt n (frontier x)) (nat_lt n s.slots) (le-ltb n s.slots is), omega (arith, is))
+next_none s x n (Waiting from) is other = (let far : frontier x ≤ n = omega (arith, is.1, is.2) in (grind (arith, le-ltb n (frontier x) far), omega (arith, far)))
+next_none s x n Done is other = (grind (arith, le-ltb n s.slots is), omega (arith, is))
 
 -- the tables of the slots so far, one for each
 pub tables_listed : (o : Origin) (s : Settings) (x : Replica) (n : ℕ) → (history o s (said x) n).tables ≡ map (table o s (said x)) (numbers_below n)

@@ -29,13 +29,7 @@ not_named name (p ∷ picks) all = ap (λ b. b || names_task name picks) all.0 �
 
 -- one row and the others
 one_row : (p : Pick) (picks : Table) → AllByRecursion (λ r. name_eq p.name r.name ≡ false) picks → (m : Member) → after_table picks (if is_named p.name m then with_quantum m else m) ≡ after_table (p ∷ picks) m
-one_row p picks apart m = by (is_named p.name m) refl
-  where
-    by : (b : Bool) → name_eq p.name m.name ≡ b → after_table picks (if b then with_quantum m else m) ≡ (if name_eq m.name p.name || names_task m.name picks then with_quantum m else m)
-    by true e =
-        ap (λ b. if b then with_quantum (with_quantum m) else with_quantum m) (ap (λ n. names_task n picks) (sym (name_exact p.name m.name e)) ∙ not_named p.name picks apart)
-        ∙ ap (λ b. if b || names_task m.name picks then with_quantum m else m) (sym (nat_list_eq_equiv.symm m.name p.name ∙ e))
-    by false e = ap (λ b. if b || names_task m.name picks then with_quantum m else m) (sym (nat_list_eq_equiv.symm m.name p.name ∙ e))
+one_row p picks apart m = grind (arith, name_exact, nat_list_eq_equiv.symm m.name p.name, not_named p.name picks apart)
 
 pub all_ran_is : (picks : Table) → NamesApart (λ (p : Pick). p.name) picks → (members : List Member) → all_ran picks members ≡ map (after_table picks) members
 all_ran_is [] apart members = sym (map-id members)
@@ -66,15 +60,11 @@ one_more t tables table e m h =
     let more : next_index (tables ++ table ∷ []) m ≡ 1 + (quanta tables m + cond (names_task m.name table) 1 0) =
     ap (λ ts. 1 + count_by (names_task m.name) ts) (drop-append-le m.joined tables (table ∷ []) (omega (arith, e, le)))
     ∙ ap (λ n. 1 + n) (sum_by_push (λ ts. cond (names_task m.name ts) 1 0) (drop m.joined tables) table) in
-    by (names_task m.name table) (next_index (tables ++ table ∷ []) m) more
-  where
-    by : (b : Bool) (n : ℕ) → n ≡ 1 + (quanta tables m + cond b 1 0) → (if b then with_quantum m else m) ≡ record m { next = n }
-    by true n more = (let was = h.next_is in let now : m.next + 1 ≡ n = omega (arith, more, was) in ap (λ k. record m { next = k }) now)
-    by false n more = (let was = h.next_is in let now : m.next ≡ n = omega (arith, more, was) in ap (λ k. record m { next = k }) now)
+    grind (arith, more, h.next_is)
 
 -- who is counted before a slot's table is counted after it
 still_counted : (t : ℕ) (tables : List Table) (table : Table) → length tables ≡ t → (m : Member) → IsCounted t tables m → IsCounted (suc t) (tables ++ table ∷ []) (counted_one (tables ++ table ∷ []) m)
-still_counted t tables table e m h = (let le = h.by_now in record { by_now = omega (arith, le); next_is = refl })
+still_counted t tables table e m h = record { by_now = omega (arith, h); next_is = refl }
 
 -- adding one for each row is counting by the tables so far
 one_on : (s : Settings) (x : Story) (t : ℕ) → AllByRecursion (IsCounted t (history None s x t).tables) (world None s x t) → all_ran (table None s x t) (world None s x t) ≡ counted (history None s x (suc t)).tables (world None s x t)

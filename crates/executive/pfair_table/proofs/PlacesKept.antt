@@ -10,21 +10,8 @@ use Rattle.pfair_table.proofs.FreePlaces.{among_used, free_place_is_free}
 kept_place : (used : List ℕ) (before : Table) (old : List ℕ) (now : Table) (name : Name) (k : ℕ) → place_of before old name ≡ Some k → names_task name now ≡ true → place_of now (filled used (kept_places before old now)) name ≡ Some k
 kept_place used before old [] name k e h = absurd (true≢false (sym h))
 kept_place used before old (p ∷ picks) name k e h =
-    by (place_of before old p.name) refl (name_eq name p.name) refl h (λ u i. kept_place u before old picks name k e i)
-  where
-    by : (o : Option ℕ) → place_of before old p.name ≡ o → (b : Bool) → name_eq name p.name ≡ b → (b || names_task name picks) ≡ true
-        → ((u : List ℕ) → names_task name picks ≡ true → place_of picks (filled u (kept_places before old picks)) name ≡ Some k)
-        → place_of (p ∷ picks) (filled used (o ∷ kept_places before old picks)) name ≡ Some k
-    by None q true i h more = (let same : place_of before old name ≡ None = ap (place_of before old) (name_exact name p.name i) ∙ q in absurd (cc))
-    by None q false i h more =
-        ap (λ b. if b then Some (free_place used) else place_of picks (filled (free_place used ∷ used) (kept_places before old picks)) name) i
-        ∙ more (free_place used ∷ used) h
-    by (Some j) q true i h more =
-        ap (λ b. if b then Some j else place_of picks (filled used (kept_places before old picks)) name) i
-        ∙ sym (ap (place_of before old) (name_exact name p.name i) ∙ q) ∙ e
-    by (Some j) q false i h more =
-        ap (λ b. if b then Some j else place_of picks (filled used (kept_places before old picks)) name) i
-        ∙ more used h
+    let more : (u : List ℕ) → names_task name picks ≡ true → place_of picks (filled u (kept_places before old picks)) name ≡ Some k = λ u i. kept_place u before old picks name k e i in
+    grind (arith, name_exact name p.name, more used, more (free_place used ∷ used))
 
 -- a task of a table has a place, if each row has one
 has_place : (rows : Table) (places : List ℕ) → length places ≡ length rows → (name : Name) → names_task name rows ≡ true → (k : ℕ) × (place_of rows places name ≡ Some k)
@@ -59,26 +46,14 @@ free_apart used h = true≢false (sym (among_used used (free_place used) h) ∙ 
 filled_in : (m : ℕ) (used : List ℕ) (kept : List (Option ℕ)) → ((k : ℕ) → Among (all_kept kept) k → k < m) → length used + count_others kept ≤ m
     → (k : ℕ) → Among (filled used kept) k → (k < m) × (Among (all_kept kept) k ⊎ (Among used k → ⊥))
 filled_in m used [] below room k h = absurd h
-filled_in m used (Some j ∷ kept) below room k (inl e) = (below k (inl e), inl (inl e))
-filled_in m used (Some j ∷ kept) below room k (inr h) =
-    (let t = filled_in m used kept (λ i l. below i (inr l)) room k h in (t.0, elim t.1 [ inl a ↦ inl (inr a) | inr b ↦ inr b ]))
-filled_in m used (None ∷ kept) below room k (inl e) = grind (arith, free_below, free_apart)
-filled_in m used (None ∷ kept) below room k (inr h) =
-    (let t = filled_in m (free_place used ∷ used) kept below (omega (arith, room)) k h in (t.0, elim t.1 [ inl a ↦ inl a | inr b ↦ inr (λ u. b (inr u)) ]))
+filled_in m used (Some j ∷ kept) below room k h = grind (arith, below k, filled_in m used kept (λ i l. below i (inr l)) room k)
+filled_in m used (None ∷ kept) below room k h = grind (arith, free_below m used, free_apart used, filled_in m (free_place used ∷ used) kept below (omega (arith, room)) k)
 
 filled_differ : (m : ℕ) (used : List ℕ) (kept : List (Option ℕ)) → ((k : ℕ) → Among (all_kept kept) k → k < m) → length used + count_others kept ≤ m
     → Differ (all_kept kept) → ((k : ℕ) → Among (all_kept kept) k → Among used k) → Differ (filled used kept)
 filled_differ m used [] below room differ in_use = tt
-filled_differ m used (Some k ∷ kept) below room differ in_use = (
-  λ j h e. (let t = filled_in m used kept (λ i l. below i (inr l)) room j h in
-      elim t.1 [ inl a ↦ differ.0 j a e | inr b ↦ b (subst (Among used) e (in_use k (inl refl))) ]),
-  filled_differ m used kept (λ i l. below i (inr l)) room differ.1 (λ i l. in_use i (inr l)),
-)
-filled_differ m used (None ∷ kept) below room differ in_use = (
-  λ j h e. (let t = filled_in m (free_place used ∷ used) kept below (omega (arith, room)) j h in
-      elim t.1 [ inl a ↦ free_apart used (subst (Among used) (sym e) (in_use j a)) | inr b ↦ b (inl (sym e)) ]),
-  filled_differ m (free_place used ∷ used) kept below (omega (arith, room)) differ (λ i l. inr (in_use i l)),
-)
+filled_differ m used (Some k ∷ kept) below room differ in_use = grind (arith, filled_in m used kept (λ i l. below i (inr l)) room, filled_differ m used kept (λ i l. below i (inr l)) room differ.1 (λ i l. in_use i (inr l)))
+filled_differ m used (None ∷ kept) below room differ in_use = grind (arith, free_apart used, filled_in m (free_place used ∷ used) kept below (omega (arith, room)), filled_differ m (free_place used ∷ used) kept below (omega (arith, room)) differ (λ i l. inr (in_use i l)))
 
 filled_long : (used : List ℕ) (kept : List (Option ℕ)) → length (filled used kept) ≡ length kept
 filled_long used [] = refl
@@ -90,8 +65,8 @@ kept_long before old now = length-map now (λ p. place_of before old p.name)
 
 pub kept_count : (kept : List (Option ℕ)) → length (all_kept kept) + count_others kept ≡ length kept
 kept_count [] = refl
-kept_count (None ∷ kept) = (let more = kept_count kept in omega (arith, more))
-kept_count (Some k ∷ kept) = (let more = kept_count kept in omega (arith, more))
+kept_count (None ∷ kept) = omega (arith, kept_count kept)
+kept_count (Some k ∷ kept) = omega (arith, kept_count kept)
 
 -- a place that is found is one of the places
 place_among : (before : Table) (old : List ℕ) (name : Name) (k : ℕ) → place_of before old name ≡ Some k → Among old k
@@ -103,14 +78,7 @@ place_among (p ∷ picks) (j ∷ old) name k e = grind (arith, place_among picks
 place_once : (before : Table) (old : List ℕ) → Differ old → (a b : Name) (k : ℕ) → place_of before old a ≡ Some k → place_of before old b ≡ Some k → a ≡ b
 place_once [] old differ a b k e f = absurd (cc)
 place_once (p ∷ picks) [] differ a b k e f = absurd (cc)
-place_once (p ∷ picks) (j ∷ old) differ a b k e f = by (name_eq a p.name) refl (name_eq b p.name) refl e f (place_once picks old differ.1 a b k)
-  where
-    by : (s : Bool) → name_eq a p.name ≡ s → (t : Bool) → name_eq b p.name ≡ t → (if s then Some j else place_of picks old a) ≡ Some k → (if t then Some j else place_of picks old b) ≡ Some k
-        → (place_of picks old a ≡ Some k → place_of picks old b ≡ Some k → a ≡ b) → a ≡ b
-    by true q true r e f more = name_exact a p.name q ∙ sym (name_exact b p.name r)
-    by true q false r e f more = (let same : j ≡ k = cc in absurd (differ.0 k (place_among picks old b k f) same))
-    by false q true r e f more = (let same : j ≡ k = cc in absurd (differ.0 k (place_among picks old a k e) same))
-    by false q false r e f more = more e f
+place_once (p ∷ picks) (j ∷ old) differ a b k e f = grind (arith, place_of, name_exact a p.name, name_exact b p.name, same_Some, place_among picks old a k, place_among picks old b k, differ.0 k, place_once picks old differ.1 a b k)
 
 -- what is kept is the place of some row
 kept_from : (before : Table) (old : List ℕ) (now : Table) (k : ℕ) → Among (all_kept (kept_places before old now)) k → (p : Pick) × Among now p × (place_of before old p.name ≡ Some k)
@@ -184,23 +152,21 @@ stays before old long now name h g = let t = has_place before old long name h in
 each_on : (m : ℕ) (before : Table) (old : List ℕ) → ArePlacesOf m before old → (tables : List Table) → AllByRecursion (IsFit m) tables
     → (t : ℕ) (rows : Table) (places : List ℕ) → slice_get tables t ≡ Some rows → slice_get (places_from before old tables) t ≡ Some places → ArePlacesOf m rows places
 each_on m before old are [] fit t rows places e f = absurd (cc)
-each_on m before old are (now ∷ tables) fit zero rows places e f =
-    subst (λ (p : Table × List ℕ). ArePlacesOf m p.0 p.1) (λ i. (same_Some now rows e i, same_Some (places_after before old now) places f i)) (next_places m before old are now fit.0)
+each_on m before old are (now ∷ tables) fit zero rows places e f = grind (arith, same_Some, next_places m before old are now fit.0)
 each_on m before old are (now ∷ tables) fit (suc t) rows places e f = each_on m now (places_after before old now) (next_places m before old are now fit.0) tables fit.1 t rows places e f
 
 first_on : (before : Table) (old : List ℕ) → length old ≡ length before → (tables : List Table) (next : Table) (there : List ℕ)
     → slice_get tables 0 ≡ Some next → slice_get (places_from before old tables) 0 ≡ Some there → KeepPlace before old next there
 first_on before old long [] next there e f = absurd (cc)
-first_on before old long (now ∷ tables) next there e f =
-    subst (λ (p : Table × List ℕ). KeepPlace before old p.0 p.1) (λ i. (same_Some now next e i, same_Some (places_after before old now) there f i)) (stays before old long now)
+first_on before old long (now ∷ tables) next there e f = grind (arith, same_Some, stays before old long now)
 
 slots_on : (m : ℕ) (before : Table) (old : List ℕ) → ArePlacesOf m before old → (tables : List Table) → AllByRecursion (IsFit m) tables
     → (t : ℕ) (rows next : Table) (places there : List ℕ) → slice_get tables t ≡ Some rows → slice_get (places_from before old tables) t ≡ Some places
     → slice_get tables (suc t) ≡ Some next → slice_get (places_from before old tables) (suc t) ≡ Some there → KeepPlace rows places next there
 slots_on m before old are [] fit t rows next places there e f g h = absurd (cc)
 slots_on m before old are (now ∷ tables) fit zero rows next places there e f g h =
-    subst (λ (p : Table × List ℕ). KeepPlace p.0 p.1 next there) (λ i. (same_Some now rows e i, same_Some (places_after before old now) places f i))
-    (first_on now (places_after before old now) (next_places m before old are now fit.0).one_each tables next there g h)
+    let first = first_on now (places_after before old now) (next_places m before old are now fit.0).one_each tables next there g h in
+    grind (arith, same_Some, first)
 slots_on m before old are (now ∷ tables) fit (suc t) rows next places there e f g h =
     slots_on m now (places_after before old now) (next_places m before old are now fit.0) tables fit.1 t rows next places there e f g h
 
@@ -220,10 +186,7 @@ places_are_kept = record {
 pub follow_on : (before : Table) (old : List ℕ) (xs ys : List Table) (t : ℕ) → ((u : ℕ) → u ≤ t → slice_get xs u ≡ slice_get ys u) → slice_get (places_from before old xs) t ≡ slice_get (places_from before old ys) t
 follow_on before old [] [] t same = refl
 follow_on before old [] (y ∷ ys) t same = absurd (none-some y (same zero (omega arith)))
-follow_on before old (x ∷ xs) [] t same = absurd (some_none x (same zero (omega arith)))
-  where
-    some_none : (x : Table) → Some x ≡ None → ⊥
-    some_none x e = cc
+follow_on before old (x ∷ xs) [] t same = absurd (none-some x (sym (same zero (omega arith))))
 follow_on before old (x ∷ xs) (y ∷ ys) zero same = ap (λ (r : Table). Some (places_after before old r)) (same_Some x y (same zero (omega arith)))
 follow_on before old (x ∷ xs) (y ∷ ys) (suc t) same =
     ap (λ (r : Table). slice_get (places_from r (places_after before old r) xs) t) (same_Some x y (same zero (omega arith)))

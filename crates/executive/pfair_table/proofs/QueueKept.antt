@@ -23,14 +23,7 @@ find_push p = found_push_other (find p) p (λ x. Some x) None refl (λ x xs. ref
 -- to change the member of one name changes no other
 pub found_other : (name other : Name) (f : Member → Member) → ((m : Member) → (f m).name ≡ m.name) → name_eq name other ≡ false → (members : List Member) → member_named (change other f members) name ≡ member_named members name
 found_other name other f keeps e [] = refl
-found_other name other f keeps e (m ∷ members) = by (name_eq other m.name) refl (found_other name other f keeps e members)
-  where
-    by : (b : Bool) → name_eq other m.name ≡ b → member_named (change other f members) name ≡ member_named members name → find (is_named name) ((if b then f m else m) ∷ change other f members) ≡ find (is_named name) (m ∷ members)
-    by true q more =
-        (let off : name_eq name m.name ≡ false = ap (name_eq name) (sym (name_exact other m.name q)) ∙ e in
-        ap (λ b. cond b (Some (f m)) (member_named (change other f members) name)) (ap (name_eq name) (keeps m) ∙ off) ∙ more
-        ∙ sym (ap (λ b. cond b (Some m) (member_named members name)) off))
-    by false q more = ap (λ o. cond (name_eq name m.name) (Some m) o) more
+found_other name other f keeps e (m ∷ members) = grind (arith, member_named, change, name_exact other m.name, keeps m, found_other name other f keeps e members)
 
 -- and its own member is found changed
 pub found_changed : (name : Name) (f : Member → Member) → ((m : Member) → (f m).name ≡ m.name) → (members : List Member) (m : Member) → member_named members name ≡ Some m → member_named (change name f members) name ≡ Some (f m)
@@ -71,43 +64,24 @@ queue_after_boundary mc t announced members waiting named queue name e = grind (
 
 -- it is taken out
 pub notified_out : (notified : Name) (members : List Member) (before : Queue) → queued (member_named members notified) ≡ None → IsNotifiedOf notified members before (finmap.remove before notified)
-notified_out notified members before none name =
-    get-remove nat_list_cmp_total before notified name ∙ ap (λ b. cond b None (finmap.get before name)) (tied_names name notified)
-    ∙ ap (λ o. cond (name_eq name notified) o (finmap.get before name)) (sym none)
+notified_out notified members before none name = (let out = get-remove nat_list_cmp_total before notified name in grind (arith, out, tied_names name notified))
 
 -- and another is put in
 pub notified_in : (notified : Name) (members : List Member) (before : Queue) (e : ℕ × Key) (named : Name) → named ≡ notified → queued (member_named members notified) ≡ Some e → IsNotifiedOf notified members before (finmap.insert (finmap.remove before notified) named e)
-notified_in notified members before e named same some name = by (name_eq name notified) refl
-  where
-    turned : finmap.get (finmap.insert (finmap.remove before notified) named e) name ≡ cond (name_eq name notified) (Some e) (cond (name_eq name notified) None (finmap.get before name))
-    turned =
-        get-insert nat_list_cmp_total (finmap.remove before notified) named e name
-        ∙ ap (λ b. cond b (Some e) (finmap.get (finmap.remove before notified) name)) (ap (eq_by_cmp name_cmp name) same ∙ tied_names name notified)
-        ∙ ap (cond (name_eq name notified) (Some e)) (get-remove nat_list_cmp_total before notified name ∙ ap (λ b. cond b None (finmap.get before name)) (tied_names name notified))
-
-    by : (b : Bool) → name_eq name notified ≡ b → finmap.get (finmap.insert (finmap.remove before notified) named e) name ≡ (if b then queued (member_named members notified) else finmap.get before name)
-    by true q = turned ∙ ap (λ b. cond b (Some e) (cond b None (finmap.get before name))) q ∙ sym some
-    by false q = turned ∙ ap (λ b. cond b (Some e) (cond b None (finmap.get before name))) q
+notified_in notified members before e named same some name =
+    let put = get-insert nat_list_cmp_total (finmap.remove before notified) named e name in
+    let out = get-remove nat_list_cmp_total before notified name in
+    grind (arith, put, out, tied_names name notified)
 
 -- who is found has the name
 pub found_named : (members : List Member) (name : Name) (m : Member) → member_named members name ≡ Some m → m.name ≡ name
 found_named [] name m e = absurd (none-some m e)
-found_named (x ∷ members) name m e = by (name_eq name x.name) refl e (found_named members name m)
-  where
-    by : (b : Bool) → name_eq name x.name ≡ b → cond b (Some x) (member_named members name) ≡ Some m → (member_named members name ≡ Some m → m.name ≡ name) → m.name ≡ name
-    by true q e more = ap (λ (y : Member). y.name) (sym (same_Some x m e)) ∙ sym (name_exact name x.name q)
-    by false q e more = more e
+found_named (x ∷ members) name m e = grind (arith, member_named, name_exact name x.name, same_Some, found_named members name m)
 
 -- what is absent need not go
 pub absent_removed : (waiting : Queue) (name : Name) → finmap.get waiting name ≡ None → waiting ≡ finmap.remove waiting name
 absent_removed waiting name none =
-    same_map nat_list_cmp_total names_exact _ _ (λ q.
-    at q (eq_by_cmp name_cmp q name) refl
-    ∙ sym (get-remove nat_list_cmp_total waiting name q))
-  where
-    at : (q : Name) (b : Bool) → eq_by_cmp name_cmp q name ≡ b → finmap.get waiting q ≡ cond b None (finmap.get waiting q)
-    at q true e = ap (finmap.get waiting) (name_exact q name (sym (tied_names q name) ∙ e)) ∙ none
-    at q false e = refl
+    same_map nat_list_cmp_total names_exact _ _ (λ q. (let out = get-remove nat_list_cmp_total waiting name q in grind (arith, out, name_exact, tied_names q name)))
 
 -- if there is no such member, or it is departing
 pub notified_gone : (notified : Name) (members : List Member) (before after : Queue) → queued (member_named members notified) ≡ None → after ≡ finmap.remove before notified → IsNotifiedOf notified members before after
@@ -125,17 +99,12 @@ pub notified_next : (notified : Name) (members : List Member) (m : Member) (befo
     → middle ≡ finmap.remove before notified → new ≡ not (finmap.contains_key middle key.name)
     → after ≡ (if new then finmap.insert middle key.name (from, key) else middle) → IsNotifiedOf notified members before after
 notified_next notified members m before middle after new from key found stays from_is key_is out fresh in_ =
+    let named : key.name ≡ notified = ap (λ (k : Key). k.name) key_is ∙ found_named members notified m found in
+    let gone = get-remove nat_list_cmp_total before notified key.name in
+    let none : finmap.get middle key.name ≡ None = grind (arith, gone, tied_names, name_itself) in
     subst (IsNotifiedOf notified members before)
     (sym (in_ ∙ ap (λ b. if b then finmap.insert middle key.name (from, key) else middle) (fresh ∙ ap (λ o. not (is_some o)) none) ∙ ap (λ h. finmap.insert h key.name (from, key)) out))
     (notified_in notified members before (from, key) key.name named (queued_running (member_named members notified) m found stays ∙ (λ i. Some (sym from_is i, sym key_is i))))
-  where
-    named : key.name ≡ notified
-    named = ap (λ (k : Key). k.name) key_is ∙ found_named members notified m found
-
-    none : finmap.get middle key.name ≡ None
-    none =
-        ap (λ h. finmap.get h key.name) out ∙ get-remove nat_list_cmp_total before notified key.name
-        ∙ ap (λ b. cond b None (finmap.get before key.name)) (tied_names key.name notified ∙ ap (λ n. name_eq n notified) named ∙ name_itself notified)
 
 -- one name that the ready structure was notified of is one less to notify of
 pub notified_one : (said : Said) (announced : List Said) (members : List Member) (before after : Queue) → IsQueueBut (said ∷ announced) members before → IsNotifiedOf (name_of said.announcement) members before after → IsQueueBut announced members after
@@ -164,11 +133,7 @@ besides_all members waiting empty name e = ap (λ (h : Queue). finmap.get h name
 -- and one that was notified of a member has to be notified of one less
 pub besides_at : (members : List Member) (i : ℕ) (m : Member) (name : Name) (before after : Queue) → Some m ≡ slice_get members i → name ≡ m.name
     → IsQueueBesides (drop i members) members before → IsNotifiedOf name members before after → IsQueueBesides (drop (i + 1) members) members after
-besides_at members i m notified before after at is queue anew name e = by (name_eq name notified) refl (anew name)
-  where
-    rest : is_of_some name (drop i members) ≡ name_eq name m.name || is_of_some name (drop (i + 1) members)
-    rest = ap (is_of_some name) (drop_item members i m (slice_get_within members i m (sym at)) (sym (get_or_from_slice_get members i m m (sym at))))
-
-    by : (b : Bool) → name_eq name notified ≡ b → finmap.get after name ≡ (if b then queued (member_named members notified) else finmap.get before name) → finmap.get after name ≡ queued (member_named members name)
-    by true q now = now ∙ ap (λ n. queued (member_named members n)) (sym (name_exact name notified q))
-    by false q now = now ∙ queue name (rest ∙ ap (λ b. b || is_of_some name (drop (i + 1) members)) (ap (name_eq name) (sym is) ∙ q) ∙ e)
+besides_at members i m notified before after at is queue anew name e =
+    let rest : is_of_some name (drop i members) ≡ name_eq name m.name || is_of_some name (drop (i + 1) members) =
+    ap (is_of_some name) (drop_item members i m (slice_get_within members i m (sym at)) (sym (get_or_from_slice_get members i m m (sym at)))) in
+    grind (arith, rest, name_exact, anew name, queue name)

@@ -68,17 +68,11 @@ module _ (g : ℕ → ℕ) (rs : List Reading) where
 
   counts_are : ((k : ℕ) (r : Reading) → slice_get rs k ≡ Some r → r.count ≡ g k) → (n : ℕ) → n ≤ length rs → entries_read (take n rs) ≡ sum_by g (numbers_below n)
   counts_are same zero le = refl
-  counts_are same (suc n) le =
-      let next = count_next n le in
-      let so_far = counts_are same n (omega (arith, le)) in
-      omega (arith, next.2, next.3, so_far, same n next.0 next.1)
+  counts_are same (suc n) le = (let next = count_next n le in omega (arith, next.2, next.3, counts_are same n (omega (arith, le)), same n next.0 next.1))
 
   counts_within : ((k : ℕ) (r : Reading) → slice_get rs k ≡ Some r → r.count ≤ g k) → (n : ℕ) → n ≤ length rs → entries_read (take n rs) ≤ sum_by g (numbers_below n)
   counts_within within zero le = omega arith
-  counts_within within (suc n) le =
-      let next = count_next n le in
-      let so_far = counts_within within n (omega (arith, le)) in
-      omega (arith, next.2, next.3, so_far, within n next.0 next.1)
+  counts_within within (suc n) le = (let next = count_next n le in omega (arith, next.2, next.3, counts_within within n (omega (arith, le)), within n next.0 next.1))
 
   -- equal sums of counts that are within their bounds are of equal counts
   same_counts : ((k : ℕ) (r : Reading) → slice_get rs k ≡ Some r → r.count ≤ g k) → (n : ℕ) → n ≤ length rs → sum_by g (numbers_below n) ≤ entries_read (take n rs)
@@ -126,10 +120,8 @@ maps_to : {A B : Type 0} (f : A → List B) (g : ℕ → List B) (xs : List A) �
 maps_to f g xs same zero le = refl
 maps_to f g xs same (suc n) le =
     let x = some_at xs n (omega (arith, le)) in
-    ap (flat_map f) (take-suc xs n x.0 (omega (arith, le)) ∙ ap (λ y. take n xs ++ y ∷ []) (get_or_from_slice_get xs n x.0 x.0 x.1))
-    ∙ flat_map-append f (take n xs) (x.0 ∷ [])
-    ∙ (λ i. maps_to f g xs same n (omega (arith, le)) i ++ (same n x.0 x.1 i ++ []))
-    ∙ sym (flat_map-append g (numbers_below n) (n ∷ []))
+    let more = take-suc xs n x.0 (omega (arith, le)) ∙ ap (λ y. take n xs ++ y ∷ []) (get_or_from_slice_get xs n x.0 x.0 x.1) in
+    grind (arith, more, flat_map-append, maps_to f g xs same n, same n x.0 x.1)
 
 pub whole_at_end : (x : Replica) (rs : List Reading) (p : ℕ) → length rs ≤ p → AreWholeBelow x rs p → AreWhole x rs
 whole_at_end x rs p le below k r is = below k r (omega (arith, le, slice_get_within rs k r is)) is
@@ -143,9 +135,7 @@ whole_by_total x rs all sound whole most k r is =
 pub total_by_whole : (x : Replica) (rs : List Reading) → length rs ≡ x.processors → AreWhole x rs → sound_total x ≤ entries_read rs
 total_by_whole x rs one_each ends =
     let sums = counts_are (λ (j : ℕ). length (sound_beginning x j)) rs ends (length rs) (omega arith) in
-    let same = ap entries_read (take-length rs) in
-    let all = ap (λ (n : ℕ). sum_by (λ (j : ℕ). length (sound_beginning x j)) (numbers_below n)) one_each in
-    omega (arith, sums, same, all)
+    grind (arith, sums, take-length, one_each)
 
 -- what is read for no slot of any processor isn't said
 pub none_said : (rs : List Reading) (t : ℕ) → ((k : ℕ) (r : Reading) → slice_get rs k ≡ Some r → said_at r.agenda t ≡ []) → said_by_all rs t ≡ []

@@ -23,14 +23,11 @@ pub same_list : {A : Type 0} (xs ys : List A) → length xs ≡ length ys → ((
 same_list [] [] e h = refl
 same_list [] (y ∷ ys) e h = absurd (omega (arith, e))
 same_list (x ∷ xs) [] e h = absurd (omega (arith, e))
-same_list (x ∷ xs) (y ∷ ys) e h =
-    let head = same_Some x y (h zero (omega arith)) in
-    let tail = same_list xs ys (omega (arith, e)) (λ t l. h (suc t) (omega (arith, l))) in
-    λ i. head i ∷ tail i
+same_list (x ∷ xs) (y ∷ ys) e h = λ i. same_Some x y (h zero (omega arith)) i ∷ same_list xs ys (omega (arith, e)) (λ t l. h (suc t) (omega (arith, l))) i
 
 pub length_numbers : (n : ℕ) → length (numbers_below n) ≡ n
 length_numbers zero = refl
-length_numbers (suc n) = (let more = length_numbers n in let sum = length-append (numbers_below n) (n ∷ []) in omega (arith, more, sum))
+length_numbers (suc n) = omega (arith, length_numbers n, length-append (numbers_below n) (n ∷ []))
 
 pub get_numbers : {B : Type 0} (f : ℕ → B) (n t : ℕ) → t < n → slice_get (map f (numbers_below n)) t ≡ Some (f t)
 get_numbers f zero t h = absurd (omega (arith, h))
@@ -87,18 +84,7 @@ sound_next s c sound ok =
       is_of = sound.is_of;
       as_many = omega (arith, lt, ld, same);
       planned = λ t l. elim (cases_lt t u) [
-        | inl old ↦ (let w = sound.planned t old in (
-          w.0,
-          w.1,
-          record {
-            is_of = w.2.is_of;
-            whole = w.2.whole;
-            early = w.2.early;
-            wanted = w.2.wanted;
-            table_is = get_left c.tables (table c.origin s (said c.replica) u ∷ []) t old ∙ w.2.table_is;
-            decided_is = get_left c.decided (decisions c.origin s (said c.replica) u ∷ []) t (omega (arith, same, old)) ∙ w.2.decided_is;
-          },
-        ))
+        | inl old ↦ (let w = sound.planned t old in (w.0, w.1, grind (arith, get_left, w.2)))
         | inr new ↦ (
           c.replica,
           (λ k n. below_itself (c.replica.at k n)),
@@ -175,6 +161,5 @@ pub plan_so_far : PlanSoFar
 plan_so_far o s m events all untorn =
     let c = run s (begin_at o s m) events in
     let now = planned_now s c (sound_run s events (begin_at o s m) all (sound_start o s m)) untorn in
-    let few : length c.tables ≤ min (frontier c.replica) s.slots =
-    all_below (length c.tables) (min (frontier c.replica) s.slots) (λ t l. let early = (now t l).early in let wanted = (now t l).wanted in omega (arith, early, wanted)) in
+    let few = all_below (length c.tables) (min (frontier c.replica) s.slots) (λ t l. omega (arith, now t l)) in
     subst (λ (p : Origin). IsPrefixOf c.tables (plan p s c.replica)) (origin_stays s events (begin_at o s m)) (begins_plan c.origin s c.replica c.tables few (λ t l. (now t l).table_is))

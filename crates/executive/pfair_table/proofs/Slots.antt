@@ -16,11 +16,7 @@ few_boundary n mc t le = each_boundary t (λ m. m.next ≤ n) (λ name w early. 
 few_ran : (n : ℕ) (picks : Table) → NamesApart (λ (p : Pick). p.name) picks → (members : List Member) → AllByRecursion (λ m. m.next ≤ n) members → AllByRecursion (λ m. m.next ≤ n + 1) (all_ran picks members)
 few_ran n picks differ members all =
     subst (AllByRecursion (λ m. m.next ≤ n + 1)) (sym (all_ran_is picks differ members))
-    (each_map (λ m. m.next ≤ n) (λ m. m.next ≤ n + 1) (after_table picks) (λ m h. by m h (names_task m.name picks)) members all)
-  where
-    by : (m : Member) → m.next ≤ n → (b : Bool) → (if b then with_quantum m else m).next ≤ n + 1
-    by m h true = omega (arith, h)
-    by m h false = omega (arith, h)
+    (each_map (λ m. m.next ≤ n) (λ m. m.next ≤ n + 1) (after_table picks) (λ m h. grind arith) members all)
 
 -- in each slot of a run an index rises by one at most
 pub few_history : (o : Origin) (s : Settings) (most : ℕ) → 1 ≤ most → NamesApart label (members_before o) → AllByRecursion (λ m. m.next ≤ most) (members_before o) → (x : Replica) (t : ℕ)

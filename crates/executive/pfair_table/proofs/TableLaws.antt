@@ -1,6 +1,6 @@
 -- The proofs of the laws of tables and plans.
 use Rattle.std.proofs.Common.{ℕ, zero, suc, ◌<◌, ◌≤◌, ◌≡◌, refl, sym, ap, ◌∙◌, arith, inl, inr, List, [], ◌∷◌, ◌++◌, min, map, filter, AllPairs}
-use Rattle.pfair_table.proofs.Common.{length-map, map-append, append_assoc, append-nil, cases_order, Key, among_below, map_same, NamesApart, apart_filter, apart_map, said, frontier, numbers_below, same_said, mark_le, frontier_le, below_agree, Member, next_key, first_by_rank, Settings, Origin, eligible, is_eligible, chosen, pick, members_before, slot_of, table, Story, history, world, Pick, IsFit, IsPrefixOf, OneTable, PlansGoOn, OnePlan, TablesAreOrdered}
+use Rattle.pfair_table.proofs.Common.{cases_lt, length-map, map-append, append_assoc, append-nil, cases_order, Key, among_below, map_same, NamesApart, apart_filter, apart_map, said, frontier, numbers_below, same_said, mark_le, frontier_le, below_agree, Member, next_key, first_by_rank, Settings, Origin, eligible, is_eligible, chosen, pick, members_before, slot_of, table, Story, history, world, Pick, IsFit, IsPrefixOf, OneTable, PlansGoOn, OnePlan, TablesAreOrdered}
 use Rattle.pfair_order.specs.Order.{GoesBefore}
 use Rattle.pfair_order.proofs.NamesApart.{first_names}
 use Rattle.pfair_table.proofs.FirstByRank.{length_first, rising_first}
@@ -21,10 +21,9 @@ one_table o s x y ox oy agree t h g = grind (arith, same_said, same_history)
 numbers_more : (m n : ℕ) → m ≤ n → (rest : List ℕ) × (numbers_below m ++ rest ≡ numbers_below n)
 numbers_more m zero h = ([], append-nil (numbers_below m) ∙ ap numbers_below (let e : m ≡ 0 = omega (arith, h) in e))
 numbers_more m (suc n) h =
-    elim (cases_order m (suc n)) [
-      | inl e ↦ ([], append-nil (numbers_below m) ∙ ap numbers_below e)
-      | inr (inl l) ↦ (let t = numbers_more m n (omega (arith, l)) in (t.0 ++ n ∷ [], sym (append_assoc (numbers_below m) t.0 (n ∷ [])) ∙ ap (λ xs. xs ++ n ∷ []) t.1))
-      | inr (inr g) ↦ absurd (omega (arith, h, g))
+    elim (cases_lt m (suc n)) [
+      | inl l ↦ (let t = numbers_more m n (omega (arith, l)) in (t.0 ++ n ∷ [], sym (append_assoc (numbers_below m) t.0 (n ∷ [])) ∙ ap (λ xs. xs ++ n ∷ []) t.1))
+      | inr g ↦ ([], append-nil (numbers_below m) ∙ ap numbers_below (let e : m ≡ suc n = omega (arith, h, g) in e))
     ]
 
 pub prefix_map : {B : Type 0} (f g : ℕ → B) (m n : ℕ) → m ≤ n → ((k : ℕ) → k < m → f k ≡ g k) → IsPrefixOf (map f (numbers_below m)) (map g (numbers_below n))
@@ -48,10 +47,9 @@ one_plan o s x y ox oy agree =
     let n = min (frontier y) s.slots in
     let X = table o s (said x) in
     let Y = table o s (said y) in
-    elim (cases_order m n) [
-      | inl e ↦ inl (prefix_map X Y m n (omega (arith, e)) (λ t l. (one_table o s x y ox oy agree t (omega (arith, l)) (omega (arith, l, e))).0))
-      | inr (inl less) ↦ inl (prefix_map X Y m n (omega (arith, less)) (λ t l. (one_table o s x y ox oy agree t (omega (arith, l)) (omega (arith, l, less))).0))
-      | inr (inr more) ↦ inr (prefix_map Y X n m (omega (arith, more)) (λ t l. sym (one_table o s x y ox oy agree t (omega (arith, l, more)) (omega (arith, l))).0))
+    elim (cases_lt m n) [
+      | inl less ↦ inl (prefix_map X Y m n (omega (arith, less)) (λ t l. (one_table o s x y ox oy agree t (omega (arith, l)) (omega (arith, l, less))).0))
+      | inr more ↦ inr (prefix_map Y X n m (omega (arith, more)) (λ t l. sym (one_table o s x y ox oy agree t (omega (arith, l, more)) (omega (arith, l))).0))
     ]
 
 -- ---- tables are ordered
