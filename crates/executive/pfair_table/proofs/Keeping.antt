@@ -8,13 +8,13 @@ use Rattle.pfair_table.proofs.Steps.{plan_of_held, step_of_held, plan_next_slot}
 
 -- ---- whether the next slot can be planned
 
-pub next_planned : (s : Settings) (x : Replica) (n slot : ℕ) (step : Step) → IsNextStep s x n step → step ≡ Planned slot → (n < frontier x) × (n < s.slots) × (slot ≡ n) × IsTrue (is_plannable s x n)
-next_planned s x n slot step is same = grind (arith, same, is)
+pub next_planned : (s : Settings) (x : Replica) {k n : ℕ} → k ≡ n → (slot : ℕ) (step : Step) → IsNextStep s x k step → step ≡ Planned slot → (n < frontier x) × (n < s.slots) × (slot ≡ n) × IsTrue (is_plannable s x n)
+next_planned s x long slot step is same = grind (arith, long, same, is)
 
-pub next_none : (s : Settings) (x : Replica) (n : ℕ) (step : Step) → IsNextStep s x n step → ((slot : ℕ) → step ≢ Planned slot) → (is_plannable s x n ≡ false) × (min (frontier x) s.slots ≤ n)
-next_none s x n (Planned slot) is other = absurd (other slot refl)
-next_none s x n (Waiting from) is other = (let far : frontier x ≤ n = omega (arith, is.1, is.2) in (grind (arith, le-ltb n (frontier x) far), omega (arith, far)))
-next_none s x n Done is other = (grind (arith, le-ltb n s.slots is), omega (arith, is))
+pub next_none : (s : Settings) (x : Replica) {k n : ℕ} → k ≡ n → (step : Step) → IsNextStep s x k step → ((slot : ℕ) → step ≢ Planned slot) → (is_plannable s x n ≡ false) × (min (frontier x) s.slots ≤ n)
+next_none s x long (Planned slot) is other = absurd (other slot refl)
+next_none s x {n = n} long (Waiting from) is other = (let far : frontier x ≤ n = omega (arith, is.1, is.2, long) in (grind (arith, le-ltb n (frontier x) far), omega (arith, far)))
+next_none s x {n = n} long Done is other = (let far : s.slots ≤ n = omega (arith, is, long) in (grind (arith, le-ltb n s.slots far), omega (arith, far)))
 
 -- the tables of the slots so far, one for each
 pub tables_listed : (o : Origin) (s : Settings) (x : Replica) (n : ℕ) → (history o s (said x) n).tables ≡ map (table o s (said x)) (numbers_below n)

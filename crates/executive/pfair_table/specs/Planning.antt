@@ -1,5 +1,5 @@
 -- The plan of one slot, and what it takes for granted.
-use Rattle.std.specs.Prelude.{ℕ, ◌≡◌, ◌≤◌, ◌<◌, List, map, length}
+use Rattle.std.specs.Prelude.{ℕ, ◌≡◌, ◌≤◌, List, map}
 use Rattle.pfair_entry.specs.declared.entry.Said.{Said}
 use Rattle.pfair_replica.specs.ReplicaRows.{ReplicaRows, replica_of}
 use Rattle.pfair_replica.specs.Replica.{Untorn, said}
@@ -12,10 +12,8 @@ use Rattle.pfair_table.specs.declared.script.TheConstants.Script.{LONGEST_LOG}
 use Rattle.pfair_table.specs.declared.slot.SlotPlan.{SlotPlan}
 use Rattle.pfair_table.specs.Laws.{IsOf}
 use Rattle.pfair_table.specs.Limits.{IsOrigin, IsSettings}
-use Rattle.pfair_table.specs.Planned.{PlannedSlots}
 use Rattle.pfair_table.specs.Ranks.{first_by_rank}
 use Rattle.pfair_table.specs.Readings.{AreReadingsOf}
-use Rattle.pfair_table.specs.Refinement.{IsPlanOf}
 use Rattle.pfair_table.specs.Table.{Settings, Origin, Table, eligible, pick, table, decisions}
 
 -- A run can be planned by the contents: nothing is torn, and what was read is in them.
@@ -31,12 +29,6 @@ pub record IsPlanOfSlot (o : Origin) (s : Settings) (x : ReplicaRows) (n : ℕ) 
   pub table_is : plan.table.items ≡ table o s (said (replica_of x)) n
   pub decided_is : plan.decided.items ≡ decisions o s (said (replica_of x)) n
   pub limits : IsSettings s
-
--- the slots so far are those of the contents, and another one is wanted
-pub record IsPlannedOf (s : Settings) (x : ReplicaRows) (p : PlannedSlots) : Type 0 where
-  pub settings_are : p.settings ≡ s
-  pub plan : IsPlanOf p.origin s (replica_of x) (replica_of x) p.tables p.decided
-  pub wanted : length p.tables < s.slots
 
 -- ---- the steps of a slot at which this is announced
 

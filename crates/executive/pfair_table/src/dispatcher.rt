@@ -16,8 +16,9 @@ ghost use Rattle.pfair_table.specs.NextRun.{LeaveAlike};
 ghost use Rattle.pfair_table.specs.Refinement.{AreMembersOf, course_of, members_after, IsStepOf, IsPlanFault, after_fault, IsReopenFault, IsLast, IsWholePlan, HavePlannedAlike};
 
 use crate::answer::{PlanFault, Step};
-use crate::planned::Planned;
-use crate::planner::{Planner, plan_onto};
+use crate::places::places_beside;
+use crate::planned::{Planned, PlannedSlot};
+use crate::planner::Planner;
 use crate::script::Script;
 use crate::settings::Settings;
 use crate::slot::{Decided, Pick};
@@ -259,9 +260,18 @@ impl<R: Ready> Dispatcher<R> {
     {
         let planned = self.planned.len() as u64;
         let step = self.planner.next_step(&self.replica, planned)?;
-        if let Step::Planned(_) = step {
-            plan_onto(&self.replica, &mut self.planner, &mut self.planned)?;
-        }
+        let Step::Planned(slot) = step else {
+            return Ok(step);
+        };
+        let PlannedSlot { plan: room, places } = self.planned.take_room();
+        let origin = self.planned.origin();
+        let plan = self.planner.plan(origin, &self.replica, slot, room.table)?;
+        self.planner.spent = true;
+        let (before, there) = self.planned.last();
+        let places = places_beside(before, there, &plan.table, &mut self.planner.kept, places)?;
+        self.planned
+            .push(&self.replica, PlannedSlot { plan, places })?;
+        self.planner.spent = false;
         Ok(step)
     }
 

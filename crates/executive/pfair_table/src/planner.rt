@@ -1,18 +1,15 @@
 //! The state between slots, beside the replica and the tables: the members, the ready structure,
 //! and how far the replica was read.
-ghost use Rattle.std.specs.Prelude.{◌≡◌, ◌≤◌, ◌<◌, ◌+◌, false, if◌then◌else◌, is_err, is_ok, IfOk, IfErr, OnOk, length, ℕ, []};
+ghost use Rattle.std.specs.Prelude.{◌≡◌, ◌≤◌, ◌<◌, ◌+◌, false, is_err, IfOk, IfErr, OnOk, length, ℕ, []};
 ghost use Rattle.pfair_replica.specs.ReplicaRows.{replica_of};
 ghost use Rattle.pfair_replica.specs.Replica.{Replica as Held, IsReplica, has_torn, Untorn, sound_beginning, said};
 ghost use Rattle.pfair_table.specs.Limits.{IsOrigin};
 ghost use Rattle.pfair_table.specs.Readings.{AreReadingsOf, IsReadingOf, AreWhole, AreSilentAfter, entries_read};
 ghost use Rattle.pfair_table.specs.Refinement.{IsInStep, IsNextStep, IsNoStep};
-ghost use Rattle.pfair_table.specs.Planned.{with_next};
-ghost use Rattle.pfair_table.specs.Planning.{CanBePlanned, IsPlanOfSlot, IsPlannedOf};
+ghost use Rattle.pfair_table.specs.Planning.{CanBePlanned, IsPlanOfSlot};
 ghost use Rattle.pfair_replica.specs.Agenda.{said_at};
 
 use crate::answer::{PlanFault, Step};
-use crate::places::places_beside;
-use crate::planned::{Planned, PlannedSlot};
 use crate::settings::Settings;
 use crate::slot::{Pick, SlotPlan, decide_all, give_quanta, notify_ready, ready_of};
 use crate::state::{Origin, first_members, slot_of};
@@ -166,34 +163,6 @@ impl<R: Ready> Planner<R> {
         self.spent = false;
         Ok(())
     }
-}
-
-/// Plans slot n of the replica, and puts it behind the n slots before it.
-pub(crate) fn plan_onto<R: Ready>(
-    replica: &Replica,
-    planner: &mut Planner<R>,
-    planned: &mut Planned,
-) -> Result<(), AllocError>
-    requires able { CanBePlanned planned.old.origin planner.old.settings replica.now planner.old.readings.by_processor.items }
-    requires so_far { IsPlannedOf planner.old.settings replica.now planned.old }
-    requires step { IsInStep planned.old.origin planner.old.settings (replica_of replica.now) (length planned.old.tables)
-        planner.old.members (R.now planner.old.ready) (R.held planner.old.ready) }
-    ensures planned { planned.new ≡ (if is_ok result then with_next planned.old replica.now else planned.old) }
-    ensures step { OnOk result (IsInStep planned.old.origin planner.old.settings (replica_of replica.now) (length planned.old.tables + 1)
-        planner.new.members (R.now planner.new.ready) (R.held planner.new.ready)) }
-    ensures readings { AreReadingsOf (replica_of replica.now) planner.new.readings.by_processor.items }
-    ensures settings { planner.new.settings ≡ planner.old.settings }
-    ensures spent { planner.new.spent ≡ is_err result }
-{
-    let slot = planned.len() as u64;
-    let PlannedSlot { plan: room, places } = planned.take_room();
-    let plan = planner.plan(planned.origin(), replica, slot, room.table)?;
-    planner.spent = true;
-    let (before, there) = planned.last();
-    let places = places_beside(before, there, &plan.table, &mut planner.kept, places)?;
-    planned.push(replica, PlannedSlot { plan, places })?;
-    planner.spent = false;
-    Ok(())
 }
 
 /// What the first `count` entries of a processor's sound beginning say, by slot.
