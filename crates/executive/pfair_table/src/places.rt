@@ -51,9 +51,9 @@ fn keep_places(
         }
         return Ok(());
     }
-    let buckets = Buckets::of(before);
+    let ends = buckets_of(before);
     for pick in table {
-        kept.push(buckets.place(before, places, &pick.name))?;
+        kept.push(place_by_bucket(&ends, before, places, &pick.name))?;
     }
     Ok(())
 }
@@ -102,43 +102,35 @@ fn use_least(in_use: &mut u64) -> u8
     place
 }
 
-/// The rows of a table by buckets: for each of 256 buckets, into which names fall, one more than
-/// the last of its rows, or 0.
-#[derive(Drop)]
-pub(crate) struct Buckets {
-    pub ends: [u8; 256],
+// For each of 256 buckets, into which names fall, one more than the last of its rows in a table of
+// at most 64, or 0.
+fn buckets_of(table: &[Pick]) -> [u8; 256]
+    requires { length table.now ≤ Settings.MAX_PROCESSORS }
+    ensures { AreBucketsOf table.now result }
+{
+    let mut ends = [0; 256];
+    for (row, pick) in table.iter().enumerate() {
+        ends[bucket_of(&pick.name) as usize] = row as u8 + 1;
+    }
+    ends
 }
 
-impl Buckets {
-    /// Those of a table of at most 64 rows.
-    pub(crate) fn of(table: &[Pick]) -> Buckets
-        requires { length table.now ≤ Settings.MAX_PROCESSORS }
-        ensures { AreBucketsOf table.now result.ends }
-    {
-        let mut ends = [0; 256];
-        for (row, pick) in table.iter().enumerate() {
-            ends[bucket_of(&pick.name) as usize] = row as u8 + 1;
-        }
-        Buckets { ends }
+// The place of a task in a table with those buckets and places. O(1), and O(rows) if two tasks of
+// the table are in its bucket.
+fn place_by_bucket(ends: &[u8; 256], table: &[Pick], places: &[u8], name: &TaskName) -> Option<u8>
+    requires of { AreBucketsOf table.now ends.now }
+    requires once { NamesApart (λ p. p.name) table.now }
+    ensures { result ≡ place_of table.now places.now name.now }
+{
+    let end = ends[bucket_of(name) as usize];
+    if end == 0 {
+        return None;
     }
-
-    /// The place of a task in the table, whose rows have these places. O(1), and O(rows) if two
-    /// tasks of the table are in its bucket.
-    pub(crate) fn place(&self, table: &[Pick], places: &[u8], name: &TaskName) -> Option<u8>
-        requires of { AreBucketsOf table.now self.now.ends }
-        requires once { NamesApart (λ p. p.name) table.now }
-        ensures { result ≡ place_of table.now places.now name.now }
-    {
-        let end = self.ends[bucket_of(name) as usize];
-        if end == 0 {
-            return None;
-        }
-        let row = end as usize - 1;
-        if table[row].name == *name {
-            return place_of_row(places, row);
-        }
-        find_place(table, places, name)
+    let row = end as usize - 1;
+    if table[row].name == *name {
+        return place_of_row(places, row);
     }
+    find_place(table, places, name)
 }
 
 fn bucket_of(name: &TaskName) -> u8

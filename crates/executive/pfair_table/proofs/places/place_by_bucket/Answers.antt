@@ -1,15 +1,15 @@
 use Rattle.std.proofs.Common.{ℕ, ◌-◌, ◌<◌, ◌∙◌, sym, ap, arith, length, get_or, Some, ◌≢◌, slice_index}
 use Rattle.pfair_table.proofs.Common.{slice_get-get_or, name_exact, Pick}
 use Rattle.pfair_table.proofs.Bucketed.{none_by_bucket, place_by_row}
-use Rattle.pfair_table.proofs.places.Buckets.place.Goals as goal
+use Rattle.pfair_table.proofs.places.place_by_bucket.Goals as goal
 
 pub returns-then-end-eq0 : goal.returns-then-end-eq0
-returns-then-end-eq0 c = none_by_bucket c.args.table.now c.args.self.now.ends c.args.places.now c.args.name.now c.requires.of (ap (slice_index c.args.self.now.ends) (sym c.bucket_of.ensures.value) ∙ c.if-end-eq0.true)
+returns-then-end-eq0 c = none_by_bucket c.args.table.now c.args.ends.now c.args.places.now c.args.name.now c.requires.of (ap (slice_index c.args.ends.now) (sym c.bucket_of.ensures.value) ∙ c.if-end-eq0.true)
 
 pub returns-then-eq : goal.returns-then-eq
 returns-then-eq c =
-    let row : ℕ = get_or c.args.self.now.ends c.bucket_of.result 0 - 1 in
-    let some : get_or c.args.self.now.ends c.bucket_of.result 0 ≢ 0 = c.if-end-eq0.false in
+    let row : ℕ = get_or c.args.ends.now c.bucket_of.result 0 - 1 in
+    let some : get_or c.args.ends.now c.bucket_of.result 0 ≢ 0 = c.if-end-eq0.false in
     let le = c.requires.of.within c.bucket_of.result in
     let inside : row < length c.args.table.now = omega (arith, some, le) in
     c.place_of_row.ensures

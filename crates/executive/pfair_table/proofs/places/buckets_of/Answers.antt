@@ -1,7 +1,7 @@
 use Rattle.std.proofs.Common.{ap, sym, ◌∙◌, arith, Some}
 use Rattle.pfair_table.proofs.Common.{slice_get-get_or, slice_get_within}
 use Rattle.pfair_table.proofs.Bucketed.{one_more, no_rows_yet}
-use Rattle.pfair_table.proofs.places.Buckets.of.Goals as goal
+use Rattle.pfair_table.proofs.places.buckets_of.Goals as goal
 
 pub loop-row-init : goal.loop-row-init
 loop-row-init c = no_rows_yet c.args.table.now

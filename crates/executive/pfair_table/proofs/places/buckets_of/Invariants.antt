@@ -1,5 +1,5 @@
 use Rattle.pfair_table.proofs.Bucketed.{AreBucketsBelow}
-use Rattle.pfair_table.proofs.places.Buckets.of.Given as goal
+use Rattle.pfair_table.proofs.places.buckets_of.Given as goal
 
 abbrev pub invariant-loop-row : goal.invariant-loop-row
 invariant-loop-row l = AreBucketsBelow l.table l.ends l.row
