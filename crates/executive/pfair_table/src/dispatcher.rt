@@ -297,10 +297,13 @@ impl<R: Ready> Dispatcher<R> {
         if wanted == 0 {
             return Ok(());
         }
-        let processors = settings.processors();
-        let entries = processors as usize * self.replica.capacity() as usize;
-        self.planner.reserve(processors, tasks.min(entries))?;
-        self.planned.reserve(wanted as usize, processors as usize)
+        let rows = settings.processors() as usize;
+        let tasks = tasks.min(rows * self.replica.capacity() as usize);
+        self.planner.members.reserve(tasks)?;
+        self.planner.ready.reserve(tasks)?;
+        self.planner.keys.reserve(rows)?;
+        self.planner.kept.reserve(rows)?;
+        self.planned.reserve(wanted as usize, rows)
     }
 
     /// Rebuilds everything except the entries and the planned slots; plans then go on as if no

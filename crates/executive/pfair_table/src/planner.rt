@@ -29,9 +29,9 @@ pub(crate) struct Planner<R: Ready> {
     readings: Readings,
     // after the slots that were planned last
     pub members: Members,
-    ready: R,
+    pub ready: R,
     // the room for the keys of a slot, and for what the rows of its table keep
-    keys: Vec<Seated>,
+    pub keys: Vec<Seated>,
     pub kept: Vec<Option<u8>>,
 }
 
@@ -61,20 +61,6 @@ impl<R: Ready> Planner<R> {
             keys: Vec::new(alloc),
             kept: Vec::new(alloc),
         })
-    }
-
-    pub(crate) fn reserve(&mut self, processors: u8, tasks: usize) -> Result<(), AllocError>
-        ensures settings { self.new.settings ≡ self.old.settings }
-        ensures spent { self.new.spent ≡ self.old.spent }
-        ensures readings { self.new.readings ≡ self.old.readings }
-        ensures members { self.new.members ≡ self.old.members }
-        ensures time { R.now self.new.ready ≡ R.now self.old.ready }
-        ensures held { R.held self.new.ready ≡ R.held self.old.ready }
-    {
-        self.members.reserve(tasks)?;
-        self.ready.reserve(tasks)?;
-        self.keys.reserve(processors as usize)?;
-        self.kept.reserve(processors as usize)
     }
 
     /// Returns whether slot n, the next one, can be planned from the replica, and if not, why.
