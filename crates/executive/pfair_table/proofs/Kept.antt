@@ -37,15 +37,6 @@ drop_twice k zero xs = ap (λ m. drop m xs) (let same : k ≡ 0 + k = omega arit
 drop_twice k (suc n) [] = drop-nil k ∙ sym (drop-nil (suc n + k))
 drop_twice k (suc n) (x ∷ xs) = drop_twice k n xs ∙ ap (λ m. drop m (x ∷ xs)) (let same : suc (n + k) ≡ suc n + k = omega arith in same)
 
--- if there are none, then none is before them
-none_before : (n m : ℕ) → (0 < n → 0 < m) → 0 ≡ m → n ≡ 0
-none_before zero m some none = refl
-none_before (suc n) m some none = absurd (let there = some (omega arith) in omega (arith, there, none))
-
-still_some : (n m k : ℕ) → (0 < n → 0 < m) → k ≤ m - 1 → 0 < n + k → k < m
-still_some zero m k some few more = omega (arith, few, more)
-still_some (suc n) m k some few more = (let there = some (omega arith) in omega (arith, few, there))
-
 -- ---- what is kept
 
 module _ {o : Origin} {s : Settings} {of : ReplicaRows} {first forgotten : ℕ} {slots : List PlannedSlot} (kept : AreKept o s of first forgotten slots) where
@@ -64,7 +55,7 @@ module _ {o : Origin} {s : Settings} {of : ReplicaRows} {first forgotten : ℕ} 
   last_all f d xs is long = by (length slots) refl
     where
       by : (k : ℕ) → k ≡ length slots → last_or d (map f slots) ≡ last_or d xs
-      by zero none = ap (last_or d) (is ∙ ap (λ n. drop n xs) (none_before first (length slots) kept.last none))
+      by zero none = ap (last_or d) (is ∙ ap (λ n. drop n xs) (let none_first : first ≡ 0 = grind (arith, kept.last) in none_first))
       by (suc k) some = ap (last_or d) is ∙ last_rest d first xs (omega (arith, long, some))
 
   pub last_table_is : last_or (table_before o) (map (λ p. p.plan.table.items) slots) ≡ last_or (table_before o) all
@@ -87,7 +78,7 @@ module _ {o : Origin} {s : Settings} {of : ReplicaRows} {first forgotten : ℕ} 
         places_are = rest_of count (λ p. p.places.items) (places_in o all) kept.places_are ∙ ap (λ n. drop (first + count) (places_in o (tables_to o s of n))) (sym long);
         decided_are = rest_of count (λ p. p.plan.decided.items) decided kept.decided_are ∙ ap (λ n. drop (first + count) (decided_to o s of n)) (sym long);
         forgets = (past, omega (arith, long, within));
-        last = λ some. (let more = still_some first (length slots) count kept.last few some in omega (arith, length-drop count slots, more));
+        last = λ some. grind (arith, length-drop count slots, kept.last);
         few = omega (arith, long, kept.few);
       }
 

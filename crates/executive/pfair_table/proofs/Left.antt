@@ -20,10 +20,7 @@ by_rows P keeps (p ∷ rows) members h = by_rows P keeps rows (ran p.name member
 -- ---- a run from where it began
 
 has_begun : (t : ℕ) (m : Member) → IsLeftAt t m → HasBegun (t + 0) m
-has_begun t m left =
-    let again = ap (λ (x : Member). x.joined) left.again in
-    let joined = left.joined in
-    record { weighed = left.weighed; first = left.first; joined = omega (arith, again, joined) }
+has_begun t m left = record { weighed = left.weighed; first = left.first; joined = omega (arith, ap (λ (x : Member). x.joined) left.again, left.joined) }
 
 pub begins : (o : Origin) (s : Settings) → IsOrigin o s → IsBegun o
 begins None s began = record { named = apart_nil label; begun = tt }

@@ -25,11 +25,6 @@ has_place (p ∷ picks) (j ∷ places) long name h = by (name_eq name p.name) h 
 
 -- ---- the rows
 
--- no two are equal, by what is among the later ones
-abbrev Differ : List ℕ → Type 0
-Differ [] = Unit {0}
-Differ (k ∷ ks) = ((j : ℕ) → Among ks j → k ≢ j) × Differ ks
-
 abbrev pub count_others : List (Option ℕ) → ℕ
 count_others [] = 0
 count_others (None ∷ kept) = suc (count_others kept)
@@ -50,10 +45,16 @@ filled_in m used (Some j ∷ kept) below room k h = grind (arith, below k, fille
 filled_in m used (None ∷ kept) below room k h = grind (arith, free_below m used, free_apart used, filled_in m (free_place used ∷ used) kept below (omega (arith, room)) k)
 
 filled_differ : (m : ℕ) (used : List ℕ) (kept : List (Option ℕ)) → ((k : ℕ) → Among (all_kept kept) k → k < m) → length used + count_others kept ≤ m
-    → Differ (all_kept kept) → ((k : ℕ) → Among (all_kept kept) k → Among used k) → Differ (filled used kept)
+    → AllDiffer (all_kept kept) → ((k : ℕ) → Among (all_kept kept) k → Among used k) → AllDiffer (filled used kept)
 filled_differ m used [] below room differ in_use = tt
-filled_differ m used (Some k ∷ kept) below room differ in_use = grind (arith, filled_in m used kept (λ i l. below i (inr l)) room, filled_differ m used kept (λ i l. below i (inr l)) room differ.1 (λ i l. in_use i (inr l)))
-filled_differ m used (None ∷ kept) below room differ in_use = grind (arith, free_apart used, filled_in m (free_place used ∷ used) kept below (omega (arith, room)), filled_differ m (free_place used ∷ used) kept below (omega (arith, room)) differ (λ i l. inr (in_use i l)))
+filled_differ m used (Some k ∷ kept) below room differ in_use = (
+  all_among (λ j. k ≢ j) (filled used kept) (λ j h. grind (arith, filled_in m used kept (λ i l. below i (inr l)) room j h, among_all (λ j. k ≢ j) (all_kept kept) differ.0 j, in_use k)),
+  filled_differ m used kept (λ i l. below i (inr l)) room differ.1 (λ i l. in_use i (inr l)),
+)
+filled_differ m used (None ∷ kept) below room differ in_use = (
+  all_among (λ j. free_place used ≢ j) (filled (free_place used ∷ used) kept) (λ j h. grind (arith, free_apart used, filled_in m (free_place used ∷ used) kept below (omega (arith, room)) j h, in_use j)),
+  filled_differ m (free_place used ∷ used) kept below (omega (arith, room)) differ (λ i l. inr (in_use i l)),
+)
 
 filled_long : (used : List ℕ) (kept : List (Option ℕ)) → length (filled used kept) ≡ length kept
 filled_long used [] = refl
@@ -75,10 +76,10 @@ place_among (p ∷ picks) [] name k e = absurd (cc)
 place_among (p ∷ picks) (j ∷ old) name k e = grind (arith, place_among picks old name k)
 
 -- a place leads back to its task
-place_once : (before : Table) (old : List ℕ) → Differ old → (a b : Name) (k : ℕ) → place_of before old a ≡ Some k → place_of before old b ≡ Some k → a ≡ b
+place_once : (before : Table) (old : List ℕ) → AllDiffer old → (a b : Name) (k : ℕ) → place_of before old a ≡ Some k → place_of before old b ≡ Some k → a ≡ b
 place_once [] old differ a b k e f = absurd (cc)
 place_once (p ∷ picks) [] differ a b k e f = absurd (cc)
-place_once (p ∷ picks) (j ∷ old) differ a b k e f = grind (arith, place_of, name_exact a p.name, name_exact b p.name, same_Some, place_among picks old a k, place_among picks old b k, differ.0 k, place_once picks old differ.1 a b k)
+place_once (p ∷ picks) (j ∷ old) differ a b k e f = grind (arith, place_of, name_exact a p.name, name_exact b p.name, same_Some, place_among picks old a k, place_among picks old b k, among_all (λ i. j ≢ i) old differ.0 k, place_once picks old differ.1 a b k)
 
 -- what is kept is the place of some row
 kept_from : (before : Table) (old : List ℕ) (now : Table) (k : ℕ) → Among (all_kept (kept_places before old now)) k → (p : Pick) × Among now p × (place_of before old p.name ≡ Some k)
@@ -89,16 +90,16 @@ kept_from before old (p ∷ picks) k h = grind (arith, kept_from before old pick
 pub kept_among : (before : Table) (old : List ℕ) (now : Table) (k : ℕ) → Among (all_kept (kept_places before old now)) k → Among old k
 kept_among before old now k h = let t = kept_from before old now k h in place_among before old t.0.name k t.2
 
-kept_differ : (before : Table) (old : List ℕ) → Differ old → (now : Table) → NamesApart (λ (p : Pick). p.name) now → Differ (all_kept (kept_places before old now))
+kept_differ : (before : Table) (old : List ℕ) → AllDiffer old → (now : Table) → NamesApart (λ (p : Pick). p.name) now → AllDiffer (all_kept (kept_places before old now))
 kept_differ before old differ [] once = tt
 kept_differ before old differ (p ∷ picks) once = by (place_of before old p.name) refl (kept_differ before old differ picks (apart_tail (λ (p : Pick). p.name) p picks once))
   where
-    by : (o : Option ℕ) → place_of before old p.name ≡ o → Differ (all_kept (kept_places before old picks)) → Differ (all_kept (o ∷ kept_places before old picks))
+    by : (o : Option ℕ) → place_of before old p.name ≡ o → AllDiffer (all_kept (kept_places before old picks)) → AllDiffer (all_kept (o ∷ kept_places before old picks))
     by None e more = more
     by (Some k) e more = (
-      λ j h same. (let t = kept_from before old picks j h in
+      all_among (λ j. k ≢ j) (all_kept (kept_places before old picks)) (λ j h same. (let t = kept_from before old picks j h in
           let one : p.name ≡ t.0.name = place_once before old differ p.name t.0.name k e (t.2 ∙ ap (λ n. Some n) (sym same)) in
-          true≢false (sym (subst (λ n. name_eq p.name n ≡ true) one (name_itself p.name)) ∙ among_all (λ (r : Pick). name_eq p.name r.name ≡ false) picks (apart_head (λ (p : Pick). p.name) p picks once) t.0 t.1)),
+          true≢false (sym (subst (λ n. name_eq p.name n ≡ true) one (name_itself p.name)) ∙ among_all (λ (r : Pick). name_eq p.name r.name ≡ false) picks (apart_head (λ (p : Pick). p.name) p picks once) t.0 t.1))),
       more,
     )
 
@@ -120,18 +121,10 @@ below_after m before old now below few =
       below = λ k h. (filled_in m (all_kept kept) kept (λ j i. below j (kept_among before old now j i)) (room_after m before old now few) k h).0;
     }
 
-differ_after : (m : ℕ) (before : Table) (old : List ℕ) (now : Table) → ((k : ℕ) → Among old k → k < m) → Differ old → IsFit m now → Differ (places_after before old now)
+differ_after : (m : ℕ) (before : Table) (old : List ℕ) (now : Table) → ((k : ℕ) → Among old k → k < m) → AllDiffer old → IsFit m now → AllDiffer (places_after before old now)
 differ_after m before old now below differ fit =
     let kept = kept_places before old now in
     filled_differ m (all_kept kept) kept (λ j i. below j (kept_among before old now j i)) (room_after m before old now fit.0) (kept_differ before old differ now fit.1) (λ k h. h)
-
-all_differ : (places : List ℕ) → Differ places → AllDiffer places
-all_differ [] d = tt
-all_differ (k ∷ places) d = (all_among (λ j. k ≢ j) places d.0, all_differ places d.1)
-
-differ_all : (places : List ℕ) → AllDiffer places → Differ places
-differ_all [] d = tt
-differ_all (k ∷ places) d = (among_all (λ j. k ≢ j) places d.0, differ_all places d.1)
 
 -- the places of the next table are such as those before it
 pub next_places : (m : ℕ) (before : Table) (old : List ℕ) → ArePlacesOf m before old → (now : Table) → IsFit m now → ArePlacesOf m now (places_after before old now)
@@ -141,7 +134,7 @@ next_places m before old are now fit =
     record {
       one_each = here.one_each;
       below = all_among (λ k. k < m) (places_after before old now) here.below;
-      differ = all_differ (places_after before old now) (differ_after m before old now below (differ_all old are.differ) fit);
+      differ = differ_after m before old now below are.differ fit;
     }
 
 stays : (before : Table) (old : List ℕ) → length old ≡ length before → (now : Table) → KeepPlace before old now (places_after before old now)

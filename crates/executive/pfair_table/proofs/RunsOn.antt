@@ -80,13 +80,10 @@ module _ (slot : ℕ) where
         | inl starts ↦
             let some = b.weighed.some_cost in
             let job = starts_job_only m.weight m.next b.first starts in
-            let is = job.1 in
-            let at : m.next + 1 - 2 ≡ job.0 * m.weight.cost = omega (arith, is) in
+            let at : m.next + 1 - 2 ≡ job.0 * m.weight.cost = omega (arith, job.1) in
             let jobs : (m.next + 1 - 2) / m.weight.cost ≡ job.0 = ap (λ k. k / m.weight.cost) at ∙ mul-div_cancel job.0 some in
             let released : release_of m.weight m.next (theta m m.next) ≡ theta m m.next + job.0 * m.weight.period = ap (λ i. release_of m.weight i (theta m m.next)) job.1 ∙ job_released m.weight job.0 (theta m m.next) some in
-            let from = eligible_at_job m m.next starts in
-            let periods = ap (λ k. k * m.weight.period) jobs in
-            omega (arith, here, from, released, periods)
+            omega (arith, here, eligible_at_job m m.next starts, released, ap (λ k. k * m.weight.period) jobs)
         | inr on ↦
             let q : ℕ = (m.next - 1) / m.weight.cost in
             let r : ℕ = (m.next - 1) % m.weight.cost in
@@ -98,9 +95,7 @@ module _ (slot : ℕ) where
             let none : (r - 1) / m.weight.cost ≡ 0 = div-eq_of_lt (omega (arith, low, left)) in
             let was : (m.next - 2) / m.weight.cost ≡ q = (let at : m.next - 2 ≡ r - 1 + q * m.weight.cost = omega (arith, split, left) in ap (λ n. n / m.weight.cost) at ∙ omega (arith, same, none)) in
             let jobs : (m.next + 1 - 2) / m.weight.cost ≡ (m.next - 2) / m.weight.cost = ap (λ n. n / m.weight.cost) back ∙ sym was in
-            let periods = ap (λ k. k * m.weight.period) jobs in
-            let begun = b.joined in
-            omega (arith, begun, periods)
+            omega (arith, b.joined, ap (λ k. k * m.weight.period) jobs)
       ]
 
   pub begun_ran : (processors : ℕ) (members : List Member) → NamesApart label members → AllByRecursion (HasBegun (suc slot)) members
@@ -132,12 +127,7 @@ module _ (o : Origin) (s : Settings) (began : IsBegun o) where
       }
     where
       carried_begun : (m : Member) → HasBegun (slot_of o n) m → HasBegun (slot_of o n + 0) (carried m)
-      carried_begun m b =
-          let low = done_low m in
-          let first = b.first in
-          let none = ap (λ k. k * m.weight.period) (none_done m) in
-          let joined = b.joined in
-          record { weighed = b.weighed; first = omega (arith, low, first); joined = omega (arith, joined, none) }
+      carried_begun m b = record { weighed = b.weighed; first = omega (arith, done_low m, b.first); joined = omega (arith, b.joined, ap (λ k. k * m.weight.period) (none_done m)) }
 
 -- ---- places follow from names
 
@@ -209,10 +199,7 @@ module _ (o : Origin) (s : Settings) (first : Story) (n : ℕ) (began : IsBegun 
   carried_pair : (m : Member) → Among left m → Pair left begin begin
   carried_pair m h =
       let b = among_all (HasBegun begin) left (begun_over o s began first weights n) m h in
-      let low = done_low m in
-      let some = b.first in
-      let joined = b.joined in
-      let before : nat_lt (m.joined + jobs_done m * m.weight.period) begin ≡ true = grind (arith, nat_tests) in
+      let before : nat_lt (m.joined + jobs_done m * m.weight.period) begin ≡ true = grind (arith, nat_tests, b.joined) in
       record {
         long = m;
         jobs = jobs_done m;
@@ -220,9 +207,9 @@ module _ (o : Origin) (s : Settings) (first : Story) (n : ℕ) (began : IsBegun 
         next = m.next - subtasks_done m;
         is = carried_lowered m;
         weighed = b.weighed;
-        first = omega (arith, low, some);
+        first = omega (arith, done_low m, b.first);
         ran = next_ran m;
-        by_now = omega (arith, joined);
+        by_now = omega (arith, b.joined);
         taken = ap (λ c. if c then subtasks_of (member_named left m.name) else 0) before ∙ ap subtasks_of (found_own left (named_history o s began.named first n) m h);
       }
 

@@ -6,16 +6,13 @@ use Rattle.pfair_table.proofs.places.fill_places.Goals.{in-Some, in-None}
 use Rattle.pfair_table.proofs.places.fill_places.Goals as goal
 
 pub loop-kept_place-init : goal.loop-kept_place-init
-loop-kept_place-init c =
-    let count = kept_count c.args.kept.now in
-    let rows = c.requires.rows in
-    record {
-      used = all_kept c.args.kept.now;
-      in_use = c.use_kept-in_use.ensures;
-      fits = c.use_kept-in_use.type_inv;
-      so_far = ap (λ (ps : List ℕ). ps ++ filled (all_kept c.args.kept.now) c.args.kept.now) c.in_ok-places.ensures.items;
-      room = omega (arith, count, rows);
-    }
+loop-kept_place-init c = record {
+  used = all_kept c.args.kept.now;
+  in_use = c.use_kept-in_use.ensures;
+  fits = c.use_kept-in_use.type_inv;
+  so_far = ap (λ (ps : List ℕ). ps ++ filled (all_kept c.args.kept.now) c.args.kept.now) c.in_ok-places.ensures.items;
+  room = omega (arith, kept_count c.args.kept.now, c.requires.rows);
+}
 
 pub use_least-place-requires : goal.use_least-place-requires
 use_least-place-requires c =

@@ -12,8 +12,7 @@ fill_places-requires-clause-below c =
 pub fill_places-requires-clause-rows : goal.fill_places-requires-clause-rows
 fill_places-requires-clause-rows c =
     let long : length c.deref.result.now ≡ length c.args.table.now = ap length (c.deref.ensures.value ∙ c.in_ok-keep_places.ensures) ∙ kept_long c.args.before.now c.args.places.now c.args.table.now in
-    let rows = c.requires.rows in
-    omega (arith, long, rows)
+    omega (arith, long, c.requires.rows)
 
 pub returns : goal.returns
 returns c = subst (λ (kept : List (Option ℕ)). IfOk c.fill_places.result (λ here. here.items ≡ filled (all_kept kept) kept)) (c.deref.ensures.value ∙ c.in_ok-keep_places.ensures) c.fill_places.ensures

@@ -13,7 +13,4 @@ returns-clause-least c = λ used in_use few.
     (is, subst (λ k. AreInUse (bit_or c.args.in_use.now (1 * 2 ^ c.trailing_ones-place.result % 2 ^ 64)) (k ∷ used)) is (in_use_with c.args.in_use.now used c.trailing_ones-place.result within in_use)))
 
 pub returns-clause-fits : goal.returns-clause-fits
-returns-clause-fits c =
-    let fits = c.requires in
-    let one : 1 * 2 ^ c.trailing_ones-place.result % 2 ^ 64 < 2 ^ 64 = omega arith in
-    or_lt 64 c.args.in_use.now (1 * 2 ^ c.trailing_ones-place.result % 2 ^ 64) (omega (arith, fits)) one
+returns-clause-fits c = or_lt 64 c.args.in_use.now (1 * 2 ^ c.trailing_ones-place.result % 2 ^ 64) (omega (arith, c.requires)) (omega arith)

@@ -11,12 +11,9 @@ overflow_cast-result c =
 
 pub returns-clause-shape : goal.returns-clause-shape
 returns-clause-shape c =
-    let limits = c.processors.ensures.limits.processors in
-    let some = limits.0 in
-    let few = limits.1 in
     subst (λ (r : LoggedRun). IsShape r.settings.processors (capacity_of r.logs)) c.self.view_is (record {
-      some_processor = omega (arith, some);
-      processors_in_range = few;
+      some_processor = omega (arith, c.processors.ensures.limits.processors.0);
+      processors_in_range = c.processors.ensures.limits.processors.1;
       some_number = capacity_some (lists_of c.self.inside.logs.items);
       capacity_in_range = capacity_short (lists_of c.self.inside.logs.items) c.self.invariant.short;
     })

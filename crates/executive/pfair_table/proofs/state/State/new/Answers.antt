@@ -7,14 +7,9 @@ pub invariant_of-result : goal.invariant_of-result
 invariant_of-result c =
     let n = c.args.members.machine.processors in
     let fit = no_rows n in
-    let few = c.processors.ensures.few in
-    let processors_are = c.processors.ensures.value in
-    let short = c.frame.ensures.short in
-    let frame_is = c.frame.ensures.value in
-    let some = c.requires.processors in
-    let slots = c.requires.frame in record {
-      processors = (some, grind arith);
-      frame = (slots, grind arith);
+    record {
+      processors = (c.requires.processors, omega (arith, c.processors.ensures.few, c.processors.ensures.value));
+      frame = (c.requires.frame, omega (arith, c.frame.ensures.short, c.frame.ensures.value));
       members = c.requires.members;
       early = c.requires.slot;
       rows = subst (IsFit n) (sym c.new.ensures.items) fit.0;
