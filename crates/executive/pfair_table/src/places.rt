@@ -1,8 +1,8 @@
 //! Places: which processor runs each row of a table, where a task that goes on running stays where
 //! it is.
-ghost use Rattle.std.specs.Prelude.{ℕ, ◌≡◌, ◌≤◌, ◌<◌, ◌+◌, ◌^◌, ◌∷◌, List, IfOk, OnOk, length, slice_get};
+ghost use Rattle.std.specs.Prelude.{ℕ, ◌≡◌, ◌≤◌, ◌<◌, ◌+◌, ◌^◌, ◌∷◌, List, IfOk, length, slice_get};
 ghost use Rattle.std.specs.List.{AllByRecursion};
-ghost use Rattle.pfair_table.specs.Places.{kept_places, all_kept, free_place, filled, places_after, IsFit, place_of};
+ghost use Rattle.pfair_table.specs.Places.{all_kept, free_place, filled, places_after, IsFit, place_of};
 ghost use Rattle.pfair_table.specs.PlacesInUse.{AreInUse};
 ghost use Rattle.pfair_weight.specs.Name.{NamesApart};
 ghost use Rattle.pfair_table.specs.Buckets.{bucket, AreBucketsOf};
@@ -29,33 +29,19 @@ pub(crate) fn places_beside(
     requires rows { length table.now ≤ Settings.MAX_PROCESSORS }
     ensures { IfOk result (λ here. here.items ≡ places_after before.now places.now table.now) }
 {
-    keep_places(before, places, table, kept)?;
-    fill_places(kept, room)
-}
-
-// Where each row stays: the place that its task had before.
-fn keep_places(
-    before: &[Pick],
-    places: &[u8],
-    table: &[Pick],
-    kept: &mut Vec<Option<u8>>,
-) -> Result<(), AllocError>
-    requires { IsFit Settings.MAX_PROCESSORS before.now }
-    ensures { OnOk result (kept.new.items ≡ kept_places before.now places.now table.now) }
-{
     kept.clear();
     kept.reserve(table.len())?;
     if before.len() <= FEW_ROWS {
         for pick in table {
             kept.push(find_place(before, places, &pick.name))?;
         }
-        return Ok(());
+    } else {
+        let ends = buckets_of(before);
+        for pick in table {
+            kept.push(place_by_bucket(&ends, before, places, &pick.name))?;
+        }
     }
-    let ends = buckets_of(before);
-    for pick in table {
-        kept.push(place_by_bucket(&ends, before, places, &pick.name))?;
-    }
-    Ok(())
+    fill_places(kept, room)
 }
 
 // The kept places; each other row gets the least free processor.
