@@ -187,8 +187,7 @@ impl<R: Ready> Dispatcher<R> {
     /// least processor that is free. `None` if the slot isn't planned or is forgotten, and only then.
     /// O(1): they were worked out when the slot was planned.
     ///
-    /// The law [`places_are_kept`](crate::laws::places_are_kept) holds of them, in a first run and in
-    /// later ones, since no table has more rows than there are processors, or a task twice.
+    /// The law [`places_are_kept`](crate::laws::places_are_kept) holds of them.
     pub fn places(&self, slot: u64) -> Option<&[u8]>
         ensures value { self.now.forgotten ≤ slot → option_map (λ places. places.now) result ≡ slice_get (places_in self.now.origin self.now.tables) slot }
         ensures forgotten { slot < self.now.forgotten → result ≡ None }
@@ -240,9 +239,8 @@ impl<R: Ready> Dispatcher<R> {
     /// O((M + r) log n + a + l) for M processors, n members, r releases that come at the slot (also of
     /// tasks that left), a announcements at it and l late releases accepted of the tasks that these
     /// name; O(n) more if a member is freed; beside that each entry is looked at once over all plans.
-    /// The cost doesn't grow with the entries held. Without
-    /// [`reserve`](Dispatcher::reserve) the list of slots doubles now and then, which moves 72 bytes for
-    /// each slot that isn't forgotten.
+    /// The cost doesn't grow with the entries held. Without [`reserve`](Dispatcher::reserve) the list of
+    /// slots doubles now and then, which moves 72 bytes for each slot that isn't forgotten.
     ///
     /// # Errors
     /// The first that applies: [`PlanFault::Torn`] if an entry held is torn and [`PlanFault::Spent`]

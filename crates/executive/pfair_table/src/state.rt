@@ -1,7 +1,6 @@
 //! What a run begins with: at slot 0 without members, or with what the run before has left.
 ghost use Rattle.std.specs.Prelude.{◌≡◌, ◌≤◌, ◌==◌, [], IfOk, OnErr, if◌then◌else◌, ◌<◌, ◌^◌, None};
 ghost use Rattle.pfair_admission.specs.declared.members.TheConstants.Members.{LAST_SLOT};
-ghost use Rattle.pfair_entry.specs.Same.{name_eq};
 ghost use Rattle.pfair_table.specs.Limits.{AreLeftAt, IsState, can_add_row, first_state, with_row, IsOrigin};
 ghost use Rattle.pfair_table.specs.Table.{names_task, machine, slot_of, members_before};
 
@@ -138,15 +137,10 @@ impl State {
     }
 }
 
-// Whether a row of a table is of that task.
 fn names_task(table: &[Pick], name: &TaskName) -> bool
     ensures { result ≡ names_task name.now table.now }
 {
-    table.iter().any(
-        |row: &Pick| -> bool
-            ensures { result ≡ name_eq name.entry.now row.now.name }
-        { *name == row.name },
-    )
+    table.iter().any(|row| *name == row.name)
 }
 
 /// What a run takes over, if it isn't the first.
