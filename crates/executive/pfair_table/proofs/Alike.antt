@@ -13,11 +13,9 @@ pub untorn_right : (x y : Replica) → Agree x y → Untorn y
 untorn_right x y agree k n torn = elim (join_second entry_eq entry_exact (x.at k n) (y.at k n) Torn torn) [ inl h ↦ agree k n h | inr h ↦ agree k n h ]
 
 -- what a slot so far has been planned of the contents
-table_there : {o : Origin} {s : Settings} {x : Replica} {tables : List Table} {decided : List (List Decided)} → IsPlanOf o s x x tables decided → (t : ℕ) → t < length tables → slice_get tables t ≡ Some (table o s (said x) t)
-table_there {o} {s} {x} {tables} plan t l = ap (λ (ts : List Table). slice_get ts t) (plan.tables_are ∙ tables_listed o s x (length tables)) ∙ get_numbers (table o s (said x)) (length tables) t l
-
-decided_there : {o : Origin} {s : Settings} {x : Replica} {tables : List Table} {decided : List (List Decided)} → IsPlanOf o s x x tables decided → (t : ℕ) → t < length tables → slice_get decided t ≡ Some (decisions o s (said x) t)
-decided_there {o} {s} {x} {tables} plan t l = ap (λ (ds : List (List Decided)). slice_get ds t) plan.decided_are ∙ get_numbers (decisions o s (said x)) (length tables) t l
+planned_there : {o : Origin} {s : Settings} {x : Replica} {tables : List Table} {decided : List (List Decided)} → IsPlanOf o s x x tables decided → (t : ℕ) → t < length tables
+    → (slice_get tables t ≡ Some (table o s (said x) t)) × (slice_get decided t ≡ Some (decisions o s (said x) t))
+planned_there {o} {s} {x} {tables} plan t l = grind (arith, plan, tables_listed o s x (length tables), get_numbers (table o s (said x)) (length tables) t l, get_numbers (decisions o s (said x)) (length tables) t l)
 
 -- two dispatchers have the tables and decisions of what either holds, for each slot that both have planned
 pub kept_alike : {o q : Origin} {s r : Settings} {x y : Replica} {tx ty : List Table} {dx dy : List (List Decided)} {bx by : Bool} {mx my : Roster} {nx ny : ℕ} {hx hy : Queue}
@@ -29,12 +27,9 @@ kept_alike {o} {s} {x} {y} {tx} {ty} {dx} {dy} {by} {my} {ny} {hy} kx k sound_x 
     let of_y = is_of_held ky sound_y in
     let px = plan_of_held kx.plan of_x (untorn_left x y agree) in
     let py = plan_of_held ky.plan of_y (untorn_right x y agree) in
-    let alike = one_table o s x y of_x of_y agree t (omega (arith, lx, px.early)) (omega (arith, ly, py.early)) in (
-      table_there px t lx,
-      table_there py t ly ∙ ap Some (sym alike.0),
-      decided_there px t lx,
-      decided_there py t ly ∙ ap Some (sym alike.1),
-    )
+    let alike = one_table o s x y of_x of_y agree t (omega (arith, lx, px.early)) (omega (arith, ly, py.early)) in
+    let there = planned_there py t ly in
+    ((planned_there px t lx).0, there.0 ∙ ap Some (sym alike.0), (planned_there px t lx).1, there.1 ∙ ap Some (sym alike.1))
 
 -- the places of a slot that both have planned: up to it both have the same tables
 pub placed_alike : {o q : Origin} {s r : Settings} {x y : Replica} {tx ty : List Table} {dx dy : List (List Decided)} {bx by : Bool} {mx my : Roster} {nx ny : ℕ} {hx hy : Queue}

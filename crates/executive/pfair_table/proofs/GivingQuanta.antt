@@ -16,9 +16,6 @@ pub record RunSoFar (start : Roster) (first : List Key) (i : ℕ) (roster : Rost
 
 -- ---- lists
 
-take_item : {A : Type 0} (xs : List A) (i : ℕ) (x : A) → i < length xs → x ≡ get_or xs i x → take (i + 1) xs ≡ take i xs ++ x ∷ []
-take_item xs i x l e = take_more xs i x l ∙ ap (λ y. take i xs ++ y ∷ []) (sym e)
-
 -- a selected key among the keys
 pub key_inside : (first : List Seated) {i : ℕ} → i < length first → i < length (keys_of first)
 key_inside first inside = omega (arith, inside, length-map first (λ (s : Seated). s.key))
@@ -105,7 +102,7 @@ module _ {start : Roster} {first : List Key} {i : ℕ} {roster : Roster} {table 
         picked = ap (λ (n : ℕ). record { name = key.name; index = n }) (index_is ∙ sym (ap index_of may.1))
 
         pushed : map (pick start.members) (take (i + 1) first) ≡ map (pick start.members) (take i first) ++ pick start.members key ∷ []
-        pushed = ap (map (pick start.members)) (take_item first i key inside item) ∙ map-append (pick start.members) (take i first) (key ∷ [])
+        pushed = ap (map (pick start.members)) (take_more first i key inside ∙ ap (λ y. take i first ++ y ∷ []) (sym item)) ∙ map-append (pick start.members) (take i first) (key ∷ [])
 
         by : (name : Name) (b : Bool) → name_eq name key.name ≡ b → finmap.get anew name ≡ (if b then queued (member_named after.members key.name) else finmap.get waiting name)
             → finmap.get anew name ≡ (if has_key_of name (drop (i + 1) first) then None else queued (member_named after.members name))

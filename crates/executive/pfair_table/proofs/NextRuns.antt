@@ -18,19 +18,16 @@ use Rattle.pfair_table.proofs.Within.{said_weighed}
 use Rattle.pfair_table.proofs.TableLaws.{same_history}
 
 module _ {o : Origin} {s : Settings} {replica : Replica} {tables : List Table} {decided : List (List Decided)} {spent : Bool} {roster : Roster} {now : ℕ} {waiting : Queue} (kept : IsKept o s replica tables decided spent roster now waiting) (sound : IsReplica replica) (test : has_torn replica ≡ false) (able : spent ≡ false) (all : s.slots ≤ length tables) where
+  long : length tables ≡ s.slots
+  long = omega (arith, kept.plan.wanted, all)
+
   -- the members are those after the last slot
   pub left_members : roster.members ≡ members_after o s replica s.slots
-  left_members =
-      let wanted = kept.plan.wanted in
-      let long : length tables ≡ s.slots = omega (arith, wanted, all) in
-      (step_now kept sound test able).members_are ∙ ap (members_after o s replica) long
+  left_members = (step_now kept sound test able).members_are ∙ ap (members_after o s replica) long
 
   -- and the tables are those of all slots
   pub left_tables : tables ≡ (history o s (said replica) s.slots).tables
-  left_tables =
-      let wanted = kept.plan.wanted in
-      let long : length tables ≡ s.slots = omega (arith, wanted, all) in
-      (plan_now kept sound test).tables_are ∙ ap (λ n. (history o s (said replica) n).tables) long
+  left_tables = (plan_now kept sound test).tables_are ∙ ap (λ n. (history o s (said replica) n).tables) long
 
   -- and with their jobs taken off, a next run can begin with them
   pub carried_on : (slots : ℕ) (c : Carried) → c.slot ≡ slot_of o s.slots → c.machine ≡ machine s → c.members ≡ map carried (members_after o s replica s.slots) → AllByRecursion CanBeCarried (members_after o s replica s.slots)

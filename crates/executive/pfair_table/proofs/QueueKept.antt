@@ -62,11 +62,7 @@ queue_after_boundary mc t announced members waiting named queue name e = grind (
 
 -- ---- one task's entry anew
 
--- it is taken out
-pub notified_out : (notified : Name) (members : List Member) (before : Queue) → queued (member_named members notified) ≡ None → IsNotifiedOf notified members before (finmap.remove before notified)
-notified_out notified members before none name = (let out = get-remove nat_list_cmp_total before notified name in grind (arith, out, tied_names name notified))
-
--- and another is put in
+-- another is put in
 pub notified_in : (notified : Name) (members : List Member) (before : Queue) (e : ℕ × Key) (named : Name) → named ≡ notified → queued (member_named members notified) ≡ Some e → IsNotifiedOf notified members before (finmap.insert (finmap.remove before notified) named e)
 notified_in notified members before e named same some name =
     let put = get-insert nat_list_cmp_total (finmap.remove before notified) named e name in
@@ -85,10 +81,7 @@ absent_removed waiting name none =
 
 -- if there is no such member, or it is departing
 pub notified_gone : (notified : Name) (members : List Member) (before after : Queue) → queued (member_named members notified) ≡ None → after ≡ finmap.remove before notified → IsNotifiedOf notified members before after
-notified_gone notified members before after none is = subst (IsNotifiedOf notified members before) (sym is) (notified_out notified members before none)
-
-queued_running : (o : Option Member) (m : Member) → o ≡ Some m → is_departing m ≡ false → queued o ≡ Some (eligible_from m m.next, next_key m)
-queued_running o m found stays = ap queued found ∙ ap (λ d. if d then None else Some (eligible_from m m.next, next_key m)) stays
+notified_gone notified members before after none is name = (let out = get-remove nat_list_cmp_total before notified name in grind (arith, is, out, tied_names name notified))
 
 pub queued_departing : (o : Option Member) (m : Member) → o ≡ Some m → is_departing m ≡ true → queued o ≡ None
 queued_departing o m found goes = ap queued found ∙ ap (λ d. if d then None else Some (eligible_from m m.next, next_key m)) goes
@@ -104,7 +97,7 @@ notified_next notified members m before middle after new from key found stays fr
     let none : finmap.get middle key.name ≡ None = grind (arith, gone, tied_names, name_itself) in
     subst (IsNotifiedOf notified members before)
     (sym (in_ ∙ ap (λ b. if b then finmap.insert middle key.name (from, key) else middle) (fresh ∙ ap (λ o. not (is_some o)) none) ∙ ap (λ h. finmap.insert h key.name (from, key)) out))
-    (notified_in notified members before (from, key) key.name named (queued_running (member_named members notified) m found stays ∙ (λ i. Some (sym from_is i, sym key_is i))))
+    (notified_in notified members before (from, key) key.name named (grind (arith, found, stays, from_is, key_is)))
 
 -- one name that the ready structure was notified of is one less to notify of
 pub notified_one : (said : Said) (announced : List Said) (members : List Member) (before after : Queue) → IsQueueBut (said ∷ announced) members before → IsNotifiedOf (name_of said.announcement) members before after → IsQueueBut announced members after

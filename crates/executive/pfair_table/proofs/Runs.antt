@@ -75,14 +75,11 @@ sound_next s c sound ok =
     let p = and_parts (not (has_torn c.replica)) (nat_lt (length c.tables) (frontier c.replica) && nat_lt (length c.tables) s.slots) ok in
     let q = and_parts (nat_lt (length c.tables) (frontier c.replica)) (nat_lt (length c.tables) s.slots) p.1 in
     let u = length c.tables in
-    let tables = c.tables ++ table c.origin s (said c.replica) u ∷ [] in
-    let decided = c.decided ++ decisions c.origin s (said c.replica) u ∷ [] in
     let lt = length-append c.tables (table c.origin s (said c.replica) u ∷ []) in
-    let ld = length-append c.decided (decisions c.origin s (said c.replica) u ∷ []) in
     let same = sound.as_many in
     record {
       is_of = sound.is_of;
-      as_many = omega (arith, lt, ld, same);
+      as_many = omega (arith, lt, length-append c.decided (decisions c.origin s (said c.replica) u ∷ []), same);
       planned = λ t l. elim (cases_lt t u) [
         | inl old ↦ (let w = sound.planned t old in (w.0, w.1, grind (arith, get_left, w.2)))
         | inr new ↦ (

@@ -1,5 +1,5 @@
 -- What plans slots of a replica that is handed in is in step with that.
-use Rattle.std.proofs.Common.{ℕ, suc, min, ◌+◌, ◌≤◌, ◌<◌, ◌≡◌, sym, ap, ◌∙◌, subst, arith, Bool, false, List, [], ◌∷◌, ◌++◌, length, IsTrue, Some, None, Result, Ok, Err, IfErr}
+use Rattle.std.proofs.Common.{ℕ, add-one, suc, min, ◌+◌, ◌≤◌, ◌<◌, ◌≡◌, sym, ap, ◌∙◌, subst, arith, Bool, false, List, [], ◌∷◌, ◌++◌, length, IsTrue, Some, None, Result, Ok, Err, IfErr}
 use Rattle.pfair_table.proofs.Common.{map-append, apart_nil, ReplicaRows, replica_of, Replica, IsReplica, has_torn, frontier, numbers_below, said, Queue, Roster, Decided, is_plannable, Settings, Table, table, decisions, Dispatch, IsInStep, IsKept, IsWholePlan, tables_to, decided_to}
 use Rattle.std.specs.Result.{IsErrAnd}
 use Rattle.pfair_table.specs.declared.answer.PlanFault.{PlanFault}
@@ -17,9 +17,6 @@ use Rattle.pfair_table.proofs.TableLaws.{tables_are_ordered}
 pub memory_only : {A : Type 0} (P : PlanFault → Type 0) (r : Result A PlanFault) → IsErrAnd r (λ f. f ≡ Memory) → P Memory → IfErr r P
 memory_only P (Ok x) e p = tt
 memory_only P (Err f) e p = subst P (sym e) p
-
-one_more : (n : ℕ) → n + 1 ≡ suc n
-one_more n = omega arith
 
 -- what is seen of a replica, if n slots are planned of what was held before
 abbrev pub at_slot : Settings → ReplicaRows → ReplicaRows → ℕ → Bool → Dispatch
@@ -62,11 +59,11 @@ module _ (of : ReplicaRows) (n : ℕ) {s : Settings} {x : ReplicaRows} {spent : 
         subst IsWholePlan (ap (λ (h : ReplicaRows). at_slot s h of n spent) (sym (ap (λ (e : Dispatch). e.replica) view)) ∙ view) (whole_plan kept_of sound test (omega (arith, far, long)))
 
     tables_more : tables_to None s d.replica (n + 1) ≡ tables_to None s of n ++ table None s (said y) n ∷ []
-    tables_more = ap (tables_to None s d.replica) (one_more n) ∙ ap (λ (ts : List Table). ts ++ table None s (said y) n ∷ []) (sym ((plan_now kept_of sound test).tables_are ∙ ap (tables_to None s d.replica) (tables_long None s of n)))
+    tables_more = ap (tables_to None s d.replica) (add-one n) ∙ ap (λ (ts : List Table). ts ++ table None s (said y) n ∷ []) (sym ((plan_now kept_of sound test).tables_are ∙ ap (tables_to None s d.replica) (tables_long None s of n)))
 
     decided_more : decided_to None s d.replica (n + 1) ≡ decided_to None s of n ++ decisions None s (said y) n ∷ []
     decided_more =
-        ap (decided_to None s d.replica) (one_more n) ∙ map-append (decisions None s (said y)) (numbers_below n) (n ∷ [])
+        ap (decided_to None s d.replica) (add-one n) ∙ map-append (decisions None s (said y)) (numbers_below n) (n ∷ [])
         ∙ ap (λ (ds : List (List Decided)). ds ++ decisions None s (said y) n ∷ []) (sym ((plan_now kept_of sound test).decided_are ∙ ap (decided_to None s d.replica) (tables_long None s of n)))
 
     pub kept_seen : {z : ReplicaRows} {spent2 : Bool} {roster2 : Roster} {now2 : ℕ} {waiting2 : Queue} → z ≡ d.replica → n < frontier y → n < s.slots → IsInStep None s y (n + 1) roster2 now2 waiting2
@@ -74,4 +71,4 @@ module _ (of : ReplicaRows) (n : ℕ) {s : Settings} {x : ReplicaRows} {spent : 
     kept_seen {roster2} {now2} {waiting2} same early wanted step = grind (arith, tables_long, kept_next, kept_of, tables_more, table, decided_more)
 
     pub seen_after : {z : ReplicaRows} (next : SlotPlan) → z ≡ d.replica → next.table.items ≡ table None s (said y) n → next.decided.items ≡ decisions None s (said y) n → at_slot s x z (n + 1) spent ≡ after_plan d (Some next)
-    seen_after next same table_is decided_is = grind (arith, tables_more, decided_more, planned_are, tables_long, one_more, table, plan_now, kept_of, map-append)
+    seen_after next same table_is decided_is = grind (arith, tables_more, decided_more, planned_are, tables_long, add-one, table, plan_now, kept_of, map-append)
