@@ -1,6 +1,6 @@
 -- Processors in use as bits, and the rows that take the least ones that are not.
-use Rattle.std.proofs.Common.{ℕ, ◌+◌, ◌-◌, ◌*◌, ◌^◌, ◌%◌, ◌<◌, ◌≤◌, ◌≡◌, refl, sym, ap, ◌∙◌, arith, inl, inr, w64, bit_or, Bool, true, false, List, [], ◌∷◌, ◌++◌, length, Option, Some, None, ◌||◌, ◌==◌, if◌then◌else◌}
-use Rattle.pfair_table.proofs.Common.{AllByRecursion, append_assoc, true≢false, eqb-true, eq-eqb, cases_lt, is_used, free_place, all_kept, filled}
+use Rattle.std.proofs.Common.{ℕ, ◌+◌, ◌-◌, ◌*◌, ◌^◌, ◌%◌, ◌<◌, ◌≤◌, ◌≡◌, refl, sym, ap, ◌∙◌, arith, inl, inr, w64, bit_or, Bool, true, false, List, [], ◌∷◌, ◌++◌, length, drop, get_or, subst, Option, Some, None, ◌||◌, ◌==◌, if◌then◌else◌}
+use Rattle.pfair_table.proofs.Common.{AllByRecursion, append_assoc, drop_more, true≢false, eqb-true, eq-eqb, cases_lt, is_used, free_place, all_kept, filled}
 use Rattle.std.specs.Int.{bit_at, trailing_ones}
 use Rattle.std.proofs.lemmas.Nat.Bits.{bit_at-trailing_ones, bit_at_set_same, bit_at_set_other, bit_at_ones, bit_at-zero}
 use Rattle.pfair_table.specs.PlacesInUse.{AreInUse}
@@ -72,6 +72,11 @@ pub record AreFilledSoFar (bits : ℕ) (places : List ℕ) (rest : List (Option 
   pub fits : bits < 2 ^ 64
   pub so_far : places ++ filled used rest ≡ whole
   pub room : length used + count_others rest ≤ 64
+
+-- the next row
+pub next_row : {bits : ℕ} {places : List ℕ} {whole : List ℕ} (kept : List (Option ℕ)) {i : ℕ} {o : Option ℕ} → i < length kept → get_or kept i None ≡ o → AreFilledSoFar bits places (drop i kept) whole
+    → AreFilledSoFar bits places (o ∷ drop (i + 1) kept) whole
+next_row {bits} {places} {whole} kept {i} inside is = subst (λ (rest : List (Option ℕ)). AreFilledSoFar bits places rest whole) (drop_more kept i None inside ∙ ap (λ (o : Option ℕ). o ∷ drop (i + 1) kept) is)
 
 pub filled_kept : (bits : ℕ) (places : List ℕ) (j : ℕ) (rest : List (Option ℕ)) (whole : List ℕ) → AreFilledSoFar bits places (Some j ∷ rest) whole → AreFilledSoFar bits (places ++ j ∷ []) rest whole
 filled_kept bits places j rest whole s = grind (arith, append_assoc)

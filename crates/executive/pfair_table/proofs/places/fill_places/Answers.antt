@@ -1,7 +1,7 @@
-use Rattle.std.proofs.Common.{ℕ, ◌+◌, ◌++◌, ◌∙◌, sym, ap, subst, arith, drop, List, [], ◌∷◌, Option, Some, None}
-use Rattle.pfair_table.proofs.Common.{drop_more, drop_all, append-nil, all_kept, filled}
+use Rattle.std.proofs.Common.{ℕ, ◌+◌, ◌++◌, ◌∙◌, sym, ap, subst, arith, drop, List, [], ◌∷◌, Option}
+use Rattle.pfair_table.proofs.Common.{drop_all, append-nil, all_kept, filled}
 use Rattle.pfair_table.proofs.PlacesKept.{kept_count}
-use Rattle.pfair_table.proofs.Filling.{AreFilledSoFar, filled_kept, filled_free, room_left, not_full}
+use Rattle.pfair_table.proofs.Filling.{AreFilledSoFar, filled_kept, filled_free, next_row, room_left, not_full}
 use Rattle.pfair_table.proofs.places.fill_places.Goals.{in-Some, in-None}
 use Rattle.pfair_table.proofs.places.fill_places.Goals as goal
 
@@ -16,29 +16,22 @@ loop-kept_place-init c = record {
 
 pub use_least-place-requires : goal.use_least-place-requires
 use_least-place-requires c =
-    let rest : List (Option ℕ) = drop (c.loop-kept_place.kept_place-index + 1) c.args.kept.now in
-    let whole : List ℕ = filled (all_kept c.args.kept.now) c.args.kept.now in
-    let here : AreFilledSoFar c.loop-kept_place.in_use c.loop-kept_place.places.items (None ∷ rest) whole =
-    subst (λ (others : List (Option ℕ)). AreFilledSoFar c.loop-kept_place.in_use c.loop-kept_place.places.items others whole)
-    (drop_more c.args.kept.now c.loop-kept_place.kept_place-index None c.loop-kept_place-test.true ∙ ap (λ (o : Option ℕ). o ∷ rest) c.in-None.is) c.loop-kept_place.invariant in
-    not_full c.loop-kept_place.in_use here.used here.fits here.in_use (room_left c.loop-kept_place.in_use c.loop-kept_place.places.items rest whole here)
+    let here = next_row c.args.kept.now c.loop-kept_place-test.true c.in-None.is c.loop-kept_place.invariant in
+    not_full c.loop-kept_place.in_use here.used here.fits here.in_use (room_left _ _ _ _ here)
 
 pub loop-kept_place-preserved : goal.loop-kept_place-preserved
 loop-kept_place-preserved c =
     let rest : List (Option ℕ) = drop (c.loop-kept_place.kept_place-index + 1) c.args.kept.now in
     let whole : List ℕ = filled (all_kept c.args.kept.now) c.args.kept.now in
     let places : List ℕ = c.loop-kept_place.places.items in
-    let more = drop_more c.args.kept.now c.loop-kept_place.kept_place-index None c.loop-kept_place-test.true in
     subst (λ (ps : List ℕ). AreFilledSoFar c.match-kept_place.in_use ps rest whole) (sym c.in_ok-push.ensures.items)
     (elim c.match-kept_place.branch [
       | in-Some w ↦
-          (let here : AreFilledSoFar c.loop-kept_place.in_use places (Some w.in-Some.place ∷ rest) whole =
-          subst (λ (others : List (Option ℕ)). AreFilledSoFar c.loop-kept_place.in_use places others whole) (more ∙ ap (λ (o : Option ℕ). o ∷ rest) w.in-Some.is) c.loop-kept_place.invariant in
+          (let here = next_row c.args.kept.now c.loop-kept_place-test.true w.in-Some.is c.loop-kept_place.invariant in
           subst (λ n. AreFilledSoFar n (places ++ c.match-kept_place.place ∷ []) rest whole) (sym w.in_use-is)
           (subst (λ k. AreFilledSoFar c.loop-kept_place.in_use (places ++ k ∷ []) rest whole) (sym w.place-is) (filled_kept c.loop-kept_place.in_use places w.in-Some.place rest whole here)))
       | in-None w ↦
-          (let here : AreFilledSoFar c.loop-kept_place.in_use places (None ∷ rest) whole =
-          subst (λ (others : List (Option ℕ)). AreFilledSoFar c.loop-kept_place.in_use places others whole) (more ∙ ap (λ (o : Option ℕ). o ∷ rest) w.in-None.is) c.loop-kept_place.invariant in
+          (let here = next_row c.args.kept.now c.loop-kept_place-test.true w.in-None.is c.loop-kept_place.invariant in
           let took = w.use_least-place.ensures.least here.used here.in_use (room_left c.loop-kept_place.in_use places rest whole here) in
           subst (λ n. AreFilledSoFar n (places ++ c.match-kept_place.place ∷ []) rest whole) (sym w.in_use-is)
           (filled_free c.loop-kept_place.in_use w.use_least-place.new.in_use places c.match-kept_place.place rest whole here (w.place-is ∙ took.0) took.1 w.use_least-place.ensures.fits))
