@@ -10,15 +10,12 @@ loop-processor-init g c =
     let count : c.settings-settings.result.processors ≡ length c.args.script.now.logs = ap (λ (s : Settings). s.processors) settings_are ∙ sym run.one_each in
     let course = c.in_ok-dispatcher.ensures.course in
     record {
-      is = λ i. record {
-        settings = (c.in_ok-dispatcher.ensures.settings ∙ settings_are) i;
-        origin = (course i).origin;
-        replica = c.in_ok-dispatcher.dispatcher.replica;
-        tables = (course i).tables;
-        decided = (course i).decided;
-        forgotten = c.in_ok-dispatcher.ensures.unforgotten i;
-        spent = c.in_ok-dispatcher.ensures.spent i;
-      };
+      settings = c.in_ok-dispatcher.ensures.settings ∙ settings_are;
+      origin = ap (λ (x : Course). x.origin) course;
+      tables = ap (λ (x : Course). x.tables) course;
+      decided = ap (λ (x : Course). x.decided) course;
+      forgotten = c.in_ok-dispatcher.ensures.unforgotten;
+      spent = c.in_ok-dispatcher.ensures.spent;
       replica = ap (λ (x : Course). x.replica) course ∙ (λ i. empty_replica (count i) (c.capacity.ensures.value i));
     }
 
@@ -33,26 +30,16 @@ returns-clause-held g c =
     let all : c.loop-processor.processor ≡ length logs = omega (arith, c.loop-processor-test.false, c.loop-processor.auto.processor-end, c.processors-processor-end.ensures.value, count) in
     c.loop-processor.invariant.replica ∙ ap (λ k. held_of logs (take k logs)) all ∙ ap (held_of logs) (take-length logs)
 
-pub returns-clause-settings : goal.returns-clause-settings
-returns-clause-settings g c = ap (λ (d : Dispatch). d.settings) c.loop-processor.invariant.is
-
-pub returns-clause-first : goal.returns-clause-first
-returns-clause-first g c = ap (λ (d : Dispatch). d.origin) c.loop-processor.invariant.is
-
-pub returns-clause-nothing : goal.returns-clause-nothing
-returns-clause-nothing g c = ap (λ (d : Dispatch). d.tables) c.loop-processor.invariant.is
-
-pub returns-clause-undecided : goal.returns-clause-undecided
-returns-clause-undecided g c = ap (λ (d : Dispatch). d.decided) c.loop-processor.invariant.is
-
-pub returns-clause-unforgotten : goal.returns-clause-unforgotten
-returns-clause-unforgotten g c = ap (λ (d : Dispatch). d.forgotten) c.loop-processor.invariant.is
-
-pub returns-clause-able : goal.returns-clause-able
-returns-clause-able g c = ap (λ (d : Dispatch). d.spent) c.loop-processor.invariant.is
-
 pub loop-processor-preserved : goal.loop-processor-preserved
-loop-processor-preserved g c = record {
-  is = c.in_ok-take_log.ensures.rest ∙ (λ i. record (c.loop-processor.invariant.is i) { replica = c.take_log.new.dispatcher.replica });
-  replica = c.in_ok-take_log.ensures.held c.args.script.now.logs c.log.ensures.value c.loop-processor.invariant.replica;
-}
+loop-processor-preserved g c =
+    let rest = c.in_ok-take_log.ensures.rest in
+    let so_far = c.loop-processor.invariant in
+    record {
+      settings = ap (λ (d : Dispatch). d.settings) rest ∙ so_far.settings;
+      origin = ap (λ (d : Dispatch). d.origin) rest ∙ so_far.origin;
+      tables = ap (λ (d : Dispatch). d.tables) rest ∙ so_far.tables;
+      decided = ap (λ (d : Dispatch). d.decided) rest ∙ so_far.decided;
+      forgotten = ap (λ (d : Dispatch). d.forgotten) rest ∙ so_far.forgotten;
+      spent = ap (λ (d : Dispatch). d.spent) rest ∙ so_far.spent;
+      replica = c.in_ok-take_log.ensures.held c.args.script.now.logs c.log.ensures.value so_far.replica;
+    }

@@ -4,6 +4,11 @@ use Rattle.pfair_table.proofs.single.take_script.Given as goal
 
 abbrev pub invariant-loop-processor : goal.invariant-loop-processor
 invariant-loop-processor g l = record {
-  is : l.dispatcher ≡ record { settings = l.script.settings; origin = None; replica = l.dispatcher.replica; tables = []; decided = []; forgotten = 0; spent = false };
+  settings : l.dispatcher.settings ≡ l.script.settings;
+  origin : l.dispatcher.origin ≡ None;
+  tables : l.dispatcher.tables ≡ [];
+  decided : l.dispatcher.decided ≡ [];
+  forgotten : l.dispatcher.forgotten ≡ 0;
+  spent : l.dispatcher.spent ≡ false;
   replica : replica_of l.dispatcher.replica ≡ held_of l.script.logs (take l.processor l.script.logs);
 }
