@@ -10,9 +10,3 @@ pub loop-row-preserved : goal.loop-row-preserved
 loop-row-preserved c =
     one_more c.args.table.now c.loop-row.ends c.loop-row.row c.bucket_of.result c.index-table-row.result c.loop-row.invariant
     (slice_get-get_or c.args.table.now c.loop-row.row c.index-table-row.result c.loop-row-test.true ∙ ap Some (sym c.index-table-row.is)) c.bucket_of.ensures.value c.bucket_of.ensures.within
-
-pub returns : goal.returns
-returns c = record {
-  within = λ b. (let le = c.loop-row.invariant.within b in let end = c.loop-row.auto.row-end in omega (arith, le, end));
-  found = λ r p h. c.loop-row.invariant.found r p (let inside = slice_get_within c.args.table.now r p h in let end = c.loop-row-test.false in omega (arith, inside, end)) h;
-}

@@ -4,15 +4,6 @@ use Rattle.pfair_table.specs.declared.run.Event.{Event}
 use Rattle.pfair_table.proofs.QueueKept.{drop_item}
 use Rattle.pfair_table.proofs.run.run_events.Goals as goal
 
-pub loop-event-init : goal.loop-event-init
-loop-event-init g c = record {
-  course = ap (λ (k : Course). run c.args.settings k c.args.events.now) c.in_ok-dispatcher.ensures.course;
-  settings = c.in_ok-dispatcher.ensures.settings;
-  spent = c.in_ok-dispatcher.ensures.spent;
-  unforgotten = c.in_ok-dispatcher.ensures.unforgotten;
-  events = λ all. all;
-}
-
 pub loop-event-preserved : goal.loop-event-preserved
 loop-event-preserved g c =
     let rest : List Event = drop (c.loop-event.event-index + 1) c.args.events.now in

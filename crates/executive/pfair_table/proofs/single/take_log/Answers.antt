@@ -3,9 +3,6 @@ use Rattle.pfair_table.proofs.Common.{slice_get_read, taken, held_of}
 use Rattle.pfair_table.proofs.Scripts.{log_begun, taken_next, log_taken}
 use Rattle.pfair_table.proofs.single.take_log.Goals as goal
 
-pub loop-index-init : goal.loop-index-init
-loop-index-init g c = (refl, λ logs at_k before. before ∙ log_begun logs (take c.args.processor logs))
-
 pub returns-clause-held : goal.returns-clause-held
 returns-clause-held g c = λ logs at_k before.
     (let all : c.loop-index.index ≡ length c.args.log.now = omega (arith, c.loop-index-test.false, c.loop-index.auto.index-end) in

@@ -29,17 +29,3 @@ returns-clause-held g c =
     let count : c.settings-settings.result.processors ≡ length logs = ap (λ (s : Settings). s.processors) settings_are ∙ sym c.settings-settings.ensures.run.one_each in
     let all : c.loop-processor.processor ≡ length logs = omega (arith, c.loop-processor-test.false, c.loop-processor.auto.processor-end, c.processors-processor-end.ensures.value, count) in
     c.loop-processor.invariant.replica ∙ ap (λ k. held_of logs (take k logs)) all ∙ ap (held_of logs) (take-length logs)
-
-pub loop-processor-preserved : goal.loop-processor-preserved
-loop-processor-preserved g c =
-    let rest = c.in_ok-take_log.ensures.rest in
-    let so_far = c.loop-processor.invariant in
-    record {
-      settings = ap (λ (d : Dispatch). d.settings) rest ∙ so_far.settings;
-      origin = ap (λ (d : Dispatch). d.origin) rest ∙ so_far.origin;
-      tables = ap (λ (d : Dispatch). d.tables) rest ∙ so_far.tables;
-      decided = ap (λ (d : Dispatch). d.decided) rest ∙ so_far.decided;
-      forgotten = ap (λ (d : Dispatch). d.forgotten) rest ∙ so_far.forgotten;
-      spent = ap (λ (d : Dispatch). d.spent) rest ∙ so_far.spent;
-      replica = c.in_ok-take_log.ensures.held c.args.script.now.logs c.log.ensures.value so_far.replica;
-    }

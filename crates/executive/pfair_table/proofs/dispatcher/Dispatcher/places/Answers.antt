@@ -8,13 +8,7 @@ returns-clause-fit g c =
     subst (λ (d : Dispatch). AllByRecursion (IsFit d.settings.processors) d.tables) c.self.view_is
     (fit_plan c.self.invariant.0.began c.self.invariant.0.plan)
 
-pub returns-clause-origin : goal.returns-clause-origin
-returns-clause-origin g c = subst (λ (d : Dispatch). IsOrigin d.origin d.settings) c.self.view_is c.self.invariant.0.began
-
 pub returns-in_err-at-clause-fit : goal.returns-in_err-at-clause-fit
 returns-in_err-at-clause-fit g c =
     subst (λ (d : Dispatch). AllByRecursion (IsFit d.settings.processors) d.tables) c.self.view_is
     (fit_plan c.self.invariant.0.began c.self.invariant.0.plan)
-
-pub returns-in_err-at-clause-origin : goal.returns-in_err-at-clause-origin
-returns-in_err-at-clause-origin g c = subst (λ (d : Dispatch). IsOrigin d.origin d.settings) c.self.view_is c.self.invariant.0.began

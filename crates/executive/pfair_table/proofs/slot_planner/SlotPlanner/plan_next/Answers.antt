@@ -30,12 +30,6 @@ plan-requires-clause-able g c =
       read = subst (λ (h : ReplicaRows). AreReadingsOf (replica_of h) a.planner.readings.by_processor.items) (ap (λ (d : Dispatch). d.replica) (c.self.view_is ∙ c.see.ensures)) c.self.invariant.1;
     }
 
-pub plan-requires-clause-slot : goal.plan-requires-clause-slot
-plan-requires-clause-slot g c =
-    let a = c.self.inside in
-    let there = next_planned a.planner.settings (replica_of c.args.replica.now) (refl {a = a.planned}) c.in-Planned.slot c.in_ok-slot.field-0 c.in_ok-slot.ensures.step c.in-Planned.is in
-    omega (arith, there.1, there.2)
-
 pub plan-requires-clause-step : goal.plan-requires-clause-step
 plan-requires-clause-step g c =
     let a = c.self.inside in
