@@ -5,7 +5,7 @@ use Rattle.std.specs.Result.{IsErrAnd}
 use Rattle.pfair_table.specs.declared.answer.Step.{Step}
 use Rattle.pfair_table.specs.declared.answer.Step.TheVariants.{Done}
 use Rattle.pfair_table.specs.declared.answer.NextRunFault.{NextRunFault}
-use Rattle.pfair_table.specs.declared.answer.NextRunFault.TheVariants.{Torn, Spent, Unfinished, PastLastSlot, CannotCarry, Memory}
+use Rattle.pfair_table.specs.declared.answer.NextRunFault.TheVariants.{Memory}
 use Rattle.pfair_admission.specs.declared.members.TheConstants.Members.{LAST_SLOT}
 use Rattle.pfair_table.proofs.Alike.{untorn_right}
 use Rattle.pfair_table.proofs.Keeping.{is_of_held, plan_now, step_now}
