@@ -1,7 +1,5 @@
 -- Two dispatchers whose replicas agree have planned alike.
-use Rattle.std.proofs.Common.{ℕ, ◌<◌, ◌≡◌, sym, ap, ◌∙◌, subst, arith, inl, inr, Bool, List, length, Some, slice_get}
-use Rattle.pfair_table.proofs.Common.{Torn, entry_eq, entry_exact, Replica, IsReplica, Untorn, Agree, said, Queue, Roster, Decided, Settings, Origin, Table, table, decisions, IsPlanOf, IsKept, table_before, places_before, places_in}
-use Rattle.pfair_lattice.specs.HeldLaws.{join_second}
+use Rattle.pfair_table.proofs.Common.{Torn, entry_eq, entry_exact, Replica, IsReplica, Untorn, Agree, said, Queue, Roster, Decided, Settings, Origin, Table, table, decisions, IsPlanOf, IsKept, table_before, places_before, places_in, ℕ, ◌<◌, ◌≡◌, sym, ap, ◌∙◌, subst, arith, inl, inr, Bool, List, length, Some, slice_get, join_second}
 use Rattle.pfair_table.proofs.TableLaws.{one_table}
 use Rattle.pfair_table.proofs.Runs.{get_numbers, untorn_left, one_schedule}
 use Rattle.pfair_table.proofs.Steps.{plan_of_held}

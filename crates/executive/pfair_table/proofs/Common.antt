@@ -5,17 +5,27 @@ pub use Rattle.pfair_admission.proofs.NamesKept.{apart_boundary, apart_effect, a
 pub use Rattle.pfair_admission.specs.Admission.{Machine, all_decided, announcements, boundary, boundary_decisions, change, effect, is_freed, is_named, member_named, newcomer, present, quantum_of, ran, running, seatless, with_delay, with_freeing, with_quantum}
 pub use Rattle.pfair_admission.specs.Carried.{CanBeCarried, IsFirstLeft, all_raised, carried, carried_delays, jobs_done, subtasks_done, subtasks_of, taken_off}
 pub use Rattle.pfair_admission.specs.Member.{Member, eligible_from, is_departing, next_key, theta}
+pub use Rattle.pfair_admission.specs.Restored.{IsLeftAt}
 pub use Rattle.pfair_admission.specs.Roster.{Roster}
+pub use Rattle.pfair_admission.specs.declared.decision.Decision.{Decision}
+pub use Rattle.pfair_admission.specs.declared.members.Quantum.{Quantum}
+pub use Rattle.pfair_admission.specs.declared.members.TheConstants.Members.{LAST_SLOT}
 pub use Rattle.pfair_entry.specs.Entry.{IsEntry, IsWeighed, IsWithinLimits, Logged}
 pub use Rattle.pfair_entry.specs.Exact.{entry_exact, name_exact, name_itself}
 pub use Rattle.pfair_entry.specs.Same.{entry_eq, name_eq}
 pub use Rattle.pfair_entry.specs.declared.entry.Announcement.{Announcement}
 pub use Rattle.pfair_entry.specs.declared.entry.Said.{Said}
+pub use Rattle.pfair_lattice.specs.HeldLaws.{join_second, join_least, below_itself, below_trans}
 pub use Rattle.pfair_lattice.specs.declared.join_map.Flat.TheVariants.{One, Torn}
+pub use Rattle.pfair_order.proofs.NamesApart.{first_names}
+pub use Rattle.pfair_order.specs.Order.{GoesBefore}
 pub use Rattle.pfair_order.specs.declared.Key.{Key}
-pub use Rattle.pfair_ready.specs.Names.{name_cmp}
+pub use Rattle.pfair_ready.proofs.Names.{tied_names}
+pub use Rattle.pfair_ready.specs.Names.{name_cmp, NameValue as Name}
 pub use Rattle.pfair_ready.specs.Queue.{Queue, released, without}
+pub use Rattle.pfair_ready.specs.declared.Seated.{Seated}
 pub use Rattle.pfair_replica.proofs.Marks.{below_agree, frontier_le, mark_le, same_said}
+pub use Rattle.pfair_replica.proofs.OfferedTo.{offered_stays}
 pub use Rattle.pfair_replica.proofs.SoundEntries.{beginnings_grow, held_within, read_by_number, some_at}
 pub use Rattle.pfair_replica.proofs.TornKeys.{test_by_untorn, untorn_by_test}
 pub use Rattle.pfair_replica.specs.Among.{Among, all_among, among_all, among_below, among_contains, among_filter, among_map, among_right, contains_among, filter_among, map_among, map_same}
@@ -27,22 +37,41 @@ pub use Rattle.pfair_table.specs.Laws.{IsOf, IsPrefixOf, OnePlan, OneSchedule, O
 pub use Rattle.pfair_table.specs.Limits.{AreLeftAt, IsCarried, IsOrigin, IsSettings, IsState, can_add_row, with_row}
 pub use Rattle.pfair_table.specs.NextRun.{CanBeFollowed, IsFinished, IsNextRunFault, IsResumeFault, LeaveAlike, end_of, left_by, members_left}
 pub use Rattle.pfair_table.specs.Places.{AllDiffer, ArePlacesOf, IsFit, all_kept, filled, free_place, is_used, kept_places, place_of, places_after, places_before, places_from, places_in, table_before}
+pub use Rattle.pfair_table.specs.PlacesInUse.{AreInUse}
 pub use Rattle.pfair_table.specs.Planned.{AreKept, IsNext, PlannedSlots, as_places, as_tables, decided_to, last_or, tables_to, with_next}
 pub use Rattle.pfair_table.specs.Queue.{IsNotifiedOf, IsQueue, IsQueueBesides, IsQueueBut, IsQueueWithout, IsSteady, MayRun, has_key_of, is_of_some, is_said, keys_of, queued}
 pub use Rattle.pfair_table.specs.Ranks.{first_by_rank}
 pub use Rattle.pfair_table.specs.Readings.{AreReadingsOf, AreWhole, IsReadingOf, entries_read, said_by_all}
 pub use Rattle.pfair_table.specs.Refinement.{Dispatch, HavePlannedAlike, IsInStep, IsKept, IsNextStep, IsPlanFault, IsPlanOf, IsWholePlan, course_of, heard_before, members_after}
+pub use Rattle.pfair_table.specs.RunsOn.{HasBegun, IsBegun, IsWeighedStory, last_places, last_table}
 pub use Rattle.pfair_table.specs.Script.{IsLoggedRun, LoggedRun, capacity_of, contents_of, entry_of, held_of, is_short, lists_of, replica_of_logs, row_of}
 pub use Rattle.pfair_table.specs.Table.{Carried, History, Origin, Settings, Story, Table, all_ran, chosen, counted, counted_one, decisions, eligible, history, index_of, is_eligible, machine, members_at, members_before, names_task, next_index, pick, plan, plan_decisions, quanta, slot_of, table, with_decisions, world}
+pub use Rattle.pfair_table.specs.declared.answer.Step.{Step}
+pub use Rattle.pfair_table.specs.declared.answer.Step.TheVariants.{Done}
+pub use Rattle.pfair_table.specs.declared.planned.PlannedSlot.{PlannedSlot}
+pub use Rattle.pfair_table.specs.declared.planner.Reading.{Reading}
+pub use Rattle.pfair_table.specs.declared.run.Event.{Event}
+pub use Rattle.pfair_table.specs.declared.run.Event.TheVariants.{Take, Absorb, Plan}
 pub use Rattle.pfair_table.specs.declared.slot.Decided.{Decided}
 pub use Rattle.pfair_table.specs.declared.slot.Pick.{Pick}
+pub use Rattle.pfair_table.specs.declared.slot.SlotPlan.{SlotPlan}
 pub use Rattle.pfair_weight.proofs.NamesApart.{apart_cons, apart_filter, apart_head, apart_map, apart_nil, apart_push, apart_tail}
 pub use Rattle.pfair_weight.specs.Name.{NamesApart}
+pub use Rattle.pfair_weight.specs.Share.{Share}
 pub use Rattle.pfair_weight.specs.declared.window.TheConstants.{MAX_INDEX}
+pub use Rattle.std.proofs.Common.{◌≡◌, sym, arith, ◌∙◌, ap, subst, List, ℕ, length, [], ◌∷◌, ◌<◌, refl, Some, None, ◌+◌, false, ◌≤◌, ◌++◌, suc, Bool, map, zero, drop, Option, slice_get, if◌then◌else◌, true, take, inl, inr, not, ◌≢◌, ◌-◌, cond, ◌||◌, Result, nat_lt, get_or, Ok, IfErr, min, ◌&&◌, ◌==◌, ◌*◌, IfOk, Err, is_some, IsTrue, ◌%◌, Vec, Global, OnOk, AllPairs, ◌⊎◌, slice_index, set, ◌^◌, bit_or, ⊎_elim, flat_map, nat_le, Bor}
 pub use Rattle.std.proofs.Math.Seq.{drop-nil, take-length, take-suc}
+pub use Rattle.std.proofs.SliceLists.{all_by_recursion_push}
 pub use Rattle.std.proofs.lemmas.Bool.{and_from, and_parts, cases_Bool, cases_eq, cases_lt, cases_order, eq-eqb, eqb-true, false_from_ne_true, false≢true, le-leb, le-ltb, leb-true, lt-ltb, ltb-true, ne_eqb, not-true, or_cases, or_left, or_parts, or_right, true≢false}
+pub use Rattle.std.proofs.lemmas.Bool.Decides.{nat_tests}
+pub use Rattle.std.proofs.lemmas.Cmp.{nat_list_cmp_total}
+pub use Rattle.std.proofs.lemmas.Grind.{common_steps}
 pub use Rattle.std.proofs.lemmas.List.{append-nil, append_assoc, drop-append-le, drop-map, drop_all, drop_more, get_or-map, get_or-set_other, get_or-set_same, length-append, length-drop, length-map, length-replicate, length-set, length-take-le, map-append, map-id, nil_from_length, take-append-drop, take-append-le, take-map, take_more}
+pub use Rattle.std.proofs.lemmas.List.Sums.{sum_by_push}
 pub use Rattle.std.proofs.lemmas.Option.{get_or_from_slice_get, none-some, same_Some, slice_get-get_or, slice_get-map, slice_get_past, slice_get_read, slice_get_within}
+pub use Rattle.std.proofs.lemmas.Simd.{map-map}
 pub use Rattle.std.specs.Cmp.Lexicographic.{nat_list_eq_equiv}
 pub use Rattle.std.specs.List.{AllByRecursion, filter, list_all, list_any}
 pub use Rattle.std.specs.Option.{ForSome, option_copied, option_map}
+pub use Rattle.std.specs.Ordering.{eq_by_cmp}
+pub use Rattle.std.specs.Result.{IsErrAnd}

@@ -1,6 +1,5 @@
 -- The least processor that is not in use.
-use Rattle.std.proofs.Common.{ℕ, zero, suc, ◌<◌, ◌≤◌, ◌≡◌, refl, sym, ap, ◌∙◌, arith, inl, inr, Bool, true, false, cond, List, [], ◌∷◌, ◌++◌, length, Option, Some, None}
-use Rattle.pfair_table.proofs.Common.{true≢false, eqb-true, eq-eqb, ne_eqb, or_cases, or_left, or_right, cases_lt, numbers_below, Among, filter_among, among_below, is_used, free_place}
+use Rattle.pfair_table.proofs.Common.{true≢false, eqb-true, eq-eqb, ne_eqb, or_cases, or_left, or_right, cases_lt, numbers_below, Among, filter_among, among_below, is_used, free_place, ℕ, zero, suc, ◌<◌, ◌≤◌, ◌≡◌, refl, sym, ap, ◌∙◌, arith, inl, inr, Bool, true, false, cond, List, [], ◌∷◌, ◌++◌, length, Option, Some, None}
 use Rattle.std.specs.Prelude.{◌⊎◌, ◌==◌, find, filter, not, unwrap_or}
 use Rattle.std.proofs.lemmas.List.Sums.{length-filter, count_by-le-length}
 

@@ -1,7 +1,5 @@
 -- What is kept of planned slots: the list of all of them from one on.
-use Rattle.std.proofs.Common.{ℕ, zero, suc, ◌+◌, ◌-◌, ◌<◌, ◌≤◌, ◌≡◌, refl, sym, ap, ◌∙◌, arith, List, ◌∷◌, ◌++◌, length, drop, map, slice_get, []}
-use Rattle.pfair_table.proofs.Common.{option_map, length-map, length-append, length-drop, map-append, drop-append-le, drop-map, slice_get_past, slice_get-map, drop-nil, ReplicaRows, replica_of, numbers_below, said, Decided, places_from, places_in, places_after, table_before, places_before, PlannedSlots, AreKept, IsNext, with_next, tables_to, decided_to, last_or, Settings, Origin, Table, table, decisions}
-use Rattle.pfair_table.specs.declared.planned.PlannedSlot.{PlannedSlot}
+use Rattle.pfair_table.proofs.Common.{option_map, length-map, length-append, length-drop, map-append, drop-append-le, drop-map, slice_get_past, slice_get-map, drop-nil, ReplicaRows, replica_of, numbers_below, said, Decided, places_from, places_in, places_after, table_before, places_before, PlannedSlots, AreKept, IsNext, with_next, tables_to, decided_to, last_or, Settings, Origin, Table, table, decisions, ℕ, zero, suc, ◌+◌, ◌-◌, ◌<◌, ◌≤◌, ◌≡◌, refl, sym, ap, ◌∙◌, arith, List, ◌∷◌, ◌++◌, length, drop, map, slice_get, [], PlannedSlot}
 use Rattle.pfair_table.specs.declared.settings.TheConstants.Settings.{MAX_SLOTS}
 use Rattle.pfair_table.proofs.Keeping.{tables_listed}
 use Rattle.pfair_table.proofs.Runs.{length_numbers}

@@ -1,12 +1,8 @@
 -- What events leave is the least that is above all that they bring.
-use Rattle.std.proofs.Common.{ℕ, ◌≡◌, refl, sym, ◌∙◌, subst, arith, Bool, true, false, cond, List, [], ◌∷◌, Some, ◌&&◌, ◌==◌, nat_lt, nat_le}
-use Rattle.pfair_table.proofs.Common.{AllByRecursion, eqb-true, eq-eqb, ltb-true, leb-true, lt-ltb, le-leb, and_from, and_parts, One, Logged, entry_eq, entry_exact, replica_of, has_key, has_shape, taken, absorbed, Replica, Below, join, only, with_entry, Course, begin_at, happens, run, Settings}
+use Rattle.pfair_table.proofs.Common.{AllByRecursion, eqb-true, eq-eqb, ltb-true, leb-true, lt-ltb, le-leb, and_from, and_parts, One, Logged, entry_eq, entry_exact, replica_of, has_key, has_shape, taken, absorbed, Replica, Below, join, only, with_entry, Course, begin_at, happens, run, Settings, ℕ, ◌≡◌, refl, sym, ◌∙◌, subst, arith, Bool, true, false, cond, List, [], ◌∷◌, Some, ◌&&◌, ◌==◌, nat_lt, nat_le, join_least, join_second, below_itself, below_trans, offered_stays, Event, Take, Absorb, Plan}
 use Rattle.pfair_lattice.specs.Held.{HeldBelow}
-use Rattle.pfair_lattice.specs.HeldLaws.{join_least, join_second, below_itself, below_trans, none_below}
+use Rattle.pfair_lattice.specs.HeldLaws.{none_below}
 use Rattle.pfair_replica.specs.HeldAfter.{only_here}
-use Rattle.pfair_replica.proofs.OfferedTo.{offered_stays}
-use Rattle.pfair_table.specs.declared.run.Event.{Event}
-use Rattle.pfair_table.specs.declared.run.Event.TheVariants.{Take, Absorb, Plan}
 use Rattle.pfair_table.specs.EventLaws.{IsBroughtBelow, EventsLeaveTheLeast}
 use Rattle.pfair_table.proofs.Runs.{below_all}
 

@@ -1,6 +1,5 @@
 -- No two members have one name, at any slot, and how far their indexes rise.
-use Rattle.std.proofs.Common.{ℕ, zero, suc, List, [], ◌∷◌, Some, None, arith}
-use Rattle.pfair_table.proofs.Common.{NamesApart, apart_nil, Said, Member, announcements, ran, apart_boundary, apart_ran, IsOrigin, Settings, Origin, Table, History, machine, members_at, members_before, slot_of, all_ran, Story, history, world}
+use Rattle.pfair_table.proofs.Common.{NamesApart, apart_nil, Said, Member, announcements, ran, apart_boundary, apart_ran, IsOrigin, Settings, Origin, Table, History, machine, members_at, members_before, slot_of, all_ran, Story, history, world, ℕ, zero, suc, List, [], ◌∷◌, Some, None, arith}
 
 abbrev pub label : Member → List ℕ
 label m = m.name

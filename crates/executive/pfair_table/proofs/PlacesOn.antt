@@ -1,6 +1,5 @@
 -- The places of one more table, and those of the tables that a dispatcher plans.
-use Rattle.std.proofs.Common.{ℕ, zero, suc, ◌-◌, ◌≡◌, refl, sym, ap, ◌∙◌, subst, arith, List, ◌∷◌, ◌++◌, length, map, Some, None, slice_get, []}
-use Rattle.pfair_table.proofs.Common.{AllByRecursion, Replica, said, numbers_below, apart_nil, Decided, Pick, Settings, Origin, Table, table, places_after, places_from, places_in, table_before, places_before, IsFit, ArePlacesOf, last_or, IsPlanOf, all_among, among_map, IsOrigin}
+use Rattle.pfair_table.proofs.Common.{AllByRecursion, Replica, said, numbers_below, apart_nil, Decided, Pick, Settings, Origin, Table, table, places_after, places_from, places_in, table_before, places_before, IsFit, ArePlacesOf, last_or, IsPlanOf, all_among, among_map, IsOrigin, ℕ, zero, suc, ◌-◌, ◌≡◌, refl, sym, ap, ◌∙◌, subst, arith, List, ◌∷◌, ◌++◌, length, map, Some, None, slice_get, []}
 use Rattle.pfair_table.proofs.TableLaws.{ordered_from}
 use Rattle.pfair_table.proofs.Members.{named_before}
 use Rattle.pfair_table.proofs.Keeping.{tables_listed}

@@ -1,22 +1,17 @@
 -- A next run goes on as the long run does.
-use Rattle.std.proofs.Common.{◌≡◌, ℕ, zero, suc, ◌+◌, ◌-◌, ◌*◌, ◌/◌, ◌%◌, ◌<◌, ◌≤◌, Bool, true, false, List, [], ◌∷◌, ◌++◌, map, length, Option, Some, None, refl, sym, ap, subst, ◌∙◌, arith, inl, inr, ⊎_elim}
-use Rattle.pfair_table.proofs.Common.{AllByRecursion, filter, list_any, and_parts, cases_Bool, false≢true, or_cases, length-map, NamesApart, apart_map, Key, name_exact, name_eq, Said, Announcement, IsWeighed, Among, all_among, among_all, among_map, among_filter, map_same, Member, theta, is_departing, eligible_from, next_key, Machine, announcements, all_decided, boundary_decisions, member_named, newcomer, present, ran, with_quantum, all_raised, carried, carried_delays, jobs_done, subtasks_done, subtasks_of, taken_off, each, each_filter, each_map, by_effect, each_change, apart_present, Pick, all_kept, filled, place_of, places_after, places_before, places_in, table_before, last_or, first_by_rank, Settings, Origin, Story, Table, machine, names_task, is_eligible, eligible, pick, all_ran, chosen, index_of, slot_of, with_decisions, history, world, table, decisions}
+use Rattle.std.proofs.Common.{◌/◌}
+use Rattle.pfair_table.proofs.Common.{AllByRecursion, filter, list_any, and_parts, cases_Bool, false≢true, or_cases, length-map, NamesApart, apart_map, Key, name_exact, name_eq, Said, Announcement, IsWeighed, Among, all_among, among_all, among_map, among_filter, map_same, Member, theta, is_departing, eligible_from, next_key, Machine, announcements, all_decided, boundary_decisions, member_named, newcomer, present, ran, with_quantum, all_raised, carried, carried_delays, jobs_done, subtasks_done, subtasks_of, taken_off, each, each_filter, each_map, by_effect, each_change, apart_present, Pick, all_kept, filled, place_of, places_after, places_before, places_in, table_before, last_or, first_by_rank, Settings, Origin, Story, Table, machine, names_task, is_eligible, eligible, pick, all_ran, chosen, index_of, slot_of, with_decisions, history, world, table, decisions, ◌≡◌, ℕ, zero, suc, ◌+◌, ◌-◌, ◌*◌, ◌%◌, ◌<◌, ◌≤◌, Bool, true, false, List, [], ◌∷◌, ◌++◌, map, length, Option, Some, None, refl, sym, ap, subst, ◌∙◌, arith, inl, inr, ⊎_elim, nat_tests, map-map, all_by_recursion_push, Share, Name, Decision, IsWeighedStory, HasBegun, IsBegun, last_places, last_table}
 use Rattle.std.specs.Prelude.{⊤, nat_lt, nat_le, not, if◌then◌else◌}
-use Rattle.std.proofs.lemmas.Bool.Decides.{nat_tests}
-use Rattle.std.proofs.lemmas.Simd.{map-map}
 use Rattle.std.proofs.Math.Nat.{add-mul-div_right, div-eq_of_lt, mul-div_cancel}
 use Rattle.std.proofs.lemmas.Nat.{div-add-mod'}
-use Rattle.std.proofs.SliceLists.{all_by_recursion_push}
 use Rattle.pfair_weight.specs.JobFacts.{job_released, starts_job_only}
-use Rattle.pfair_weight.specs.Share.{Share, IsWeight}
+use Rattle.pfair_weight.specs.Share.{IsWeight}
 use Rattle.pfair_weight.specs.Window.{release_of, starts_job_of}
-use Rattle.pfair_ready.specs.Names.{NameValue as Name}
-use Rattle.pfair_admission.specs.declared.decision.Decision.{Decision}
 use Rattle.pfair_admission.proofs.CarriedAgain.{done_low, next_ran, none_done}
 use Rattle.pfair_admission.proofs.Beside.{AreDecided, ArePaired, Pair, all_paired, eligible_paired, index_paired, lags_paired, keys_paired, later_paired, present_paired, ran_paired}
 use Rattle.pfair_admission.proofs.Keeping.{eligible_at_job, one_each}
 use Rattle.pfair_admission.proofs.Lowered.{carried_lowered}
-use Rattle.pfair_table.specs.RunsOn.{IsWeighedStory, HasBegun, IsBegun, IsSlotOf, RunsGoOn, both_stories, last_places, last_table, left_over, raised_rows}
+use Rattle.pfair_table.specs.RunsOn.{IsSlotOf, RunsGoOn, both_stories, left_over, raised_rows}
 use Rattle.pfair_table.proofs.FirstByRank.{among_first}
 use Rattle.pfair_table.proofs.FirstSubtasks.{found_own}
 use Rattle.pfair_table.proofs.Members.{label, named_from, named_history}

@@ -1,10 +1,8 @@
 -- What plans slots of a replica that is handed in is in step with that.
-use Rattle.std.proofs.Common.{ℕ, add-one, suc, min, ◌+◌, ◌≤◌, ◌<◌, ◌≡◌, sym, ap, ◌∙◌, subst, arith, Bool, false, List, [], ◌∷◌, ◌++◌, length, IsTrue, Some, None, Result, Ok, Err, IfErr}
-use Rattle.pfair_table.proofs.Common.{map-append, apart_nil, ReplicaRows, replica_of, Replica, IsReplica, has_torn, frontier, numbers_below, said, Queue, Roster, Decided, is_plannable, Settings, Table, table, decisions, Dispatch, IsInStep, IsKept, IsWholePlan, tables_to, decided_to}
-use Rattle.std.specs.Result.{IsErrAnd}
+use Rattle.std.proofs.Common.{add-one}
+use Rattle.pfair_table.proofs.Common.{map-append, apart_nil, ReplicaRows, replica_of, Replica, IsReplica, has_torn, frontier, numbers_below, said, Queue, Roster, Decided, is_plannable, Settings, Table, table, decisions, Dispatch, IsInStep, IsKept, IsWholePlan, tables_to, decided_to, ℕ, suc, min, ◌+◌, ◌≤◌, ◌<◌, ◌≡◌, sym, ap, ◌∙◌, subst, arith, Bool, false, List, [], ◌∷◌, ◌++◌, length, IsTrue, Some, None, Result, Ok, Err, IfErr, IsErrAnd, SlotPlan}
 use Rattle.pfair_table.specs.declared.answer.PlanFault.{PlanFault}
 use Rattle.pfair_table.specs.declared.answer.PlanFault.TheVariants.{Memory}
-use Rattle.pfair_table.specs.declared.slot.SlotPlan.{SlotPlan}
 use Rattle.pfair_table.specs.SlotPlans.{IsNextPlan, after_plan}
 use Rattle.pfair_table.proofs.Keeping.{plan_now, step_now, kept_next, whole_plan}
 use Rattle.pfair_table.proofs.Kept.{tables_long}

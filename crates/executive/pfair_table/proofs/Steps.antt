@@ -1,8 +1,6 @@
 -- A dispatcher's parts from one slot to the next, and from one replica to one that is above it.
-use Rattle.std.proofs.Common.{ℕ, zero, suc, ◌+◌, ◌*◌, ◌≤◌, ◌<◌, ◌≡◌, refl, sym, ◌∙◌, subst, arith, cond, Bool, false, List, ◌∷◌, ◌++◌, length, map, Option, Some, None, flat_map, nat_lt, Result, IfOk, OnOk, []}
-use Rattle.pfair_table.proofs.Common.{length-append, map-append, Logged, Said, Announcement, said_by, said_in, sound_beginning, Replica, Below, Untorn, said, frontier, numbers_below, same_said, below_agree, frontier_le, read_by_number, first_by_rank, Queue, boundary, announcements, Roster, Decided, Settings, Origin, Table, eligible, pick, slot_of, all_ran, history, world, table, decisions, IsOf, IsSteady, IsPlanOf, IsInStep, IsKept, heard_before, map_same, among_below}
+use Rattle.pfair_table.proofs.Common.{length-append, map-append, Logged, Said, Announcement, said_by, said_in, sound_beginning, Replica, Below, Untorn, said, frontier, numbers_below, same_said, below_agree, frontier_le, read_by_number, first_by_rank, Queue, boundary, announcements, Roster, Decided, Settings, Origin, Table, eligible, pick, slot_of, all_ran, history, world, table, decisions, IsOf, IsSteady, IsPlanOf, IsInStep, IsKept, heard_before, map_same, among_below, ℕ, zero, suc, ◌+◌, ◌*◌, ◌≤◌, ◌<◌, ◌≡◌, refl, sym, ◌∙◌, subst, arith, cond, Bool, false, List, ◌∷◌, ◌++◌, length, map, Option, Some, None, flat_map, nat_lt, Result, IfOk, OnOk, [], SlotPlan}
 use Rattle.std.specs.declared.alloc.AllocError.{AllocError}
-use Rattle.pfair_table.specs.declared.slot.SlotPlan.{SlotPlan}
 use Rattle.pfair_table.proofs.TableLaws.{same_history, one_table}
 use Rattle.pfair_table.proofs.Runs.{below_all, length_numbers}
 

@@ -1,8 +1,6 @@
 -- The proofs of the laws of tables and plans.
-use Rattle.std.proofs.Common.{ℕ, zero, suc, ◌<◌, ◌≤◌, ◌≡◌, refl, sym, ap, ◌∙◌, arith, inl, inr, List, [], ◌∷◌, ◌++◌, min, map, filter, AllPairs}
-use Rattle.pfair_table.proofs.Common.{cases_lt, length-map, map-append, append_assoc, append-nil, Key, among_below, map_same, NamesApart, apart_filter, apart_map, said, frontier, numbers_below, same_said, mark_le, frontier_le, below_agree, Member, next_key, first_by_rank, Settings, Origin, eligible, is_eligible, chosen, pick, members_before, slot_of, table, Story, history, world, Pick, IsFit, IsPrefixOf, OneTable, PlansGoOn, OnePlan, TablesAreOrdered}
-use Rattle.pfair_order.specs.Order.{GoesBefore}
-use Rattle.pfair_order.proofs.NamesApart.{first_names}
+use Rattle.std.proofs.Common.{filter}
+use Rattle.pfair_table.proofs.Common.{cases_lt, length-map, map-append, append_assoc, append-nil, Key, among_below, map_same, NamesApart, apart_filter, apart_map, said, frontier, numbers_below, same_said, mark_le, frontier_le, below_agree, Member, next_key, first_by_rank, Settings, Origin, eligible, is_eligible, chosen, pick, members_before, slot_of, table, Story, history, world, Pick, IsFit, IsPrefixOf, OneTable, PlansGoOn, OnePlan, TablesAreOrdered, ℕ, zero, suc, ◌<◌, ◌≤◌, ◌≡◌, refl, sym, ap, ◌∙◌, arith, inl, inr, List, [], ◌∷◌, ◌++◌, min, map, AllPairs, GoesBefore, first_names}
 use Rattle.pfair_table.proofs.FirstByRank.{length_first, rising_first}
 use Rattle.pfair_table.proofs.Members.{label, named_from}
 

@@ -1,6 +1,6 @@
 -- What is said is within the limits of announcements.
-use Rattle.std.proofs.Common.{ℕ, ◌+◌, subst, sym, List, Option, IfSome}
-use Rattle.pfair_table.proofs.Common.{AllByRecursion, Announcement, Said, IsWithinLimits, IsWeighed, announcements, all_among, among_contains, among_map, Replica, IsReplica, said, read_by_number}
+use Rattle.std.proofs.Common.{IfSome}
+use Rattle.pfair_table.proofs.Common.{AllByRecursion, Announcement, Said, IsWithinLimits, IsWeighed, announcements, all_among, among_contains, among_map, Replica, IsReplica, said, read_by_number, ℕ, ◌+◌, subst, sym, List, Option}
 use Rattle.pfair_replica.proofs.SaidListed.{is_said}
 
 abbrev pub AreWithinLimits : List Said → Type 0

@@ -1,8 +1,5 @@
 -- Followers that go on, one step after another.
-use Rattle.std.proofs.Common.{ℕ, ◌≡◌, refl, sym, ap, subst, ◌∙◌, arith, List, [], ◌++◌, length, Option, Some, None, Result, Ok, Err, max}
-use Rattle.pfair_feed.proofs.Common.{appends-more, Appends, Keeps, append-nil, length-map, lines_text, IsPrefixOf, Dispatch, IsWholePlan, Follow, news, HasGoneOn, IsCaughtUp}
-use Rattle.std.specs.Result.{IsErrAnd}
-use Rattle.pfair_text.proofs.RowFacts.{lines_text-append}
+use Rattle.pfair_feed.proofs.Common.{appends-more, Appends, Keeps, append-nil, length-map, lines_text, IsPrefixOf, Dispatch, IsWholePlan, Follow, news, HasGoneOn, IsCaughtUp, ℕ, ◌≡◌, refl, sym, ap, subst, ◌∙◌, arith, List, [], ◌++◌, length, Option, Some, None, Result, Ok, Err, max, IsErrAnd, lines_text-append}
 use Rattle.pfair_feed.proofs.RowsGoOn.{none_behind, rows_go_on}
 use Rattle.pfair_feed.proofs.Plans.{grown_same, longer, prefix_trans}
 

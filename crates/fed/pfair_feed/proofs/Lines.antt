@@ -1,12 +1,8 @@
 -- Lines that are fed, byte after byte, where only the first bytes of the open line are kept.
-use Rattle.std.proofs.Common.{ℕ, suc, true, false, Bool, ◌+◌, ◌≡◌, ◌≢◌, ◌≤◌, ◌<◌, refl, sym, ap, subst, ◌∙◌, arith, inl, inr, List, [], ◌∷◌, ◌++◌, length, take, drop, drop-cons, get_or, Option, Some, Result, Ok, Err, append_assoc, ◌⊎◌, IfErr, slice_get}
-use Rattle.pfair_feed.proofs.Common.{AllByRecursion, flat_map, Consumes, IsAtEnd, cases_lt, append-nil, length-append, length-drop, length-take, take_all, take-append-le, SameShape, replica_of, Replica, Follow, IsPlannedOut, AreFedBytes, AreLines, AreTakenFrom, IsCaughtUp, IsFedLine, IsFedTo, IsLeft, IsOneLine, IsStopped, IsTakenFrom, IsWelcome, ended, question}
-use Rattle.std.specs.Result.{IsErrAnd}
-use Rattle.std.proofs.KnownBytes.{Consumes-nil, Consumes-trans, Keeps-refl}
-use Rattle.std.proofs.lemmas.Grind.{flat_map-append}
+use Rattle.std.proofs.Common.{drop-cons, IfErr}
+use Rattle.pfair_feed.proofs.Common.{AllByRecursion, flat_map, Consumes, IsAtEnd, cases_lt, append-nil, length-append, length-drop, length-take, take_all, take-append-le, SameShape, replica_of, Replica, Follow, IsPlannedOut, AreFedBytes, AreLines, AreTakenFrom, IsCaughtUp, IsFedLine, IsFedTo, IsLeft, IsOneLine, IsStopped, IsTakenFrom, IsWelcome, ended, question, ℕ, suc, true, false, Bool, ◌+◌, ◌≡◌, ◌≢◌, ◌≤◌, ◌<◌, refl, sym, ap, subst, ◌∙◌, arith, inl, inr, List, [], ◌∷◌, ◌++◌, length, take, drop, get_or, Option, Some, Result, Ok, Err, append_assoc, ◌⊎◌, slice_get, IsErrAnd, Keeps-refl, flat_map-append, is_refusal, ProgramFault}
+use Rattle.std.proofs.KnownBytes.{Consumes-nil, Consumes-trans}
 use Rattle.pfair_entry_row.specs.Laws.{RowsAreShort}
-use Rattle.pfair_file.specs.ProgramFaults.{is_refusal}
-use Rattle.pfair_file.specs.declared.program_fault.ProgramFault.{ProgramFault}
 use Rattle.pfair_file.specs.declared.program_fault.ProgramFault.TheVariants.{ReadFailed}
 use Rattle.pfair_feed.proofs.Going.{gone_trans, stays}
 use Rattle.pfair_feed.proofs.ScriptRows.{all_append}

@@ -1,6 +1,6 @@
 -- Bytes are lines in one way.
-use Rattle.std.proofs.Common.{arith, ℕ, ◌≡◌, ◌≢◌, refl, sym, ◌∙◌, List, [], ◌∷◌, ◌++◌, append_assoc, flat_map}
-use Rattle.pfair_feed.proofs.Common.{IsOneLine, ended}
+use Rattle.std.proofs.Common.{flat_map}
+use Rattle.pfair_feed.proofs.Common.{IsOneLine, ended, arith, ℕ, ◌≡◌, ◌≢◌, refl, sym, ◌∙◌, List, [], ◌∷◌, ◌++◌, append_assoc}
 use Rattle.pfair_feed.specs.Laws.{LinesAreOne}
 
 -- the head and the tail of equal lists

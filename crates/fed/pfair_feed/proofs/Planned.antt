@@ -1,6 +1,5 @@
 -- The slots of a whole plan.
-use Rattle.std.proofs.Common.{arith, ℕ, ◌≡◌, ap, ◌∙◌, List, None, length, map, min, zero, suc, refl, sym, [], ◌∷◌, fold}
-use Rattle.pfair_feed.proofs.Common.{length-map, replica_of, frontier, numbers_below, empty_replica, mark, said, Dispatch, IsWholePlan, course_of, Origin, table, plan, decisions, Settings, plan_decisions, Course, begin_at}
+use Rattle.pfair_feed.proofs.Common.{length-map, replica_of, frontier, numbers_below, empty_replica, mark, said, Dispatch, IsWholePlan, course_of, Origin, table, plan, decisions, Settings, plan_decisions, Course, begin_at, arith, ℕ, ◌≡◌, ap, ◌∙◌, List, None, length, map, min, zero, suc, refl, sym, [], ◌∷◌, fold}
 use Rattle.pfair_table.proofs.Runs.{length_numbers}
 
 pub so_many : {A : Type 0} (f : ℕ → A) (n : ℕ) → length (map f (numbers_below n)) ≡ n

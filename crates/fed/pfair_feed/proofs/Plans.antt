@@ -1,6 +1,5 @@
 -- What plans add to what was planned.
-use Rattle.std.proofs.Common.{◌≡◌, ◌≤◌, sym, ap, ◌∙◌, arith, List, [], ◌++◌, length, append_assoc}
-use Rattle.pfair_feed.proofs.Common.{append-nil, length-append, IsPrefixOf, Dispatch, IsGrown}
+use Rattle.pfair_feed.proofs.Common.{append-nil, length-append, IsPrefixOf, Dispatch, IsGrown, ◌≡◌, ◌≤◌, sym, ap, ◌∙◌, arith, List, [], ◌++◌, length, append_assoc}
 
 pub prefix_same : {A : Type 0} (xs ys : List A) → ys ≡ xs → IsPrefixOf xs ys
 prefix_same xs ys e = ([], append-nil xs ∙ sym e)

@@ -1,17 +1,13 @@
 -- What a line that is read brings.
-use Rattle.std.proofs.Common.{arith, ℕ, ◌≡◌, ◌≢◌, refl, sym, ap, subst, ◌∙◌, List, Option, Ok, true, false, inl, inr, ◌≤◌, Bool, length, min, None, Some, ◌⊎◌, ◌&&◌, ◌==◌, not, nat_lt, if◌then◌else◌}
-use Rattle.pfair_feed.proofs.Common.{Keeps, TakesPrefix, Logged, replica_of, held, Replica, frontier, has_torn, only, with_entry, Follow, IsSameRun, IsStopOf, news, IsGrown, HasFailed, HasStood, IsCaughtUp, IsFedLine, IsTakenFrom, and_parts, eqb-true, ltb-true, Settings}
+use Rattle.std.proofs.Common.{◌&&◌, ◌==◌, not, nat_lt}
+use Rattle.pfair_feed.proofs.Common.{Keeps, TakesPrefix, Logged, replica_of, held, Replica, frontier, has_torn, only, with_entry, Follow, IsSameRun, IsStopOf, news, IsGrown, HasFailed, HasStood, IsCaughtUp, IsFedLine, IsTakenFrom, and_parts, eqb-true, ltb-true, Settings, arith, ℕ, ◌≡◌, ◌≢◌, refl, sym, ap, subst, ◌∙◌, List, Option, Ok, true, false, inl, inr, ◌≤◌, Bool, length, min, None, Some, ◌⊎◌, if◌then◌else◌, taken, ProgramFault, WriteFailed, Memory, is_refusal, One, Held, entry_exact, entry_eq}
 use Rattle.pfair_entry_row.specs.Faults.{IsReadingOf, Reading}
 use Rattle.pfair_entry_row.specs.Row.{entry_row, IsEntryAt}
-use Rattle.pfair_replica.specs.Offered.{taken, has_key}
-use Rattle.pfair_file.specs.declared.program_fault.ProgramFault.{ProgramFault}
-use Rattle.pfair_file.specs.declared.program_fault.ProgramFault.TheVariants.{NoSuchProcessor, NumberOutOfRange, WriteFailed, Memory, Row}
-use Rattle.pfair_file.specs.ProgramFaults.{is_refusal}
+use Rattle.pfair_replica.specs.Offered.{has_key}
+use Rattle.pfair_file.specs.declared.program_fault.ProgramFault.TheVariants.{NoSuchProcessor, NumberOutOfRange, Row}
 use Rattle.pfair_feed.proofs.Going.{stays}
-use Rattle.pfair_lattice.specs.declared.join_map.Flat.TheVariants.{One, Torn}
-use Rattle.pfair_lattice.specs.Held.{Held, held_join}
-use Rattle.pfair_entry.specs.Exact.{entry_exact}
-use Rattle.pfair_entry.specs.Same.{entry_eq}
+use Rattle.pfair_lattice.specs.declared.join_map.Flat.TheVariants.{Torn}
+use Rattle.pfair_lattice.specs.Held.{held_join}
 use Rattle.pfair_replica.specs.HeldAfter.{join_none}
 use Rattle.pfair_feed.proofs.Plans.{longer}
 use Rattle.pfair_feed.proofs.Planned.{planned}

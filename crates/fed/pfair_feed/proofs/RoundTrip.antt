@@ -1,21 +1,14 @@
 -- Lines that have the rows of a script leave the script.
-use Rattle.std.proofs.Common.{ℕ, ◌+◌, ◌<◌, ◌≤◌, ◌≡◌, inl, inr, refl, sym, ap, subst, ◌∙◌, arith, List, [], ◌∷◌, map, Some, None, ◌++◌, ◌⊎◌}
-use Rattle.pfair_feed.proofs.Common.{appends-more, AllByRecursion, and_parts, leb-true, ltb-true, Logged, Below, Replica, empty_replica, run_of, Course, run, Settings, AreTakenFrom, IsTakenFrom, AreAmong, BringsNothing, HasScheduleOf, IsOneOf, IsPlaced, IsScript, Placed, placed_in, replica_with_room, row_of, rows_of, HaveTheRows, line, Output, header_of, Appends, replica_of, news}
-use Rattle.pfair_lattice.specs.declared.join_map.Flat.TheVariants.{One}
+use Rattle.pfair_feed.proofs.Common.{appends-more, AllByRecursion, and_parts, leb-true, ltb-true, Logged, Below, Replica, empty_replica, run_of, Course, run, Settings, AreTakenFrom, IsTakenFrom, AreAmong, BringsNothing, HasScheduleOf, IsOneOf, IsPlaced, IsScript, Placed, placed_in, replica_with_room, row_of, rows_of, HaveTheRows, line, Output, header_of, Appends, replica_of, news, ℕ, ◌+◌, ◌<◌, ◌≤◌, ◌≡◌, inl, inr, refl, sym, ap, subst, ◌∙◌, arith, List, [], ◌∷◌, map, Some, None, ◌++◌, ◌⊎◌, One, RowsAreLines, taken, LoggedRun, capacity_of, contents_of, replica_of_logs, entry_eq, entry_exact, WholeRows, text_of}
 use Rattle.pfair_lattice.specs.Held.{HeldBelow}
-use Rattle.pfair_entry_row.specs.Laws.{EachEntryHasItsRow, RowsAreLines}
-use Rattle.pfair_replica.specs.Offered.{taken}
+use Rattle.pfair_entry_row.specs.Laws.{EachEntryHasItsRow}
 use Rattle.pfair_table.specs.EventLaws.{EventsLeaveTheLeast, IsBroughtBelow}
-use Rattle.pfair_table.specs.Script.{LoggedRun, capacity_of, contents_of, replica_of_logs}
 use Rattle.pfair_feed.specs.Laws.{EntriesAreTheirRows, EntriesGiveTheirSchedule, OrderIsNothing, WholeText, FedEntriesGiveTheirText}
 use Rattle.pfair_feed.proofs.ScriptRows.{all_placed, at_logs, entries_are_lines, in_logs}
 use Rattle.pfair_feed.proofs.Schedules.{schedule_with_room}
 use Rattle.pfair_lattice.specs.HeldLaws.{below_antisym}
-use Rattle.pfair_entry.specs.Same.{entry_eq}
-use Rattle.pfair_entry.specs.Exact.{entry_exact}
 use Rattle.pfair_table.specs.declared.run.Event.{Event}
 use Rattle.pfair_table.specs.declared.run.Event.TheVariants.{Take}
-use Rattle.pfair_feed.specs.RowLaws.{WholeRows, text_of}
 use Rattle.pfair_feed.proofs.OneWay.{lines_are_one}
 
 -- the contents after some entries

@@ -1,9 +1,5 @@
 -- Two runs whose followers hold what agrees have written texts of which one begins the other.
-use Rattle.std.proofs.Common.{ℕ, ◌<◌, ◌≡◌, inl, inr, refl, sym, ap, subst, ◌∙◌, arith, List, [], ◌∷◌, ◌++◌, length, map, Some, slice_get, suc, ◌≤◌, ◌⊎◌, max}
-use Rattle.pfair_feed.proofs.Common.{AllByRecursion, cases_order, lines_text, replica_of, Replica, empty_replica, frontier, numbers_below, said, Course, IsOf, IsPrefixOf, OneTable, Dispatch, HavePlannedAlike, IsWholePlan, Settings, Origin, Table, decisions, table, Output, Follow, news, HaveWrittenAlike, rows_in, AreTakenFrom, IsBegun, IsPlaced, Placed, same_Some}
-use Rattle.pfair_text.proofs.RowFacts.{lines_text-append}
-use Rattle.pfair_replica.specs.Offered.{taken}
-use Rattle.pfair_table.specs.declared.slot.Decided.{Decided}
+use Rattle.pfair_feed.proofs.Common.{AllByRecursion, cases_order, lines_text, replica_of, Replica, empty_replica, frontier, numbers_below, said, Course, IsOf, IsPrefixOf, OneTable, Dispatch, HavePlannedAlike, IsWholePlan, Settings, Origin, Table, decisions, table, Output, Follow, news, HaveWrittenAlike, rows_in, AreTakenFrom, IsBegun, IsPlaced, Placed, same_Some, ℕ, ◌<◌, ◌≡◌, inl, inr, refl, sym, ap, subst, ◌∙◌, arith, List, [], ◌∷◌, ◌++◌, length, map, Some, slice_get, suc, ◌≤◌, ◌⊎◌, max, lines_text-append, taken, Decided}
 use Rattle.pfair_replica.proofs.OfferedTo.{offered_stays}
 use Rattle.pfair_feed.specs.Laws.{RunsWriteAlike}
 use Rattle.pfair_feed.proofs.Going.{even}

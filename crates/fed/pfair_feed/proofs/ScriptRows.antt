@@ -1,12 +1,8 @@
 -- The entries of logs: their rows, and where they stand.
-use Rattle.std.proofs.Common.{ℕ, zero, suc, ◌+◌, ◌<◌, ◌≤◌, ◌≡◌, inl, inr, refl, sym, ap, subst, ◌∙◌, arith, true, List, [], ◌∷◌, ◌++◌, length, map, Some, None, flat_map, drop, take, slice_get, append_assoc, ◌⊎◌}
-use Rattle.pfair_feed.proofs.Common.{AllByRecursion, list_all, and_parts, leb-true, append-nil, map-append, lines_text, line, Logged, IsLoggable, entries_text, log_rows, numbered_from, AreLines, IsOneLine, ended, IsOneOf, IsPlaced, IsScript, Placed, placed_from, placed_in, row_of, rows_of, same_Some}
-use Rattle.std.proofs.lemmas.Grind.{flat_map-append}
-use Rattle.pfair_text.proofs.RowFacts.{first_left, lines_text-append}
-use Rattle.pfair_lattice.specs.declared.join_map.Flat.TheVariants.{One}
-use Rattle.pfair_entry_row.specs.Laws.{RowsAreLines}
-use Rattle.pfair_output.specs.Slots.{slots_from}
-use Rattle.pfair_table.specs.Script.{LoggedRun, capacity_of, contents_of, entry_of, is_short}
+use Rattle.std.proofs.Common.{flat_map}
+use Rattle.pfair_feed.proofs.Common.{AllByRecursion, list_all, and_parts, leb-true, append-nil, map-append, lines_text, line, Logged, IsLoggable, entries_text, log_rows, numbered_from, AreLines, IsOneLine, ended, IsOneOf, IsPlaced, IsScript, Placed, placed_from, placed_in, row_of, rows_of, same_Some, ℕ, zero, suc, ◌+◌, ◌<◌, ◌≤◌, ◌≡◌, inl, inr, refl, sym, ap, subst, ◌∙◌, arith, true, List, [], ◌∷◌, ◌++◌, length, map, Some, None, drop, take, slice_get, append_assoc, ◌⊎◌, flat_map-append, lines_text-append, One, RowsAreLines, slots_from, LoggedRun, capacity_of, contents_of}
+use Rattle.pfair_text.proofs.RowFacts.{first_left}
+use Rattle.pfair_table.specs.Script.{entry_of, is_short}
 use Rattle.pfair_entry_row.specs.Row.{entry_fields}
 
 -- ---- their rows

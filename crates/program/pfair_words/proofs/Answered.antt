@@ -1,6 +1,6 @@
 -- What the parser makes of the words of a program gives what is answered.
-use Rattle.std.proofs.Common.{◌≡◌, subst, sym, inl, inr, List, Result, Ok, Err, IsErrAnd}
-use Rattle.pfair_words.proofs.Common.{App, Text, subcommand_rows_of, IsParsed, Named, Help, Matches, ProgramFault, CommandLine, Memory}
+use Rattle.std.proofs.Common.{IsErrAnd}
+use Rattle.pfair_words.proofs.Common.{App, Text, subcommand_rows_of, IsParsed, Named, Help, Matches, ProgramFault, CommandLine, Memory, ◌≡◌, subst, sym, inl, inr, List, Result, Ok, Err}
 use Rattle.pfair_words.specs.Answers.{ToAny, ToWords}
 use Rattle.pfair_words.specs.declared.command.Parsed.{Parsed}
 

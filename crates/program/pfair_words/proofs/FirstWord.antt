@@ -1,15 +1,10 @@
 -- Words that the parser takes begin with the name of the command that they are answered by.
-use Rattle.std.proofs.Common.{rules, ◌≡◌, ◌∙◌, ℕ, zero, suc, Bool, true, false, refl, sym, ap, subst, List, [], ◌∷◌, Option, Some, None, codes, true≢false, is_some, length, inl, inr, Result, Ok, Err, arith}
-use Rattle.pfair_words.proofs.Common.{Kinds, Row, Text, fault_of, subcommand_of, Named, Begins, IsNamedFirst, ProgramFault, CommandLine, Memory, line}
+use Rattle.std.proofs.Common.{rules, zero, suc, true≢false, is_some, length}
+use Rattle.pfair_words.proofs.Common.{Kinds, Row, Text, fault_of, subcommand_of, Named, Begins, IsNamedFirst, ProgramFault, CommandLine, Memory, line, ◌≡◌, ◌∙◌, ℕ, Bool, true, false, refl, sym, ap, subst, List, [], ◌∷◌, Option, Some, None, codes, inl, inr, Result, Ok, Err, arith, bytes_eq, or_else, step_fault, turn_fault, long_of, short_of, subcommand_met, idle, nothing_held, IsAnswer, IsAnswerTo, IsAnswerToAny, Asked}
 use Rattle.std.proofs.lemmas.Slice.Eq.{bytes_eq-Decides}
-use Rattle.std.specs.Str.{bytes_eq}
-use Rattle.clap.specs.Kinds.{or_else}
-use Rattle.clap.specs.Faults.{flags_fault, long_fault, step_fault, turn_fault, walk_fault}
-use Rattle.clap.specs.Lexer.{long_of, short_of}
-use Rattle.clap.specs.Walk.{Held, Outcome, after_flag, arg_by_long, bundle_met, long_met, subcommand_met, idle, nothing_held, plain}
+use Rattle.clap.specs.Faults.{flags_fault, long_fault, walk_fault}
+use Rattle.clap.specs.Walk.{Held, Outcome, after_flag, arg_by_long, bundle_met, long_met, plain}
 use Rattle.clap.proofs.OnLiterals.{clap_on_literals}
-use Rattle.pfair_words.specs.ScheduleAsked.{IsAnswer, IsAnswerTo, IsAnswerToAny}
-use Rattle.pfair_words.specs.declared.schedule.Asked.{Asked}
 use Rattle.pfair_words.specs.declared.schedule.Asked.TheVariants.{Help}
 use Rattle.pfair_words.proofs.LineFacts.{named, names, start, top}
 

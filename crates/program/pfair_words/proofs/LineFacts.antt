@@ -1,18 +1,12 @@
 -- What the parser makes of words of which none is a flag.
-use Rattle.std.proofs.Common.{◌≡◌, ◌≢◌, ◌∙◌, ℕ, Bool, cond, true, false, refl, subst, sym, ap, ap₂, List, [], ◌∷◌, Some, None, codes, arith, nat_eq}
-use Rattle.pfair_words.proofs.Common.{App, Kinds, Row, Rule, Text, fault_of, first_of, subcommand_of, walk_stopped, line, cost, count, decisions, lags, period, replay, windows, IsPlain}
+use Rattle.std.proofs.Common.{◌≢◌, cond, ap₂, nat_eq}
+use Rattle.pfair_words.proofs.Common.{App, Kinds, Row, Rule, Text, fault_of, first_of, subcommand_of, walk_stopped, line, cost, count, decisions, lags, period, replay, windows, IsPlain, ◌≡◌, ◌∙◌, ℕ, Bool, true, false, refl, subst, sym, ap, List, [], ◌∷◌, Some, None, codes, arith, bytes_eq, long_of, short_of, idle, nothing_held, one_of, subcommand_met, or_else, step_fault, turn_fault, accepts, IsAmong, ErrorKind, DisplayHelp, DisplayVersion}
 use Rattle.std.proofs.lemmas.Bool.Decides.{nat_tests}
-use Rattle.std.specs.Str.{bytes_eq}
-use Rattle.clap.specs.Lexer.{long_of, short_of}
-use Rattle.clap.specs.Walk.{Names, Walk, arg_by_index, finished, idle, nothing_held, one_of, rows_after, settled, subcommand_met, to_positional, value, walk_from, walked}
+use Rattle.clap.specs.Walk.{Names, Walk, arg_by_index, finished, rows_after, settled, to_positional, value, walk_from, walked}
 use Rattle.clap.specs.Simple.{Shape, built, built_leaf, entered, inherited, names_of}
-use Rattle.clap.specs.Kinds.{or_else}
-use Rattle.clap.specs.Faults.{check_fault, defaults_fault, level_fault, settle_fault, step_fault, turn_fault, walk_fault}
+use Rattle.clap.specs.Faults.{check_fault, defaults_fault, level_fault, settle_fault, walk_fault}
 use Rattle.clap.specs.Facts.{parser_of_value}
-use Rattle.clap.specs.ValueTests.{accepts}
-use Rattle.clap.specs.Words.{IsAmong}
-use Rattle.clap.specs.declared.error.kind.ErrorKind.{ErrorKind}
-use Rattle.clap.specs.declared.error.kind.ErrorKind.TheVariants.{DisplayHelp, DisplayVersion, MissingSubcommand, ValueValidation}
+use Rattle.clap.specs.declared.error.kind.ErrorKind.TheVariants.{MissingSubcommand, ValueValidation}
 use Rattle.clap.proofs.OnLiterals.{clap_on_literals}
 
 -- the word is one that the parser of the argument takes

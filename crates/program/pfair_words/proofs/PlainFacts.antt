@@ -1,16 +1,11 @@
 -- What is answered to the forms of the commands.
-use Rattle.std.proofs.Common.{◌↔◌, ◌≡◌, ℕ, Bool, inl, inr, true, false, refl, ap, subst, ◌∙◌, ◌≤◌, arith, List, [], ◌∷◌, Option, Some, IfOk, Result, Ok, Err, codes}
-use Rattle.pfair_words.proofs.Common.{IsAmong, Row, Text, fault_of, first_of, subcommand_of, IsFlag, Named, Spells, line, windows, replay, decisions, lags, AskNumbers, HasCount, IsDecisionsAnswer, IsLagsAnswer, IsPlain, IsPlainAnswer, IsRefusal, IsReplayAnswer, IsTextAnswer, IsWindowsAnswer, ProgramFault, Weight, CommandLine, Memory}
-use Rattle.clap.specs.Walk.{one_of}
-use Rattle.clap.specs.declared.error.kind.ErrorKind.{ErrorKind}
-use Rattle.clap.specs.declared.error.kind.ErrorKind.TheVariants.{DisplayHelp, DisplayVersion}
-use Rattle.clap.specs.ValueTests.{accepts}
+use Rattle.std.proofs.Common.{◌↔◌, ◌≤◌}
+use Rattle.pfair_words.proofs.Common.{IsAmong, Row, Text, fault_of, first_of, subcommand_of, IsFlag, Named, Spells, line, windows, replay, decisions, lags, AskNumbers, HasCount, IsDecisionsAnswer, IsLagsAnswer, IsPlain, IsPlainAnswer, IsRefusal, IsReplayAnswer, IsTextAnswer, IsWindowsAnswer, ProgramFault, Weight, CommandLine, Memory, ◌≡◌, ℕ, Bool, inl, inr, true, false, refl, ap, subst, ◌∙◌, arith, List, [], ◌∷◌, Option, Some, IfOk, Result, Ok, Err, codes, one_of, ErrorKind, DisplayHelp, DisplayVersion, accepts, IsAnswer, IsAnswerTo, IsAnswerToAny, IsText, Asked}
 use Rattle.clap.specs.declared.builder.value_parser.ValueParser.TheVariants.{Unsigned}
 use Rattle.clap.proofs.ValueTestLemmas.{Accepts-accepts}
 use Rattle.pfair_words.specs.Answers.{ToUntaken}
 use Rattle.pfair_words.specs.Parse.{IsTextKind}
-use Rattle.pfair_words.specs.ScheduleAsked.{AskWindows, IsAnswer, IsAnswerTo, IsAnswerToAny, IsText}
-use Rattle.pfair_words.specs.declared.schedule.Asked.{Asked}
+use Rattle.pfair_words.specs.ScheduleAsked.{AskWindows}
 use Rattle.pfair_words.specs.declared.schedule.Asked.TheVariants.{Windows}
 use Rattle.pfair_words.proofs.FirstWord.{first_answer}
 use Rattle.pfair_words.proofs.LineFacts as line

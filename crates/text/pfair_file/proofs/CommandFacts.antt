@@ -1,5 +1,6 @@
 -- How a command over a task file ends, whatever it writes.
-use Rattle.std.proofs.Common.{arith, ℕ, List, Option, None, Some, Result, Ok, Err, ◌≡◌, refl, subst, sym, IfSome, IsErrAnd}
+use Rattle.pfair_file.proofs.Common.{arith, ℕ, List, Option, None, Some, Result, Ok, Err, ◌≡◌, refl, subst, sym}
+use Rattle.std.proofs.Common.{IfSome, IsErrAnd}
 use Rattle.std.specs.Io.KnownBytes.{Appends, Keeps}
 use Rattle.pfair_text.specs.Output.{TakesPrefix}
 use Rattle.pfair_file.specs.Commands.{IsCommandOf}

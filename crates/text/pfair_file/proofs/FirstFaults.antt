@@ -1,6 +1,5 @@
 -- The first table that has a fault.
-use Rattle.std.proofs.Common.{ℕ, List, [], ◌∷◌, ◌++◌, Result, Ok, Err, ◌≡◌, ◌+◌, length, refl, ap, arith, ◌∙◌}
-use Rattle.pfair_file.proofs.Common.{Members, Logs, with_entries, with_entry, FileFault}
+use Rattle.pfair_file.proofs.Common.{Members, Logs, with_entries, with_entry, FileFault, ℕ, List, [], ◌∷◌, ◌++◌, Result, Ok, Err, ◌≡◌, ◌+◌, length, refl, ap, arith, ◌∙◌}
 use Rattle.pfair_file.specs.FirstFault.{IsOfFirstTable, FirstTableIsAtFault}
 
 -- a fault of some tables is the fault of one of them

@@ -1,7 +1,6 @@
 -- The lengths of logs.
-use Rattle.std.proofs.Common.{ℕ, List, [], ◌∷◌, true, Vec, Global, ◌≡◌, ◌≤◌, length, length-append, refl, arith, vec_len, All}
-use Rattle.pfair_file.proofs.Common.{Logged, is_short, lists_of, close_all, closed}
-use Rattle.std.specs.List.{list_all}
+use Rattle.std.proofs.Common.{length-append}
+use Rattle.pfair_file.proofs.Common.{Logged, is_short, lists_of, close_all, closed, ℕ, List, [], ◌∷◌, true, Vec, Global, ◌≡◌, ◌≤◌, length, refl, arith, vec_len, All, list_all}
 use Rattle.std.proofs.lemmas.Bool.{and_from}
 use Rattle.std.proofs.lemmas.List.Elements.{All-head, All-tail}
 use Rattle.std.proofs.lemmas.Bool.Decides.{nat_tests}

@@ -1,7 +1,6 @@
 -- The tables of an array, one after the other.
-use Rattle.std.proofs.Common.{arith, ℕ, List, [], ◌∷◌, is_some, refl, sym, true, Option, None, ◌∙◌, Some, Err, ◌≡◌, ◌+◌, ◌<◌, length, drop, get_or}
-use Rattle.pfair_file.proofs.Common.{Data, Items, Members, as_table, item, items_view, view, Logs, tables_of, with_entries, with_entry, with_items, FileFault}
-use Rattle.std.specs.List.{list_all}
+use Rattle.std.proofs.Common.{is_some}
+use Rattle.pfair_file.proofs.Common.{Data, Items, Members, as_table, item, items_view, view, Logs, tables_of, with_entries, with_entry, with_items, FileFault, arith, ℕ, List, [], ◌∷◌, refl, sym, true, Option, None, ◌∙◌, Some, Err, ◌≡◌, ◌+◌, ◌<◌, length, drop, get_or, list_all}
 use Rattle.toml.specs.declared.value.Value.{Value}
 use Rattle.toml.proofs.Views.{items_view-drop}
 

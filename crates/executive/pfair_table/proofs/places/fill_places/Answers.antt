@@ -1,5 +1,4 @@
-use Rattle.std.proofs.Common.{ℕ, ◌+◌, ◌++◌, ◌∙◌, sym, ap, subst, arith, drop, List, [], ◌∷◌, Option}
-use Rattle.pfair_table.proofs.Common.{drop_all, append-nil, all_kept, filled}
+use Rattle.pfair_table.proofs.Common.{drop_all, append-nil, all_kept, filled, ℕ, ◌+◌, ◌++◌, ◌∙◌, sym, ap, subst, arith, drop, List, [], ◌∷◌, Option}
 use Rattle.pfair_table.proofs.PlacesKept.{kept_count}
 use Rattle.pfair_table.proofs.Filling.{AreFilledSoFar, filled_kept, filled_free, next_row, room_left, not_full}
 use Rattle.pfair_table.proofs.places.fill_places.Goals.{in-Some, in-None}

@@ -1,5 +1,4 @@
-use Rattle.std.proofs.Common.{drop}
-use Rattle.pfair_table.proofs.Common.{all_kept, filled}
+use Rattle.pfair_table.proofs.Common.{all_kept, filled, drop}
 use Rattle.pfair_table.proofs.Filling.{AreFilledSoFar}
 use Rattle.pfair_table.proofs.places.fill_places.Given as goal
 

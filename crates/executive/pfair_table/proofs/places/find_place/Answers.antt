@@ -1,7 +1,6 @@
-use Rattle.std.proofs.Common.{ℕ, ◌≡◌, refl, sym, ap, ◌∙◌, arith, inl, inr, List, [], ◌∷◌, length, Some, None, Iter, if◌then◌else◌}
-use Rattle.pfair_table.proofs.Common.{nil_from_length, Pick, Table, place_of}
+use Rattle.std.proofs.Common.{Iter}
+use Rattle.pfair_table.proofs.Common.{nil_from_length, Pick, Table, place_of, ℕ, ◌≡◌, refl, sym, ap, ◌∙◌, arith, inl, inr, List, [], ◌∷◌, length, Some, None, if◌then◌else◌, Name}
 use Rattle.std.specs.declared.iter.Zip.{Zip}
-use Rattle.pfair_ready.specs.Names.{NameValue as Name}
 use Rattle.pfair_table.proofs.places.find_place.Goals as goal
 
 -- without places a table has none for a task

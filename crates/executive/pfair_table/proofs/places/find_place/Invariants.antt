@@ -1,5 +1,4 @@
-use Rattle.std.proofs.Common.{◌≡◌}
-use Rattle.pfair_table.proofs.Common.{place_of}
+use Rattle.pfair_table.proofs.Common.{place_of, ◌≡◌}
 use Rattle.pfair_table.proofs.places.find_place.Given as goal
 
 abbrev pub invariant-loop-pick : goal.invariant-loop-pick

@@ -1,6 +1,4 @@
-use Rattle.std.proofs.Common.{ℕ, ◌≡◌, ◌<◌, ◌∙◌, sym, ap, subst, arith, List, Option, length, IfOk}
-use Rattle.std.proofs.lemmas.Grind.{common_steps}
-use Rattle.pfair_table.proofs.Common.{AllByRecursion, kept_places, all_kept, filled, all_among, among_all}
+use Rattle.pfair_table.proofs.Common.{AllByRecursion, kept_places, all_kept, filled, all_among, among_all, ℕ, ◌≡◌, ◌<◌, ◌∙◌, sym, ap, subst, arith, List, Option, length, IfOk, common_steps}
 use Rattle.pfair_table.proofs.PlacesKept.{kept_among, kept_long}
 use Rattle.pfair_table.proofs.places.places_beside.Goals.{After-deref, then-before-le-FEW_ROWS+else-loop-pick-test, else-before-le-FEW_ROWS+else-loop-pick-else-before-le-FEW_ROWS-test}
 use Rattle.pfair_table.proofs.places.places_beside.Goals as goal

@@ -1,5 +1,4 @@
-use Rattle.std.proofs.Common.{◌≡◌, take}
-use Rattle.pfair_table.proofs.Common.{kept_places}
+use Rattle.pfair_table.proofs.Common.{kept_places, ◌≡◌, take}
 use Rattle.pfair_table.proofs.places.places_beside.Given as goal
 
 abbrev pub invariant-loop-pick : goal.invariant-loop-pick

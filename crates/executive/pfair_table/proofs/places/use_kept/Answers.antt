@@ -1,5 +1,4 @@
-use Rattle.std.proofs.Common.{ℕ, ◌+◌, ◌∙◌, sym, ap, subst, drop, List, ◌∷◌, Option, Some, None}
-use Rattle.pfair_table.proofs.Common.{drop_more, drop_all}
+use Rattle.pfair_table.proofs.Common.{drop_more, drop_all, ℕ, ◌+◌, ◌∙◌, sym, ap, subst, drop, List, ◌∷◌, Option, Some, None}
 use Rattle.pfair_table.proofs.Filling.{AreUsedSoFar, used_start, used_other, used_kept, used_end}
 use Rattle.pfair_table.proofs.places.use_kept.Goals.{in-Some, in_default}
 use Rattle.pfair_table.proofs.places.use_kept.Goals as goal

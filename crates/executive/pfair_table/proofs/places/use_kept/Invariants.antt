@@ -1,4 +1,4 @@
-use Rattle.std.proofs.Common.{drop}
+use Rattle.pfair_table.proofs.Common.{drop}
 use Rattle.pfair_table.proofs.Filling.{AreUsedSoFar}
 use Rattle.pfair_table.proofs.places.use_kept.Given as goal
 

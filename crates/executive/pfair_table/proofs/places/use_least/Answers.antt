@@ -1,7 +1,5 @@
-use Rattle.std.proofs.Common.{◌≡◌, ◌∙◌, ◌*◌, ◌^◌, ◌%◌, sym, subst, arith, bit_or, ◌∷◌, ◌<◌}
-use Rattle.pfair_table.proofs.Common.{free_place}
+use Rattle.pfair_table.proofs.Common.{free_place, ◌≡◌, ◌∙◌, ◌*◌, ◌^◌, ◌%◌, sym, subst, arith, bit_or, ◌∷◌, ◌<◌, AreInUse}
 use Rattle.std.proofs.lemmas.Nat.{or_lt}
-use Rattle.pfair_table.specs.PlacesInUse.{AreInUse}
 use Rattle.pfair_table.proofs.Filling.{lowest_is_free, in_use_with}
 use Rattle.pfair_table.proofs.places.use_least.Goals as goal
 

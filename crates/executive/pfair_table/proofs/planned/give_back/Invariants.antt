@@ -1,4 +1,4 @@
-use Rattle.std.proofs.Common.{◌≡◌, drop}
+use Rattle.pfair_table.proofs.Common.{◌≡◌, drop}
 use Rattle.pfair_table.proofs.planned.give_back.Given as goal
 
 abbrev pub invariant-loop : goal.invariant-loop

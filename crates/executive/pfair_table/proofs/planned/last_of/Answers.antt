@@ -1,4 +1,4 @@
-use Rattle.std.proofs.Common.{◌∙◌, sym, refl, [], Vec, Global}
+use Rattle.pfair_table.proofs.Common.{◌∙◌, sym, refl, [], Vec, Global}
 use Rattle.pfair_table.proofs.PlacesOn.{last_is}
 use Rattle.pfair_table.proofs.planned.last_of.Goals as goal
 

@@ -1,6 +1,4 @@
-use Rattle.std.proofs.Common.{◌≡◌, ◌+◌, ◌∙◌, sym, ap, subst, drop, List}
-use Rattle.pfair_table.proofs.Common.{AllByRecursion, Settings, IsEvent, Course, happens, run, course_of}
-use Rattle.pfair_table.specs.declared.run.Event.{Event}
+use Rattle.pfair_table.proofs.Common.{AllByRecursion, Settings, IsEvent, Course, happens, run, course_of, ◌≡◌, ◌+◌, ◌∙◌, sym, ap, subst, drop, List, Event}
 use Rattle.pfair_table.proofs.QueueKept.{drop_item}
 use Rattle.pfair_table.proofs.run.run_events.Goals as goal
 

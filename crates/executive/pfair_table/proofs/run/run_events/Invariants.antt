@@ -1,5 +1,4 @@
-use Rattle.std.proofs.Common.{◌≡◌, drop, false}
-use Rattle.pfair_table.proofs.Common.{AllByRecursion, IsEvent, run, run_of, course_of}
+use Rattle.pfair_table.proofs.Common.{AllByRecursion, IsEvent, run, run_of, course_of, ◌≡◌, drop, false}
 use Rattle.pfair_table.proofs.run.run_events.Given as goal
 
 abbrev pub invariant-loop-event : goal.invariant-loop-event

@@ -1,4 +1,4 @@
-use Rattle.std.proofs.Common.{◌≡◌, ◌∙◌, sym, length, arith}
+use Rattle.pfair_table.proofs.Common.{◌≡◌, ◌∙◌, sym, length, arith}
 use Rattle.pfair_table.proofs.Scripts.{logged_run, logs_short}
 use Rattle.pfair_table.proofs.script.fits.Goals as goal
 

@@ -1,5 +1,4 @@
-use Rattle.std.proofs.Common.{arith}
-use Rattle.pfair_table.proofs.Common.{lists_of}
+use Rattle.pfair_table.proofs.Common.{lists_of, arith}
 use Rattle.pfair_table.proofs.Scripts.{capacity_some}
 use Rattle.pfair_table.proofs.script.longest.Goals as goal
 

@@ -1,5 +1,5 @@
-use Rattle.std.proofs.Common.{◌≡◌, ◌≤◌, drop, max}
-use Rattle.pfair_table.proofs.Common.{capacity_of, lists_of}
+use Rattle.std.proofs.Common.{max}
+use Rattle.pfair_table.proofs.Common.{capacity_of, lists_of, ◌≡◌, ◌≤◌, drop}
 use Rattle.pfair_table.proofs.script.longest.Given as goal
 
 abbrev pub invariant-loop-log : goal.invariant-loop-log

@@ -1,5 +1,4 @@
-use Rattle.std.proofs.Common.{refl, ◌<◌, ◌≡◌, ◌∙◌, ap, arith, Some, slice_get, length, take, [], ◌∷◌, ◌++◌, ◌+◌}
-use Rattle.pfair_table.proofs.Common.{slice_get_read, taken, held_of}
+use Rattle.pfair_table.proofs.Common.{slice_get_read, taken, held_of, refl, ◌<◌, ◌≡◌, ◌∙◌, ap, arith, Some, slice_get, length, take, [], ◌∷◌, ◌++◌, ◌+◌}
 use Rattle.pfair_table.proofs.Scripts.{taken_next, log_taken}
 use Rattle.pfair_table.proofs.single.take_log.Goals as goal
 

@@ -1,5 +1,4 @@
-use Rattle.std.proofs.Common.{◌≡◌, List, [], ◌∷◌, ◌++◌, take, Some, slice_get}
-use Rattle.pfair_table.proofs.Common.{Logged, replica_of, held_of}
+use Rattle.pfair_table.proofs.Common.{Logged, replica_of, held_of, ◌≡◌, List, [], ◌∷◌, ◌++◌, take, Some, slice_get}
 use Rattle.pfair_table.proofs.single.take_log.Given as goal
 
 abbrev pub invariant-loop-index : goal.invariant-loop-index

@@ -1,5 +1,4 @@
-use Rattle.std.proofs.Common.{◌≡◌, ◌∙◌, sym, ap, arith, length, take}
-use Rattle.pfair_table.proofs.Common.{take-length, empty_replica, Settings, Course, held_of}
+use Rattle.pfair_table.proofs.Common.{take-length, empty_replica, Settings, Course, held_of, ◌≡◌, ◌∙◌, sym, ap, arith, length, take}
 use Rattle.pfair_table.proofs.Scripts.{log_is_short}
 use Rattle.pfair_table.proofs.single.take_script.Goals as goal
 

@@ -1,5 +1,4 @@
-use Rattle.std.proofs.Common.{◌≡◌, [], None, false, take}
-use Rattle.pfair_table.proofs.Common.{replica_of, held_of}
+use Rattle.pfair_table.proofs.Common.{replica_of, held_of, ◌≡◌, [], None, false, take}
 use Rattle.pfair_table.proofs.single.take_script.Given as goal
 
 abbrev pub invariant-loop-processor : goal.invariant-loop-processor

@@ -1,6 +1,4 @@
-use Rattle.std.proofs.Common.{◌≡◌, ◌∙◌, sym, ap, subst, map, List, IfOk}
-use Rattle.pfair_table.proofs.Common.{Key, without, pick, IsQueueWithout, keys_of}
-use Rattle.pfair_ready.specs.declared.Seated.{Seated}
+use Rattle.pfair_table.proofs.Common.{Key, without, pick, IsQueueWithout, keys_of, ◌≡◌, ◌∙◌, sym, ap, subst, map, List, IfOk, Seated}
 use Rattle.pfair_table.proofs.FirstSubtasks.{first_of_queue, first_apart, first_may_run, queue_without}
 use Rattle.pfair_table.proofs.slot.give_quanta.Goals as goal
 

@@ -1,5 +1,4 @@
-use Rattle.std.proofs.Common.{◌≡◌, sym, ap, ◌∙◌, None}
-use Rattle.pfair_table.proofs.Common.{option_copied, member_named, queued}
+use Rattle.pfair_table.proofs.Common.{option_copied, member_named, queued, ◌≡◌, sym, ap, ◌∙◌, None}
 use Rattle.pfair_table.proofs.QueueKept.{notified_gone, notified_next, queued_departing}
 use Rattle.pfair_table.proofs.slot.notify_of.Goals as goal
 

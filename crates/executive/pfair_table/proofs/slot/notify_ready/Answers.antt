@@ -1,5 +1,4 @@
-use Rattle.std.proofs.Common.{◌∙◌, subst, arith}
-use Rattle.pfair_table.proofs.Common.{IsNotifiedOf}
+use Rattle.pfair_table.proofs.Common.{IsNotifiedOf, ◌∙◌, subst, arith}
 use Rattle.pfair_table.proofs.QueueKept.{notified_turn}
 use Rattle.pfair_table.proofs.slot.notify_ready.Goals as goal
 

@@ -1,5 +1,4 @@
-use Rattle.std.proofs.Common.{◌≡◌, drop}
-use Rattle.pfair_table.proofs.Common.{IsQueueBut}
+use Rattle.pfair_table.proofs.Common.{IsQueueBut, ◌≡◌, drop}
 use Rattle.pfair_table.proofs.slot.notify_ready.Given as goal
 
 abbrev pub invariant-loop-said : goal.invariant-loop-said

@@ -1,5 +1,4 @@
-use Rattle.std.proofs.Common.{◌∙◌, ◌≡◌, sym, ap, arith, Bor}
-use Rattle.pfair_table.proofs.Common.{none-some, same_Some, some_at, option_map, Member}
+use Rattle.pfair_table.proofs.Common.{none-some, same_Some, some_at, option_map, Member, ◌∙◌, ◌≡◌, sym, ap, arith, Bor}
 use Rattle.pfair_weight.specs.declared.name.TaskName.{TaskName}
 use Rattle.std.specs.FinMap as finmap
 use Rattle.pfair_table.proofs.QueueKept.{besides_all, besides_at}

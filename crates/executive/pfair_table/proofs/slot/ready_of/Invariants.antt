@@ -1,5 +1,4 @@
-use Rattle.std.proofs.Common.{◌≡◌, drop}
-use Rattle.pfair_table.proofs.Common.{IsQueueBesides}
+use Rattle.pfair_table.proofs.Common.{IsQueueBesides, ◌≡◌, drop}
 use Rattle.pfair_table.proofs.slot.ready_of.Given as goal
 
 abbrev pub invariant-loop-index : goal.invariant-loop-index

@@ -1,5 +1,4 @@
-use Rattle.std.proofs.Common.{◌≡◌, ◌∙◌, ap, map, subst, sym, Some, None, Result, Ok, Err, IfOk}
-use Rattle.pfair_table.proofs.Common.{carried, Roster, IsOrigin, Settings, Origin, Carried, machine, members_before}
+use Rattle.pfair_table.proofs.Common.{carried, Roster, IsOrigin, Settings, Origin, Carried, machine, members_before, ◌≡◌, ◌∙◌, ap, map, subst, sym, Some, None, Result, Ok, Err, IfOk}
 use Rattle.pfair_admission.proofs.RestoredRuns.{all_again}
 use Rattle.pfair_table.proofs.state.first_members.Goals as goal
 

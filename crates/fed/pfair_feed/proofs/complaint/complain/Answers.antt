@@ -1,4 +1,4 @@
-use Rattle.std.proofs.Common.{arith}
+use Rattle.pfair_feed.proofs.Common.{arith}
 use Rattle.pfair_feed.proofs.Writing.{all_or_cut}
 use Rattle.pfair_feed.proofs.complaint.complain.Goals as goal
 

@@ -1,5 +1,4 @@
-use Rattle.std.proofs.Common.{ℕ, ◌≡◌, ◌<◌, refl, ap, ◌∙◌, arith}
-use Rattle.pfair_feed.proofs.Common.{Dispatch, Settings, dropped_of}
+use Rattle.pfair_feed.proofs.Common.{Dispatch, Settings, dropped_of, ℕ, ◌≡◌, ◌<◌, refl, ap, ◌∙◌, arith}
 use Rattle.pfair_feed.proofs.Writing.{on_err, cut_short}
 use Rattle.pfair_feed.proofs.complaint.report_dropped.Goals as goal
 

@@ -1,5 +1,5 @@
-use Rattle.std.proofs.Common.{ℕ, ◌+◌, ◌≡◌, ◌<◌, Bool, true, [], ap, ◌∙◌, arith, codes, length, sym, if◌then◌else◌}
-use Rattle.pfair_feed.proofs.Common.{ReplicaRows, held, replica_of, sound_beginning, Dispatch, dropped_line, is_past, key_line}
+use Rattle.std.proofs.Common.{codes}
+use Rattle.pfair_feed.proofs.Common.{ReplicaRows, held, replica_of, sound_beginning, Dispatch, dropped_line, is_past, key_line, ℕ, ◌+◌, ◌≡◌, ◌<◌, Bool, true, [], ap, ◌∙◌, arith, length, sym, if◌then◌else◌}
 use Rattle.pfair_feed.proofs.Writing.{on_err, cut_short}
 use Rattle.pfair_feed.proofs.complaint.report_dropped_of.Goals as goal
 

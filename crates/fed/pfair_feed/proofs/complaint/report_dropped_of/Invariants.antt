@@ -1,5 +1,5 @@
-use Rattle.std.proofs.Common.{◌+◌, flat_map}
-use Rattle.pfair_feed.proofs.Common.{Appends, numbers_below, dropped_line}
+use Rattle.std.proofs.Common.{flat_map}
+use Rattle.pfair_feed.proofs.Common.{Appends, numbers_below, dropped_line, ◌+◌}
 use Rattle.pfair_feed.proofs.complaint.report_dropped_of.Given as goal
 
 -- the lines of the entries so far

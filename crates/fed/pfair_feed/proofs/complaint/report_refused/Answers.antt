@@ -1,5 +1,4 @@
-use Rattle.std.proofs.Common.{ℕ, List, Option, Result, ◌≤◌, length, arith, OnErr, OnOk}
-use Rattle.pfair_feed.proofs.Common.{length-take, Appends, TakesPrefix}
+use Rattle.pfair_feed.proofs.Common.{length-take, Appends, TakesPrefix, ℕ, List, Option, Result, ◌≤◌, length, arith, OnErr, OnOk}
 use Rattle.pfair_text.specs.declared.rows.WriteFailed.{WriteFailed}
 use Rattle.pfair_feed.proofs.Writing.{all_or_cut}
 use Rattle.pfair_feed.proofs.complaint.report_refused.Goals as goal

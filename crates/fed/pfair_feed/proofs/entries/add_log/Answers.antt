@@ -1,5 +1,4 @@
-use Rattle.std.proofs.Common.{◌≡◌, ◌<◌, ◌∙◌, arith, length, Some, slice_get, refl}
-use Rattle.pfair_feed.proofs.Common.{take_all, slice_get_read, text_so_far, IsLoggable}
+use Rattle.pfair_feed.proofs.Common.{take_all, slice_get_read, text_so_far, IsLoggable, ◌≡◌, ◌<◌, ◌∙◌, arith, length, Some, slice_get, refl}
 use Rattle.pfair_feed.proofs.ScriptRows.{all_next, entry_more}
 use Rattle.pfair_feed.proofs.entries.add_log.Goals as goal
 

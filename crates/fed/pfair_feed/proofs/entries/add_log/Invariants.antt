@@ -1,5 +1,4 @@
-use Rattle.std.proofs.Common.{◌≡◌, ◌+◌, ◌++◌, drop, take}
-use Rattle.pfair_feed.proofs.Common.{AllByRecursion, IsLoggable, IsOpen, lines_text, text_so_far, log_rows, numbered_from}
+use Rattle.pfair_feed.proofs.Common.{AllByRecursion, IsLoggable, IsOpen, lines_text, text_so_far, log_rows, numbered_from, ◌≡◌, ◌+◌, ◌++◌, drop, take}
 use Rattle.pfair_feed.proofs.entries.add_log.Given as goal
 
 -- the text so far, with the rows that are left, is the whole; and the entries so far are such as a log may have

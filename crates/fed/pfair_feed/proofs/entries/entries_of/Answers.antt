@@ -1,5 +1,4 @@
-use Rattle.std.proofs.Common.{List, ◌≡◌, ◌<◌, ◌++◌, ◌∙◌, sym, ap, arith, length, subst}
-use Rattle.pfair_feed.proofs.Common.{AllByRecursion, take_all, same_Some, Logged, lines_text, text_so_far, Settings, IsLoggable, log_rows}
+use Rattle.pfair_feed.proofs.Common.{AllByRecursion, take_all, same_Some, Logged, lines_text, text_so_far, Settings, IsLoggable, log_rows, List, ◌≡◌, ◌<◌, ◌++◌, ◌∙◌, sym, ap, arith, length, subst}
 use Rattle.pfair_output.proofs.SlotFacts.{slot_more, slots_done}
 use Rattle.pfair_feed.proofs.ScriptRows.{all_next}
 use Rattle.pfair_feed.proofs.entries.entries_of.Goals as goal

@@ -1,6 +1,4 @@
-use Rattle.std.proofs.Common.{◌≡◌, ◌++◌, drop, take}
-use Rattle.pfair_feed.proofs.Common.{AllByRecursion, IsLoggable, IsOpen, lines_text, text_so_far, entries_text, log_rows}
-use Rattle.pfair_output.specs.Slots.{slots_from}
+use Rattle.pfair_feed.proofs.Common.{AllByRecursion, IsLoggable, IsOpen, lines_text, text_so_far, entries_text, log_rows, ◌≡◌, ◌++◌, drop, take, slots_from}
 use Rattle.pfair_feed.proofs.entries.entries_of.Given as goal
 
 -- the text so far, with the rows of the logs that are left, is the whole; and the entries of the logs so far are such as a log may have

@@ -1,5 +1,4 @@
-use Rattle.std.proofs.Common.{◌≡◌, ◌-◌, true, length}
-use Rattle.pfair_feed.proofs.Common.{replica_of, has_torn, IsGrown}
+use Rattle.pfair_feed.proofs.Common.{replica_of, has_torn, IsGrown, ◌≡◌, ◌-◌, true, length}
 use Rattle.pfair_feed.proofs.follower.plan_all.Given as goal
 
 -- more is planned, unless something is torn or the dispatcher is spent

@@ -1,9 +1,6 @@
-use Rattle.std.proofs.Common.{◌≡◌, ap, Ok, Err, rules, true}
-use Rattle.pfair_feed.proofs.Common.{HasFailed, IsFedLine}
-use Rattle.pfair_file.specs.ProgramFaults.{is_refusal}
+use Rattle.pfair_feed.proofs.Common.{HasFailed, IsFedLine, ◌≡◌, ap, Ok, Err, rules, true, is_refusal, Memory}
 use Rattle.pfair_feed.proofs.Lines.{if_err}
 use Rattle.pfair_feed.proofs.Going.{own_err}
-use Rattle.pfair_file.specs.declared.program_fault.ProgramFault.TheVariants.{Memory}
 use Rattle.pfair_feed.proofs.Reading.{failed_at, refused_line, repeat_wants_none}
 use Rattle.pfair_feed.proofs.input.feed.Goals as goal
 

@@ -1,6 +1,4 @@
-use Rattle.std.proofs.Common.{refl, ◌≡◌, ◌≤◌, ◌++◌, ◌∷◌, [], ℕ, List, arith, inl, inr, length, take, get_or, rules}
-use Rattle.pfair_feed.proofs.Common.{Consumes, drop_all, IsStopped, IsPlannedOut}
-use Rattle.std.proofs.KnownBytes.{Keeps-refl}
+use Rattle.pfair_feed.proofs.Common.{Consumes, drop_all, IsStopped, IsPlannedOut, refl, ◌≡◌, ◌≤◌, ◌++◌, ◌∷◌, [], ℕ, List, arith, inl, inr, length, take, get_or, rules, Keeps-refl}
 use Rattle.pfair_feed.proofs.Lines.{fed_byte, fed_line, fed_nothing, fed_to, few_taken, if_err, kept_full, kept_pushed, next_left, read_more, same_more, stopped_in}
 use Rattle.pfair_feed.proofs.input.follow.Goals as goal
 use Rattle.pfair_feed.proofs.input.follow.Goals.{then-byte-eq10+in_ok-feed_line+else-to_last, else-byte-eq10+else-len-le-LONGEST_ROW, else-len-le-LONGEST_ROW-via-then-len-le-LONGEST_ROW+else-is_err, else-len-le-LONGEST_ROW-via-else-len-le-LONGEST_ROW}

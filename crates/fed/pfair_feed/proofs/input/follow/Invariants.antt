@@ -1,4 +1,4 @@
-use Rattle.std.proofs.Common.{[], drop}
+use Rattle.pfair_feed.proofs.Common.{[], drop}
 use Rattle.pfair_feed.proofs.Lines.{IsFedBut}
 use Rattle.pfair_feed.proofs.input.follow.Given as goal
 

@@ -1,5 +1,4 @@
-use Rattle.std.proofs.Common.{◌++◌, ◌∙◌, sym, ap}
-use Rattle.pfair_feed.proofs.Common.{lines_text, text_so_far, rows_in, Output}
+use Rattle.pfair_feed.proofs.Common.{lines_text, text_so_far, rows_in, Output, ◌++◌, ◌∙◌, sym, ap}
 use Rattle.pfair_feed.proofs.Books.{rows_on, book_whole}
 use Rattle.pfair_feed.proofs.output.add_rows.Goals as goal
 

@@ -1,8 +1,5 @@
 use Rattle.std.proofs.lemmas.Result.{IfOk-weaker}
-use Rattle.pfair_lag.specs.Book.{Book}
-use Rattle.pfair_output.specs.Booked.{first_book}
-use Rattle.std.proofs.Common.{◌≡◌}
-use Rattle.pfair_feed.proofs.Common.{IsBookOf}
+use Rattle.pfair_feed.proofs.Common.{IsBookOf, Book, first_book, ◌≡◌}
 use Rattle.pfair_feed.proofs.Books.{book_first}
 use Rattle.pfair_feed.proofs.output.known_book.Goals as goal
 

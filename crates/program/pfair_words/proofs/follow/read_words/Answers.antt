@@ -1,6 +1,5 @@
 -- What the parser makes of the words, at the line of `pfair_follow`.
-use Rattle.std.proofs.Common.{ap, refl, Ok}
-use Rattle.pfair_words.proofs.Common.{texts}
+use Rattle.pfair_words.proofs.Common.{texts, ap, refl, Ok}
 use Rattle.pfair_words.specs.FollowAsked.{IsAnswerTo, IsText}
 use Rattle.pfair_words.specs.FollowLine.{line}
 use Rattle.pfair_words.proofs.Answered.{refused, taken, text}

@@ -1,8 +1,5 @@
 -- What the parser makes of the words, at the line of `pfair`.
-use Rattle.std.proofs.Common.{ap, refl, List, IfOk, Result, Ok}
-use Rattle.pfair_words.proofs.Common.{Text, texts, HasCount, IsPlainAnswer, line, ProgramFault}
-use Rattle.pfair_words.specs.ScheduleAsked.{IsAnswer, IsAnswerTo, IsText}
-use Rattle.pfair_words.specs.declared.schedule.Asked.{Asked}
+use Rattle.pfair_words.proofs.Common.{Text, texts, HasCount, IsPlainAnswer, line, ProgramFault, ap, refl, List, IfOk, Result, Ok, IsAnswer, IsAnswerTo, IsText, Asked}
 use Rattle.pfair_words.proofs.Answered.{refused, taken, text}
 use Rattle.pfair_words.proofs.PlainFacts.{has_count, plain_answer}
 use Rattle.pfair_words.proofs.schedule.read_words.Goals as goal

@@ -1,5 +1,4 @@
-use Rattle.std.proofs.Common.{ℕ, List, ◌≡◌, ◌∙◌, ◌<◌, length, get_or, arith, set, Vec, Global}
-use Rattle.pfair_file.proofs.Common.{get_or-map, length-map, map-set, Logged, lists_of, closed}
+use Rattle.pfair_file.proofs.Common.{get_or-map, length-map, map-set, Logged, lists_of, closed, ℕ, List, ◌≡◌, ◌∙◌, ◌<◌, length, get_or, arith, set, Vec, Global}
 use Rattle.std.proofs.lemmas.List.Edits.{map_over_more}
 use Rattle.std.specs.Vec.{with_item}
 use Rattle.pfair_file.proofs.document.close_logs.Goals as goal

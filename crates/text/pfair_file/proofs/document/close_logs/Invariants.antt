@@ -1,5 +1,4 @@
-use Rattle.std.proofs.Common.{◌≡◌, ◌++◌, drop, take, vec_len}
-use Rattle.pfair_file.proofs.Common.{lists_of, close_all}
+use Rattle.pfair_file.proofs.Common.{lists_of, close_all, ◌≡◌, ◌++◌, drop, take, vec_len}
 use Rattle.pfair_file.proofs.document.close_logs.Given as goal
 
 abbrev pub invariant-loop-i : goal.invariant-loop-i

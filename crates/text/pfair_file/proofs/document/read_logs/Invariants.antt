@@ -1,5 +1,4 @@
-use Rattle.std.proofs.Common.{◌≡◌, ◌≤◌, vec_len, All}
-use Rattle.pfair_file.proofs.Common.{lists_of, empty_logs}
+use Rattle.pfair_file.proofs.Common.{lists_of, empty_logs, ◌≡◌, ◌≤◌, vec_len, All}
 use Rattle.pfair_file.proofs.document.read_logs.Given as goal
 
 abbrev pub invariant-loop : goal.invariant-loop

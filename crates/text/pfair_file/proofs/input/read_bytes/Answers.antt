@@ -1,6 +1,4 @@
-use Rattle.std.proofs.Common.{ℕ, List, Option, ◌≡◌, ◌≤◌, ◌-◌, ◌++◌, length, take, arith, rules}
-use Rattle.pfair_file.proofs.Common.{append_assoc, length-append}
-use Rattle.std.specs.Io.KnownBytes.{Consumes}
+use Rattle.pfair_file.proofs.Common.{append_assoc, length-append, ℕ, List, Option, ◌≡◌, ◌≤◌, ◌-◌, ◌++◌, length, take, arith, rules, Consumes}
 use Rattle.pfair_file.proofs.input.read_bytes.Goals as goal
 
 -- bytes that came, and then more

@@ -1,5 +1,4 @@
-use Rattle.std.proofs.Common.{◌-◌, ◌≤◌, vec_len}
-use Rattle.std.specs.Io.KnownBytes.{Consumes}
+use Rattle.pfair_file.proofs.Common.{◌-◌, ◌≤◌, vec_len, Consumes}
 use Rattle.pfair_file.proofs.input.read_bytes.Given as goal
 
 abbrev pub invariant-pieces : goal.invariant-pieces

@@ -1,8 +1,5 @@
-use Rattle.std.proofs.Common.{arith, rules, Some, Err, ◌≡◌, ◌≢◌, sym, ◌∙◌}
-use Rattle.std.proofs.lemmas.Grind.{common_steps}
-use Rattle.pfair_file.proofs.Common.{as_table, items_view, table_view, view, lists_of, with_items}
+use Rattle.pfair_file.proofs.Common.{as_table, items_view, table_view, view, lists_of, with_items, arith, rules, Some, Err, ◌≡◌, ◌≢◌, sym, ◌∙◌, common_steps, Memory}
 use Rattle.pfair_file.specs.Documents.{entries_at}
-use Rattle.pfair_file.specs.declared.fault.FileFault.TheVariants.{Memory}
 use Rattle.pfair_file.proofs.TableFacts.{all_tables, left-refused, left_all}
 use Rattle.pfair_file.proofs.tables.add_entries.Goals as goal
 

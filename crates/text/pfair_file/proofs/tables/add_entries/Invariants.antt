@@ -1,5 +1,4 @@
-use Rattle.std.proofs.Common.{◌≡◌, ◌≤◌, vec_len, All}
-use Rattle.pfair_file.proofs.Common.{lists_of}
+use Rattle.pfair_file.proofs.Common.{lists_of, ◌≡◌, ◌≤◌, vec_len, All}
 use Rattle.pfair_file.proofs.TableFacts.{IsLeft}
 use Rattle.pfair_file.proofs.tables.add_entries.Given as goal
 

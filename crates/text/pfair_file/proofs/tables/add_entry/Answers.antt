@@ -1,9 +1,5 @@
-use Rattle.std.proofs.Common.{ℕ, Result, Ok, Err, ◌≡◌, ◌∙◌, ◌<◌, [], length, set, sym, ap, arith, get_or, Vec, Global, IfErr, OnOk, ◌≢◌}
-use Rattle.pfair_file.proofs.Common.{length-map, get_or-map, map-set, Members, table_view, Logged, lists_of, longer_log, with_entry, FileFault}
-use Rattle.std.proofs.lemmas.Grind.{common_steps}
-use Rattle.pfair_file.specs.Tables.{made_at}
-use Rattle.pfair_file.specs.declared.tables.Made.{Made}
-use Rattle.pfair_file.specs.declared.fault.FileFault.TheVariants.{Memory}
+use Rattle.std.proofs.Common.{IfErr, OnOk}
+use Rattle.pfair_file.proofs.Common.{length-map, get_or-map, map-set, Members, table_view, Logged, lists_of, longer_log, with_entry, FileFault, ℕ, Result, Ok, Err, ◌≡◌, ◌∙◌, ◌<◌, [], length, set, sym, ap, arith, get_or, Vec, Global, ◌≢◌, common_steps, made_at, Made, Memory}
 use Rattle.pfair_file.proofs.tables.add_entry.Goals.{After-append}
 use Rattle.pfair_file.proofs.tables.add_entry.Goals as goal
 

@@ -1,5 +1,4 @@
-use Rattle.std.proofs.Common.{sym, subst, IfErr}
-use Rattle.pfair_table.proofs.Common.{Dispatch}
+use Rattle.pfair_table.proofs.Common.{Dispatch, sym, subst, IfErr}
 use Rattle.pfair_replica.specs.Faults.{IsMergeFaultOf}
 use Rattle.pfair_table.proofs.Steps.{kept_above}
 use Rattle.pfair_table.proofs.ReadOn.{readings_above}

@@ -1,5 +1,4 @@
-use Rattle.std.proofs.Common.{◌≡◌, ◌∙◌, sym, ap, subst, arith, Bool}
-use Rattle.pfair_table.proofs.Common.{Replica, empty_replica, replica_of, PlannedSlots, IsKept, Settings}
+use Rattle.pfair_table.proofs.Common.{Replica, empty_replica, replica_of, PlannedSlots, IsKept, Settings, ◌≡◌, ◌∙◌, sym, ap, subst, arith, Bool}
 use Rattle.pfair_table.proofs.Keeping.{start_kept}
 use Rattle.pfair_table.proofs.dispatcher.Dispatcher.begin.Goals as goal
 

@@ -1,5 +1,4 @@
-use Rattle.std.proofs.Common.{◌≡◌, subst, false, length}
-use Rattle.pfair_table.proofs.Common.{replica_of, has_torn, Dispatch, members_after}
+use Rattle.pfair_table.proofs.Common.{replica_of, has_torn, Dispatch, members_after, ◌≡◌, subst, false, length}
 use Rattle.pfair_table.proofs.Keeping.{step_now}
 use Rattle.pfair_table.proofs.dispatcher.Dispatcher.members.Goals as goal
 

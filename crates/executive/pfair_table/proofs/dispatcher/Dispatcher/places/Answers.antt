@@ -1,5 +1,4 @@
-use Rattle.std.proofs.Common.{subst}
-use Rattle.pfair_table.proofs.Common.{AllByRecursion, IsFit, Dispatch}
+use Rattle.pfair_table.proofs.Common.{AllByRecursion, IsFit, Dispatch, subst}
 use Rattle.pfair_table.proofs.PlacesOn.{fit_plan}
 use Rattle.pfair_table.proofs.dispatcher.Dispatcher.places.Goals as goal
 

@@ -1,5 +1,4 @@
-use Rattle.std.proofs.Common.{subst}
-use Rattle.pfair_table.proofs.Common.{Dispatch, HavePlannedAlike, LeaveAlike}
+use Rattle.pfair_table.proofs.Common.{Dispatch, HavePlannedAlike, LeaveAlike, subst}
 use Rattle.pfair_table.specs.PlaceLaws.{HavePlacedAlike}
 use Rattle.pfair_table.proofs.Alike.{kept_alike, placed_alike}
 use Rattle.pfair_table.proofs.NextRuns.{left_alike}

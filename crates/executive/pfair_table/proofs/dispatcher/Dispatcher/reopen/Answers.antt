@@ -1,5 +1,4 @@
-use Rattle.std.proofs.Common.{ℕ, ◌≡◌, ◌∙◌, sym, ap, subst, arith, length, is_some}
-use Rattle.pfair_table.proofs.Common.{replica_of, untorn_by_test, Settings, Origin, IsOrigin, IsInStep, IsKept}
+use Rattle.pfair_table.proofs.Common.{replica_of, untorn_by_test, Settings, Origin, IsOrigin, IsInStep, IsKept, ℕ, ◌≡◌, ◌∙◌, sym, ap, subst, arith, length, is_some}
 use Rattle.pfair_table.proofs.Keeping.{is_of_held, kept_anew}
 use Rattle.pfair_table.proofs.dispatcher.Dispatcher.reopen.Goals as goal
 

@@ -1,4 +1,4 @@
-use Rattle.std.proofs.Common.{sym}
+use Rattle.pfair_table.proofs.Common.{sym}
 use Rattle.pfair_table.proofs.Steps.{kept_above}
 use Rattle.pfair_table.proofs.ReadOn.{readings_above}
 use Rattle.pfair_table.proofs.dispatcher.Dispatcher.take.Goals as goal

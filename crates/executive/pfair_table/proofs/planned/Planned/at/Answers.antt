@@ -1,7 +1,5 @@
-use Rattle.std.proofs.Common.{ℕ, ◌+◌, ◌-◌, ◌≡◌, ◌∙◌, sym, ap, arith, refl, length, drop, map, slice_get, List, Option, Some, None, Bor}
-use Rattle.pfair_table.proofs.Common.{slice_get_past, slice_get_read, option_map, places_in, PlannedSlots, tables_to, decided_to}
+use Rattle.pfair_table.proofs.Common.{slice_get_past, slice_get_read, option_map, places_in, PlannedSlots, tables_to, decided_to, ℕ, ◌+◌, ◌-◌, ◌≡◌, ◌∙◌, sym, ap, arith, refl, length, drop, map, slice_get, List, Option, Some, None, Bor, PlannedSlot}
 use Rattle.std.specs.Slice.{IsItemAt}
-use Rattle.pfair_table.specs.declared.planned.PlannedSlot.{PlannedSlot}
 use Rattle.pfair_table.proofs.Kept.{get_kept}
 use Rattle.pfair_table.proofs.planned.Planned.at.Goals as goal
 

@@ -1,6 +1,4 @@
-use Rattle.std.proofs.Common.{◌+◌, sym, subst, arith, List}
-use Rattle.pfair_table.proofs.Common.{AreKept}
-use Rattle.pfair_table.specs.declared.planned.PlannedSlot.{PlannedSlot}
+use Rattle.pfair_table.proofs.Common.{AreKept, ◌+◌, sym, subst, arith, List, PlannedSlot}
 use Rattle.pfair_table.proofs.Kept.{kept_without}
 use Rattle.pfair_table.proofs.planned.Planned.forget.Goals as goal
 

@@ -1,5 +1,4 @@
-use Rattle.std.proofs.Common.{◌-◌, ◌≡◌, refl, sym, ap, ◌∙◌, arith, length, Some, slice_get}
-use Rattle.pfair_table.proofs.Common.{slice_get_read, places_in, table_before, places_before, PlannedSlots, last_or}
+use Rattle.pfair_table.proofs.Common.{slice_get_read, places_in, table_before, places_before, PlannedSlots, last_or, ◌-◌, ◌≡◌, refl, sym, ap, ◌∙◌, arith, length, Some, slice_get}
 use Rattle.pfair_table.proofs.Kept.{last_table_is, last_places_are}
 use Rattle.pfair_table.proofs.PlacesOn.{last_is}
 use Rattle.pfair_table.proofs.planned.Planned.last.Goals.{After-deref-in-Some}

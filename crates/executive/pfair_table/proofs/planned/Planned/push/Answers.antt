@@ -1,6 +1,4 @@
-use Rattle.std.proofs.Common.{◌+◌, ◌≡◌, ◌<◌, ◌∙◌, sym, ap, subst, arith, length, List}
-use Rattle.pfair_table.proofs.Common.{ReplicaRows, PlannedSlots, AreKept, IsNext, tables_to, decided_to, with_next}
-use Rattle.pfair_table.specs.declared.planned.PlannedSlot.{PlannedSlot}
+use Rattle.pfair_table.proofs.Common.{ReplicaRows, PlannedSlots, AreKept, IsNext, tables_to, decided_to, with_next, ◌+◌, ◌≡◌, ◌<◌, ◌∙◌, sym, ap, subst, arith, length, List, PlannedSlot}
 use Rattle.pfair_table.proofs.Kept.{kept_more, seen_more, tables_long}
 use Rattle.pfair_table.proofs.planned.Planned.push.Goals as goal
 

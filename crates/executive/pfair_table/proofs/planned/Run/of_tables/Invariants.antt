@@ -1,5 +1,4 @@
-use Rattle.std.proofs.Common.{◌≡◌, take, None}
-use Rattle.pfair_table.proofs.Common.{places_in, as_tables, as_places}
+use Rattle.pfair_table.proofs.Common.{places_in, as_tables, as_places, ◌≡◌, take, None}
 use Rattle.pfair_table.proofs.planned.Run.of_tables.Given as goal
 
 -- the places so far are those of the tables so far

@@ -1,5 +1,4 @@
-use Rattle.std.proofs.Common.{List, Ok, false, ◌≤◌, ◌<◌, ◌≡◌, ◌+◌, ◌∙◌, sym, ap, subst, arith, suc, length}
-use Rattle.pfair_table.proofs.Common.{AllByRecursion, NamesApart, MAX_INDEX, Said, replica_of, Replica, announcements, member_named, Member, Roster, apart_boundary, queued, is_said, IsSteady, heard_before, all_ran}
+use Rattle.pfair_table.proofs.Common.{AllByRecursion, NamesApart, MAX_INDEX, Said, replica_of, Replica, announcements, member_named, Member, Roster, apart_boundary, queued, is_said, IsSteady, heard_before, all_ran, List, Ok, false, ◌≤◌, ◌<◌, ◌≡◌, ◌+◌, ◌∙◌, sym, ap, subst, arith, suc, length}
 use Rattle.pfair_table.specs.Planning.{rows_at}
 use Rattle.pfair_table.proofs.NextIndexes.{each_boundary}
 use Rattle.pfair_table.proofs.QueueKept.{queue_after_boundary}

@@ -1,4 +1,4 @@
-use Rattle.std.proofs.Common.{refl}
+use Rattle.pfair_table.proofs.Common.{refl}
 use Rattle.pfair_table.proofs.Keeping.{start_step}
 use Rattle.pfair_table.proofs.planner.Planner.plan_again.Goals as goal
 

@@ -1,5 +1,4 @@
-use Rattle.std.proofs.Common.{◌≡◌}
-use Rattle.pfair_table.proofs.Common.{replica_of, AreReadingsOf, IsInStep}
+use Rattle.pfair_table.proofs.Common.{replica_of, AreReadingsOf, IsInStep, ◌≡◌}
 use Rattle.pfair_table.proofs.planner.Planner.plan_again.Given as goal
 
 abbrev pub invariant-loop-slot : goal.invariant-loop-slot

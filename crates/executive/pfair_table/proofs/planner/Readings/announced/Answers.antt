@@ -1,7 +1,4 @@
-use Rattle.std.proofs.Common.{◌≡◌, ◌∙◌, sym, ap, arith, List}
-use Rattle.std.proofs.lemmas.Grind.{common_steps}
-use Rattle.pfair_table.proofs.Common.{replica_of, said_by_all}
-use Rattle.pfair_table.specs.declared.planner.Reading.{Reading}
+use Rattle.pfair_table.proofs.Common.{replica_of, said_by_all, ◌≡◌, ◌∙◌, sym, ap, arith, List, common_steps, Reading}
 use Rattle.pfair_table.proofs.ReadOn.{whole_said, none_said}
 use Rattle.pfair_table.proofs.planner.Readings.announced.Goals as goal
 

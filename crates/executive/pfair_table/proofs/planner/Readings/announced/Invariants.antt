@@ -1,5 +1,4 @@
-use Rattle.std.proofs.Common.{◌≡◌, take}
-use Rattle.pfair_table.proofs.Common.{said_by_all}
+use Rattle.pfair_table.proofs.Common.{said_by_all, ◌≡◌, take}
 use Rattle.pfair_table.proofs.planner.Readings.announced.Given as goal
 
 abbrev pub invariant-loop-reading : goal.invariant-loop-reading

@@ -1,4 +1,4 @@
-use Rattle.std.proofs.Common.{◌≡◌, length}
+use Rattle.pfair_table.proofs.Common.{◌≡◌, length}
 use Rattle.pfair_table.proofs.ReadOn.{AreUnread}
 use Rattle.pfair_table.proofs.planner.Readings.new.Given as goal
 

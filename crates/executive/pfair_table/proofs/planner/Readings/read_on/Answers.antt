@@ -1,5 +1,4 @@
-use Rattle.std.proofs.Common.{◌<◌, length, arith}
-use Rattle.pfair_table.proofs.Common.{replica_of}
+use Rattle.pfair_table.proofs.Common.{replica_of, ◌<◌, length, arith}
 use Rattle.pfair_table.proofs.ReadOn.{readings_put, whole_put, whole_at_end, whole_by_total, total_by_whole}
 use Rattle.pfair_table.proofs.planner.Readings.read_on.Goals as goal
 

@@ -1,5 +1,4 @@
-use Rattle.std.proofs.Common.{◌≡◌}
-use Rattle.pfair_table.proofs.Common.{replica_of, AreReadingsOf}
+use Rattle.pfair_table.proofs.Common.{replica_of, AreReadingsOf, ◌≡◌}
 use Rattle.pfair_table.proofs.ReadOn.{AreWholeBelow}
 use Rattle.pfair_table.proofs.planner.Readings.read_on.Given as goal
 

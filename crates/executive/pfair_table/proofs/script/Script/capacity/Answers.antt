@@ -1,5 +1,4 @@
-use Rattle.std.proofs.Common.{◌≡◌, ◌∙◌, ap, subst, arith}
-use Rattle.pfair_table.proofs.Common.{IsShape, LoggedRun, capacity_of, lists_of}
+use Rattle.pfair_table.proofs.Common.{IsShape, LoggedRun, capacity_of, lists_of, ◌≡◌, ◌∙◌, ap, subst, arith}
 use Rattle.pfair_table.proofs.Scripts.{capacity_some, capacity_short}
 use Rattle.pfair_table.proofs.script.Script.capacity.Goals as goal
 

@@ -1,5 +1,4 @@
-use Rattle.std.proofs.Common.{arith, ◌≡◌, ◌<◌, ◌∙◌, sym, ap, Some, slice_get, length}
-use Rattle.pfair_table.proofs.Common.{length-map, LoggedRun, lists_of}
+use Rattle.pfair_table.proofs.Common.{length-map, LoggedRun, lists_of, arith, ◌≡◌, ◌<◌, ◌∙◌, sym, ap, Some, slice_get, length}
 use Rattle.pfair_table.proofs.Scripts.{log_fits, log_at}
 use Rattle.pfair_table.proofs.script.Script.log.Goals as goal
 

@@ -1,5 +1,4 @@
-use Rattle.std.proofs.Common.{refl, sym, subst, arith, Bool, false, [], None}
-use Rattle.pfair_table.proofs.Common.{none-some, Replica, empty_replica, ReplicaRows, replica_of, IsKept, AreReadingsOf, Settings}
+use Rattle.pfair_table.proofs.Common.{none-some, Replica, empty_replica, ReplicaRows, replica_of, IsKept, AreReadingsOf, Settings, refl, sym, subst, arith, Bool, false, [], None}
 use Rattle.pfair_table.proofs.Keeping.{start_kept}
 use Rattle.pfair_table.proofs.Steps.{kept_above}
 use Rattle.pfair_table.proofs.slot_planner.SlotPlanner.new.Goals as goal

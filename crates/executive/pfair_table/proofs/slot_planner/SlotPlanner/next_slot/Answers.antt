@@ -1,5 +1,4 @@
-use Rattle.std.proofs.Common.{◌∙◌, sym, ap, arith, length, None}
-use Rattle.pfair_table.proofs.Common.{Dispatch}
+use Rattle.pfair_table.proofs.Common.{Dispatch, ◌∙◌, sym, ap, arith, length, None}
 use Rattle.pfair_table.proofs.Kept.{tables_long}
 use Rattle.pfair_table.proofs.SlotPlanned.{within}
 use Rattle.pfair_table.proofs.slot_planner.SlotPlanner.next_slot.Goals as goal

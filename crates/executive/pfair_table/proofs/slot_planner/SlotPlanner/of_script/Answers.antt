@@ -1,5 +1,4 @@
-use Rattle.std.proofs.Common.{◌≡◌, ◌∙◌, sym, ap, subst, arith, false}
-use Rattle.pfair_table.proofs.Common.{replica_of, frontier, has_torn, test_by_untorn, Dispatch, replica_of_logs, Settings}
+use Rattle.pfair_table.proofs.Common.{replica_of, frontier, has_torn, test_by_untorn, Dispatch, replica_of_logs, Settings, ◌≡◌, ◌∙◌, sym, ap, subst, arith, false}
 use Rattle.pfair_table.proofs.Scripts.{script_whole}
 use Rattle.pfair_table.proofs.slot_planner.SlotPlanner.of_script.Goals as goal
 

@@ -1,5 +1,4 @@
-use Rattle.std.proofs.Common.{◌∙◌, ap, sym, subst, arith, List, ℕ}
-use Rattle.pfair_table.proofs.Common.{IsState, is_used, names_task, Carried, Table}
+use Rattle.pfair_table.proofs.Common.{IsState, is_used, names_task, Carried, Table, ◌∙◌, ap, sym, subst, arith, List, ℕ}
 use Rattle.pfair_table.proofs.States.{row_fits}
 use Rattle.pfair_table.proofs.state.State.add_row.Goals as goal
 

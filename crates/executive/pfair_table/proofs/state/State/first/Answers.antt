@@ -1,5 +1,4 @@
-use Rattle.std.proofs.Common.{sym, subst}
-use Rattle.pfair_table.proofs.Common.{Roster, AreLeftAt}
+use Rattle.pfair_table.proofs.Common.{Roster, AreLeftAt, sym, subst}
 use Rattle.pfair_table.proofs.States.{none_left}
 use Rattle.pfair_table.proofs.state.State.first.Goals as goal
 

@@ -1,5 +1,4 @@
-use Rattle.std.proofs.Common.{arith, sym, subst, List, ℕ}
-use Rattle.pfair_table.proofs.Common.{ArePlacesOf, IsFit, Table}
+use Rattle.pfair_table.proofs.Common.{ArePlacesOf, IsFit, Table, arith, sym, subst, List, ℕ}
 use Rattle.pfair_table.proofs.States.{no_rows}
 use Rattle.pfair_table.proofs.state.State.new.Goals as goal
 

@@ -1,5 +1,4 @@
-use Rattle.std.proofs.Common.{◌∙◌, ap, length, None, subst, sym}
-use Rattle.pfair_feed.proofs.Common.{Course, IsWholePlan, Follow}
+use Rattle.pfair_feed.proofs.Common.{Course, IsWholePlan, Follow, ◌∙◌, ap, length, None, subst, sym}
 use Rattle.pfair_feed.proofs.Planned.{whole_start}
 use Rattle.pfair_feed.proofs.follower.Follower.new.Goals as goal
 

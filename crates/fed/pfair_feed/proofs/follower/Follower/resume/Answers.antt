@@ -1,5 +1,4 @@
-use Rattle.std.proofs.Common.{Some, subst, sym}
-use Rattle.pfair_feed.proofs.Common.{IsWholePlan, Follow}
+use Rattle.pfair_feed.proofs.Common.{IsWholePlan, Follow, Some, subst, sym}
 use Rattle.pfair_table.specs.Limits.{settings_from}
 use Rattle.pfair_feed.proofs.Planned.{whole_start}
 use Rattle.pfair_feed.proofs.follower.Follower.resume.Goals as goal

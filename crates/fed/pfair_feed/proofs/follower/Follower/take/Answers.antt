@@ -1,6 +1,4 @@
-use Rattle.std.proofs.Common.{ℕ, List, Err, ◌≡◌, ◌∙◌, sym, ap, subst}
-use Rattle.pfair_feed.proofs.Common.{TakesPrefix, lines_text, Follow, news, rows_in}
-use Rattle.pfair_file.specs.declared.program_fault.ProgramFault.TheVariants.{WriteFailed}
+use Rattle.pfair_feed.proofs.Common.{TakesPrefix, lines_text, Follow, news, rows_in, ℕ, List, Err, ◌≡◌, ◌∙◌, sym, ap, subst, WriteFailed}
 use Rattle.pfair_feed.proofs.Going.{own_err}
 use Rattle.pfair_feed.proofs.Books.{book_after_plans}
 use Rattle.pfair_feed.proofs.follower.Follower.take.Goals as goal

@@ -1,5 +1,4 @@
-use Rattle.std.proofs.Common.{◌∙◌, sym, subst}
-use Rattle.pfair_feed.proofs.Common.{Follow, HaveWrittenAlike}
+use Rattle.pfair_feed.proofs.Common.{Follow, HaveWrittenAlike, ◌∙◌, sym, subst}
 use Rattle.pfair_feed.proofs.RunsAlike.{written_alike}
 use Rattle.pfair_feed.proofs.follower.Follower.writes_alike.Goals as goal
 
