@@ -1,6 +1,6 @@
 -- The members of a state, restored row after row.
 use Rattle.std.proofs.Common.{ℕ, ◌+◌, ◌%◌, ◌≡◌, refl, sym, ap, subst, ◌∙◌, List, [], ◌∷◌, ◌++◌, Some, None, length, map, drop, slice_get, append_assoc}
-use Rattle.pfair_state.proofs.Common.{AllByRecursion, flat_map, append-nil, length-map, NamesApart, Member, Roster, Delay, AreLeftAt, IsBehindMembers, as_late, late_said, member_of, as_member, member_said, own_said, MemberRow, Row}
+use Rattle.pfair_state.proofs.Common.{AllByRecursion, flat_map, append-nil, length-map, NamesApart, Member, Roster, Delay, AreLeftAt, IsBehindMembers, as_late, late_said, member_of, as_member, member_said, own_said, row_of, MemberRow, Row}
 use Rattle.pfair_admission.specs.Admission.{Machine}
 use Rattle.pfair_admission.specs.Laws.{HaveRoom}
 use Rattle.pfair_admission.specs.Restored.{CanBeRestored, IsLeftAt}
@@ -11,6 +11,11 @@ use Rattle.pfair_state.proofs.Behind.{behind_some, first_at, next_behind}
 pub middle : {A : Type 0} (P : A → Type 0) (xs ys : List A) (x : A) → AllByRecursion P (xs ++ x ∷ ys) → P x
 middle P [] ys x h = h.0
 middle P (y ∷ xs) ys x h = middle P xs ys x h.1
+
+-- no late release stands before them
+pub no_late : (more : List Member) (behind : List Row) → IsBehindMembers behind → as_late (slice_get (flat_map member_said more ++ behind) 0) ≡ None
+no_late [] behind ends = ends.1
+no_late (m ∷ more) behind ends = refl
 
 module _ (rows : List Row) (slot : ℕ) (old : Roster) where
   -- the members that are left, where some were restored and the next row is at this place
@@ -33,14 +38,10 @@ module _ (rows : List Row) (slot : ℕ) (old : Roster) where
       pub member : Member
       pub more : List Member
       pub whole : all ≡ now.members ++ member ∷ more
-      pub row_is : row ≡ record { name = member.name; weight = member.weight; early = member.early; joined = member.joined; next = member.next; freed_at = member.freed_at }
+      pub row_is : row ≡ row_of member
       pub delays_are : drop (at + 1) rows ≡ map (late_said member.name) member.delays ++ (flat_map member_said more ++ behind)
       pub ends : as_late (slice_get (flat_map member_said more ++ behind) 0) ≡ None
       pub rest : now ≡ record old { members = now.members }
-
-    no_late : (more : List Member) (behind : List Row) → IsBehindMembers behind → as_late (slice_get (flat_map member_said more ++ behind) 0) ≡ None
-    no_late [] behind ends = ends.1
-    no_late (m ∷ more) behind ends = refl
 
     next : (row : MemberRow) → slice_get rows at ≡ Some (MemberIn row) → (all : List Member) (behind : List Row) → IsBehindMembers behind → AreToRestore all behind now at → IsNext all behind row
     next row here all behind ends to = by_left to.left to.whole to.rows_are

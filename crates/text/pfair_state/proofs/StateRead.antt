@@ -1,6 +1,6 @@
 -- The state of rows, from the first to the end.
 use Rattle.std.proofs.Common.{ℕ, ◌+◌, ◌<◌, ◌≤◌, ◌≡◌, refl, sym, ap, subst, ◌∙◌, arith, List, [], ◌∷◌, ◌++◌, Option, Some, None, Result, Err, MatchResult, length, min, drop, slice_get, append_assoc}
-use Rattle.pfair_state.proofs.Common.{flat_map, length-append, length-drop, Member, Roster, AreLeftAt, Carried, Table, IsBehindMembers, IsWritable, as_first, as_end, member_said, as_quantum, ran_said, said_before_end, said_of, Row, End}
+use Rattle.pfair_state.proofs.Common.{flat_map, length-append, length-drop, Member, Roster, AreLeftAt, Carried, Table, IsBehindMembers, IsWritable, as_first, as_end, first_of, member_said, as_quantum, ran_said, said_before_end, said_of, Row, End}
 use Rattle.pfair_admission.specs.Admission.{Machine}
 use Rattle.pfair_table.specs.Places.{ArePlacesOf, IsFit}
 use Rattle.pfair_state.specs.declared.fault.ReadFault.{ReadFault}
@@ -28,7 +28,7 @@ ends_members c = by c.table c.places
     by (p ∷ table) (k ∷ places) = (refl, refl)
 
 module _ (rows : List Row) (c : Carried) (is : rows ≡ said_of c) where
-  pub begins : as_first (slice_get rows 0) ≡ Some (record { form = 1; slot = c.slot; processors = c.machine.processors; frame = c.machine.frame })
+  pub begins : as_first (slice_get rows 0) ≡ Some (first_of c)
   begins = ap (λ (r : List Row). as_first (slice_get r 0)) is
 
   pub members_there : drop 1 rows ≡ flat_map member_said c.members ++ behind_members c
@@ -51,7 +51,7 @@ module _ (rows : List Row) (c : Carried) (is : rows ≡ said_of c) where
 
 module _ (rows : List Row) (first : FirstRow) (got : Option FirstRow) (looked : got ≡ as_first (slice_get rows 0)) (there : got ≡ Some first) (roster : Roster) (made : roster ≡ record { machine = record { processors = first.processors; frame = first.frame }; members = []; heard = 0; last_slot = None }) (c : Carried) (can : IsWritable c) (is : rows ≡ said_of c) where
   -- the first row is the state's
-  first_is : first ≡ record { form = 1; slot = c.slot; processors = c.machine.processors; frame = c.machine.frame }
+  first_is : first ≡ first_of c
   first_is = (let some = sym there ∙ looked ∙ begins rows c is in cc)
 
   slot_is : first.slot ≡ c.slot

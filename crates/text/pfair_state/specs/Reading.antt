@@ -68,11 +68,17 @@ member_of m delays = record { name = m.name; weight = m.weight; early = m.early;
 
 -- ---- the rows of a state
 
+abbrev pub first_of : Carried → FirstRow
+first_of c = record { form = 1; slot = c.slot; processors = c.machine.processors; frame = c.machine.frame }
+
 abbrev pub first_said : Carried → Row
-first_said c = First (record { form = 1; slot = c.slot; processors = c.machine.processors; frame = c.machine.frame })
+first_said c = First (first_of c)
+
+abbrev pub row_of : MemberOf → MemberRow
+row_of m = record { name = m.name; weight = m.weight; early = m.early; joined = m.joined; next = m.next; freed_at = m.freed_at }
 
 abbrev pub own_said : MemberOf → Row
-own_said m = Member (record { name = m.name; weight = m.weight; early = m.early; joined = m.joined; next = m.next; freed_at = m.freed_at })
+own_said m = Member (row_of m)
 
 abbrev pub late_said : List ℕ → Delay → Row
 late_said name d = Late (record { name = name; index = d.index; by = d.by })
