@@ -4,6 +4,7 @@ mod Common
 mod DelaysRead
 mod MembersRead
 mod OneText
+mod PlainFields
 mod QuantaRead
 mod RowKinds
 pub mod RowLists

@@ -23,13 +23,9 @@ more_taken P xs i x inside at own all =
     subst (AllByRecursion P) (sym (take_more xs i x inside ∙ ap (λ y. take i xs ++ y ∷ []) same)) (all_by_recursion_push P (take i xs) x all own)
 
 -- a member's row and those of its late releases
-member_spelled : (m : Member) → IsSpelled (own_said m) → AllByRecursion (λ d. IsSpelled (late_said m.name d)) m.delays → AreSpelled (member_said m)
-member_spelled m own delays = (own, each_map (λ (d : Delay). IsSpelled (late_said m.name d)) IsSpelled (late_said m.name) (λ d h. h) m.delays delays)
-
-pub member_on : {A E : Type 0} (r : Result A E) (m : Member) (name : List ℕ) (delays : List Delay) → name ≡ m.name → delays ≡ m.delays → IsSpelled (own_said m) → OnOk r (AllByRecursion (λ d. IsSpelled (late_said name d)) delays)
-    → OnOk r (AreSpelled (member_said m))
-member_on (Ok x) m name delays named are own late = member_spelled m own (subst (λ (p : List ℕ × List Delay). AllByRecursion (λ d. IsSpelled (late_said p.0 d)) p.1) (λ i. (named i, are i)) late)
-member_on (Err e) m name delays named are own late = tt
+pub member_spelled : (m : Member) (name : List ℕ) (delays : List Delay) → name ≡ m.name → delays ≡ m.delays → IsSpelled (own_said m) → AllByRecursion (λ d. IsSpelled (late_said name d)) delays → AreSpelled (member_said m)
+member_spelled m name delays named are own late =
+    (own, each_map (λ (d : Delay). IsSpelled (late_said m.name d)) IsSpelled (late_said m.name) (λ d h. h) m.delays (subst (λ (p : List ℕ × List Delay). AllByRecursion (λ d. IsSpelled (late_said p.0 d)) p.1) (λ i. (named i, are i)) late))
 
 ran_spelled : (table : Table) (places : List ℕ) → AllByRecursion IsSpelledQuantum table → AllByRecursion (λ k. k < 2 ^ 8) places → AreSpelled (ran_said table places)
 ran_spelled [] places h g = tt

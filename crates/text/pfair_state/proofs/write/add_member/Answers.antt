@@ -1,6 +1,11 @@
-use Rattle.pfair_state.proofs.RowsSpelled.{member_on}
+use Rattle.std.proofs.Common.{arith}
+use Rattle.std.proofs.lemmas.Grind.{common_steps}
+use Rattle.pfair_state.proofs.Common.{AllByRecursion, IsSpelled, late_said, own_said}
+use Rattle.pfair_state.proofs.RowsSpelled.{member_spelled}
 use Rattle.pfair_state.proofs.write.add_member.Goals as goal
 
 pub returns-clause-spelled : goal.returns-clause-spelled
 returns-clause-spelled c =
-    member_on c.add_delays.result c.args.member.now c.name.result.now c.delays.result.now c.name.ensures.value c.delays.ensures.value c.in_ok-add_own.ensures.spelled c.add_delays.ensures.spelled
+    let late : AllByRecursion (λ d. IsSpelled (late_said c.name.result.now d)) c.delays-delays.result.now = grind (arith, common_steps) in
+    let own : IsSpelled (own_said c.args.member.now) = grind (arith, common_steps) in
+    member_spelled c.args.member.now c.name.result.now c.delays-delays.result.now c.name.ensures.value c.delays-delays.ensures.value own late
