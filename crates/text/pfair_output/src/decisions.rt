@@ -71,32 +71,19 @@ pub(crate) fn add_decisions(
     ensures text { OnOk result (text_so_far writer.new ≡ text_so_far writer.old ++ lines_text (map (decision_row slot) decided.now)) }
 {
     for one in decided {
-        add_decision(writer, slot, one)?;
+        add_row(
+            writer,
+            &[
+                Buffer::new().format(slot).as_bytes(),
+                Buffer::new().format(one.proc).as_bytes(),
+                Buffer::new().format(one.number).as_bytes(),
+                one.announcement.name().as_bytes(),
+                outcome(one.decision).as_bytes(),
+                value(one.decision, &mut Buffer::new()).as_bytes(),
+            ],
+        )?;
     }
     Ok(())
-}
-
-// Adds the row of one announcement.
-fn add_decision(
-    writer: &mut Writer<Vec<u8>>,
-    slot: u64,
-    decided: &Decided,
-) -> Result<(), AllocError>
-    requires { IsOpen writer.old }
-    ensures open { OnOk result (IsOpen writer.new) }
-    ensures text { OnOk result (text_so_far writer.new ≡ text_so_far writer.old ++ line (decision_row slot decided.now)) }
-{
-    add_row(
-        writer,
-        &[
-            Buffer::new().format(slot).as_bytes(),
-            Buffer::new().format(decided.proc).as_bytes(),
-            Buffer::new().format(decided.number).as_bytes(),
-            decided.announcement.name().as_bytes(),
-            outcome(decided.decision).as_bytes(),
-            value(decided.decision, &mut Buffer::new()).as_bytes(),
-        ],
-    )
 }
 
 // The word for what was decided.

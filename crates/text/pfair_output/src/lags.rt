@@ -1,13 +1,10 @@
 //! Lags as rows: time, task, numerator, period; and the book of lags with which a run begins.
-ghost use Rattle.std.specs.Prelude.{◌≡◌, ◌≤◌, ◌<◌, ◌-◌, ◌++◌, OnOk, List, Some, drop, slice_get, take, true, IfOk};
-ghost use Rattle.pfair_text.specs.Rows.{is_plain, IsOpen, line, lines_text, text_so_far};
-ghost use Rattle.pfair_weight.specs.Name.{NameValue};
-ghost use Rattle.pfair_lag.specs.Book.{Tally};
+ghost use Rattle.std.specs.Prelude.{◌≡◌, ◌≤◌, ◌<◌, ◌-◌, ◌++◌, OnOk, List, Some, drop, slice_get, take, IfOk};
+ghost use Rattle.pfair_text.specs.Rows.{IsOpen, line, lines_text, text_so_far};
 ghost use Rattle.pfair_table.specs.declared.slot.Decided.{Decided};
 ghost use Rattle.pfair_table.specs.Table.{Table};
-ghost use Rattle.std.specs.Fmt.{decimal};
 ghost use Rattle.pfair_output.specs.Lags.{lags_header};
-ghost use Rattle.pfair_output.specs.Booked.{booked, all_booked, slot_booked, all_slots_booked, tally_row, book_rows, rows_booked, entered_again, first_book};
+ghost use Rattle.pfair_output.specs.Booked.{slot_booked, all_slots_booked, book_rows, rows_booked, entered_again, first_book};
 ghost use Rattle.std.specs.List.{AllByRecursion};
 ghost use Rattle.pfair_admission.specs.Carried.{CanBeCarried};
 ghost use Rattle.pfair_admission.specs.Member.{Member};
@@ -96,16 +93,13 @@ fn book_planned<R: Ready>(
         → slice_get dispatcher.now.decided slot ≡ Some decided → slice_get dispatcher.now.tables slot ≡ Some table
         → book.new ≡ slot_booked decided table book.old) }
 {
-    let Some(decided) = dispatcher.decisions(slot) else {
-        return Ok(());
-    };
-    let Some(table) = dispatcher.table(slot) else {
-        return Ok(());
-    };
-    book_slot(book, decided, table)
+    match (dispatcher.decisions(slot), dispatcher.table(slot)) {
+        (Some(decided), Some(table)) => book_slot(book, decided, table),
+        _ => Ok(()),
+    }
 }
 
-/// Records a slot in the book: its decisions, and then its table.
+/// Records a slot in the book: who is admitted and who departs at its boundary, and then its table.
 pub(crate) fn book_slot(
     book: &mut LagBook,
     decided: &[Decided],
@@ -114,38 +108,22 @@ pub(crate) fn book_slot(
     requires { book.old.time < MAX_HORIZON }
     ensures { OnOk result (book.new ≡ slot_booked decided.now table.now book.old) }
 {
-    book_decisions(book, decided)?;
-    book.record(table);
-    Ok(())
-}
-
-// Records in a book of lags who is admitted and who departs at the boundary of a slot.
-fn book_decisions(book: &mut LagBook, decided: &[Decided]) -> Result<(), AllocError>
-    ensures { OnOk result (book.new ≡ all_booked decided.now book.old) }
-{
     for one in decided {
-        book_decision(book, one)?;
-    }
-    Ok(())
-}
-
-// Records one decision in the book.
-fn book_decision(book: &mut LagBook, decided: &Decided) -> Result<(), AllocError>
-    ensures { OnOk result (book.new ≡ booked decided.now.announcement decided.now.decision book.old) }
-{
-    match decided.announcement {
-        Announcement::Arrive { name, weight, .. } => {
-            if let Decision::Admitted = decided.decision {
-                book.enter(name, weight)?;
+        match one.announcement {
+            Announcement::Arrive { name, weight, .. } => {
+                if let Decision::Admitted = one.decision {
+                    book.enter(name, weight)?;
+                }
             }
-        }
-        Announcement::Depart { name } => {
-            if let Decision::Departing { .. } = decided.decision {
-                book.leave(&name);
+            Announcement::Depart { name } => {
+                if let Decision::Departing { .. } = one.decision {
+                    book.leave(&name);
+                }
             }
+            Announcement::Late { .. } => {}
         }
-        Announcement::Late { .. } => {}
     }
+    book.record(table);
     Ok(())
 }
 
@@ -155,40 +133,20 @@ pub(crate) fn add_lags(writer: &mut Writer<Vec<u8>>, book: &LagBook) -> Result<(
     ensures open { OnOk result (IsOpen writer.new) }
     ensures text { OnOk result (text_so_far writer.new ≡ text_so_far writer.old ++ lines_text (book_rows book.now)) }
 {
-    let mut digits = Buffer::new();
-    let time = digits.format(book.time()).as_bytes();
     for place in 0..book.len() {
-        add_task(writer, book, time, place)?;
+        let Some((name, (numerator, period))) = book.row_at(place) else {
+            unreachable!()
+        };
+        add_row(
+            writer,
+            &[
+                Buffer::new().format(book.time()).as_bytes(),
+                name.as_bytes(),
+                Buffer::new().format(numerator).as_bytes(),
+                Buffer::new().format(period).as_bytes(),
+            ],
+        )?;
     }
-    Ok(())
-}
-
-// Adds the row of the task at a place of the book. `time` is the book's, as text.
-fn add_task(
-    writer: &mut Writer<Vec<u8>>,
-    book: &LagBook,
-    time: &[u8],
-    place: usize,
-) -> Result<(), AllocError>
-    requires open { IsOpen writer.old }
-    requires time { time.now ≡ decimal book.now.time }
-    requires plain { is_plain time.now ≡ true }
-    ensures open { OnOk result (IsOpen writer.new) }
-    ensures text { OnOk result ((task : NameValue × Tally) → slice_get book.now.entered place ≡ Some task
-        → text_so_far writer.new ≡ text_so_far writer.old ++ line (tally_row book.now.time task)) }
-{
-    let Some((name, (numerator, period))) = book.row_at(place) else {
-        return Ok(());
-    };
-    add_row(
-        writer,
-        &[
-            time,
-            name.as_bytes(),
-            Buffer::new().format(numerator).as_bytes(),
-            Buffer::new().format(period).as_bytes(),
-        ],
-    )?;
     Ok(())
 }
 

@@ -29,7 +29,9 @@ pub fn placed_replay_of(
 {
     let mut writer = new_text(alloc);
     add_placed_header(&mut writer)?;
-    add_all(&mut writer, tables, places)?;
+    for (slot, table) in tables.iter().enumerate() {
+        add_table(&mut writer, slot as u64, table, slot_places(places, slot))?;
+    }
     finish(writer)
 }
 
@@ -95,7 +97,10 @@ pub fn add_tables_from<R: Ready>(
         ++ lines_text (slots_from table_rows from (drop from dispatcher.now.tables))) }
 {
     for slot in from..dispatcher.next_slot() {
-        add_slot(writer, dispatcher, slot, &[])?;
+        let Some(table) = dispatcher.table(slot) else {
+            unreachable!()
+        };
+        add_table(writer, slot, table, &[])?;
     }
     Ok(())
 }
@@ -118,56 +123,11 @@ pub fn add_placed_tables_from<R: Ready>(
         (drop from dispatcher.now.tables))) }
 {
     for slot in from..dispatcher.next_slot() {
-        add_slot(writer, dispatcher, slot, planned_places(dispatcher, slot))?;
-    }
-    Ok(())
-}
-
-// Adds the rows of a slot that is planned: row k ends with the k-th place, if there is one.
-fn add_slot<R: Ready>(
-    writer: &mut Writer<Vec<u8>>,
-    dispatcher: &Dispatcher<R>,
-    slot: u64,
-    places: &[u8],
-) -> Result<(), AllocError>
-    requires open { IsOpen writer.old }
-    requires unforgotten { dispatcher.now.forgotten ≤ slot }
-    ensures open { OnOk result (IsOpen writer.new) }
-    ensures text { OnOk result ((table : Table) → slice_get dispatcher.now.tables slot ≡ Some table
-        → text_so_far writer.new ≡ text_so_far writer.old ++ lines_text (placed_rows_from places.now slot 0 table)) }
-{
-    match dispatcher.table(slot) {
-        Some(table) => add_table(writer, slot, table, places),
-        None => Ok(()),
-    }
-}
-
-// The places of a slot, if it is planned.
-fn planned_places<R: Ready>(dispatcher: &Dispatcher<R>, slot: u64) -> &[u8]
-    requires { dispatcher.now.forgotten ≤ slot }
-    ensures { result.now ≡ places_at (places_in dispatcher.now.origin dispatcher.now.tables) slot }
-{
-    match dispatcher.places(slot) {
-        Some(here) => here,
-        None => &[],
-    }
-}
-
-// Adds a row for each quantum of the tables, that of slot k at place k, which ends with its place
-// if it has one.
-fn add_all(
-    writer: &mut Writer<Vec<u8>>,
-    tables: &[Vec<Pick>],
-    places: &[Vec<u8>],
-) -> Result<(), AllocError>
-    requires { IsOpen writer.old }
-    ensures open { OnOk result (IsOpen writer.new) }
-    ensures text { OnOk result (text_so_far writer.new ≡ text_so_far writer.old
-        ++ lines_text (slots_from (placed_table_rows (map (λ p. p.items) places.now)) 0
-        (map (λ t. t.items) tables.now))) }
-{
-    for (slot, table) in tables.iter().enumerate() {
-        add_table(writer, slot as u64, table, slot_places(places, slot))?;
+        let Some(table) = dispatcher.table(slot) else {
+            unreachable!()
+        };
+        let places = dispatcher.places(slot).unwrap_or(&[]);
+        add_table(writer, slot, table, places)?;
     }
     Ok(())
 }

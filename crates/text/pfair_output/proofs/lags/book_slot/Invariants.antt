@@ -1,6 +1,6 @@
 use Rattle.std.proofs.Common.{◌≡◌, drop}
 use Rattle.pfair_output.proofs.Common.{all_booked}
-use Rattle.pfair_output.proofs.lags.book_decisions.Given as goal
+use Rattle.pfair_output.proofs.lags.book_slot.Given as goal
 
 -- booking what is left makes the whole
 abbrev pub invariant-loop-one : goal.invariant-loop-one

@@ -3,7 +3,7 @@ use Rattle.pfair_output.proofs.Common.{same_Some, slice_get-map, slice_get_read,
 use Rattle.std.specs.declared.alloc.Global.{Global}
 use Rattle.pfair_table.specs.declared.slot.Pick.{Pick}
 use Rattle.pfair_output.proofs.SlotFacts.{slot_more}
-use Rattle.pfair_output.proofs.replay.add_all.Goals as goal
+use Rattle.pfair_output.proofs.replay.placed_replay_of.Goals as goal
 
 pub loop-slot-preserved : goal.loop-slot-preserved
 loop-slot-preserved c =
