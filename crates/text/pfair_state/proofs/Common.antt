@@ -2,7 +2,7 @@
 pub use Rattle.pfair_admission.specs.Member.{Member}
 pub use Rattle.pfair_admission.specs.Roster.{Roster}
 pub use Rattle.pfair_admission.specs.declared.delay.Delay.{Delay}
-pub use Rattle.pfair_state.specs.Reading.{AreSpelled, IsBehindMembers, IsSpelled, IsSpelledQuantum, IsWritable, StatesHaveOneText, as_end, as_first, as_late, as_member, as_quantum, fields_of, first_of, first_said, late_said, line_of, member_of, member_said, own_said, ran_said, row_of, said_before_end, said_of}
+pub use Rattle.pfair_state.specs.Reading.{AreSpelled, IsBehindMembers, IsSpelled, IsSpelledQuantum, IsWritable, StatesHaveOneText, as_late, as_member, as_quantum, fields_of, first_of, first_said, late_said, line_of, member_of, member_said, own_said, ran_said, row_of, said_before_end, said_of}
 pub use Rattle.pfair_state.specs.Rows.{end_row, first_row, late_row, member_row, member_rows, ran_row, ran_rows, rows_before_end, slot_field, state_rows, state_text}
 pub use Rattle.pfair_state.specs.declared.rows.MemberRow.{MemberRow}
 pub use Rattle.pfair_state.specs.declared.rows.Row.{Row}

@@ -6,7 +6,6 @@ mod MembersRead
 mod OneText
 mod PlainFields
 mod QuantaRead
-mod RowKinds
 pub mod RowLists
 mod RowsRead
 mod RowsSaid

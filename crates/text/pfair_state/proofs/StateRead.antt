@@ -1,12 +1,17 @@
 -- The state of rows, from the first to the end.
 use Rattle.std.proofs.Common.{ℕ, ◌+◌, ◌<◌, ◌≤◌, ◌≡◌, refl, sym, ap, subst, ◌∙◌, arith, List, [], ◌∷◌, ◌++◌, Option, Some, None, Result, Err, MatchResult, length, min, drop, slice_get, append_assoc}
-use Rattle.pfair_state.proofs.Common.{flat_map, length-append, length-drop, Member, Roster, AreLeftAt, Carried, Table, IsBehindMembers, IsWritable, as_first, as_end, first_of, member_said, as_quantum, ran_said, said_before_end, said_of, Row, End}
+use Rattle.pfair_state.proofs.Common.{flat_map, length-append, length-drop, Member, Roster, AreLeftAt, Carried, Table, IsBehindMembers, IsWritable, first_of, member_said, as_quantum, ran_said, said_before_end, said_of, Row, First, End}
 use Rattle.pfair_admission.specs.Admission.{Machine}
 use Rattle.pfair_table.specs.Places.{ArePlacesOf, IsFit}
 use Rattle.pfair_state.specs.declared.fault.ReadFault.{ReadFault}
 use Rattle.pfair_state.specs.declared.fault.ReadFault.TheVariants.{Memory}
 use Rattle.pfair_state.specs.declared.rows.FirstRow.{FirstRow}
 use Rattle.pfair_state.proofs.Behind.{first_at}
+
+-- the number that a row says, if it is the last
+abbrev pub as_end : Option Row → Option ℕ
+as_end (Some (End rows)) = Some rows
+as_end _ = None
 
 -- the number of all rows, as the last one says it
 abbrev pub count_of : Carried → ℕ
@@ -28,31 +33,31 @@ ends_members c = by c.table c.places
     by (p ∷ table) (k ∷ places) = (refl, refl)
 
 module _ (rows : List Row) (c : Carried) (is : rows ≡ said_of c) where
-  pub begins : as_first (slice_get rows 0) ≡ Some (first_of c)
-  begins = ap (λ (r : List Row). as_first (slice_get r 0)) is
+  begins : slice_get rows 0 ≡ Some (First (first_of c))
+  begins = ap (λ (r : List Row). slice_get r 0) is
 
   pub members_there : drop 1 rows ≡ flat_map member_said c.members ++ behind_members c
   members_there = ap (drop 1) is ∙ append_assoc (flat_map member_said c.members) (ran_said c.table c.places) (last_of c)
 
   -- the last row is the only one behind the others
-  pub ends : (end : ℕ) → drop end rows ≡ last_of c → length rows < 18446744073709551616 → (as_end (slice_get rows end) ≡ Some (length rows)) × (length rows ≡ end + 1)
+  pub ends : (end : ℕ) → drop end rows ≡ last_of c → length rows < 18446744073709551616 → (slice_get rows end ≡ Some (End (length rows))) × (length rows ≡ end + 1)
   ends end there few =
       let first = first_at rows end (End (count_of c)) [] there in
       let long = ap length is ∙ length-append (said_before_end c) (last_of c) in
       let count : count_of c ≡ length rows = omega (arith, long, few) in
       let past : length rows ≤ end + 1 = none_left rows (end + 1) first.1 in
       let inside = first.2 in
-      (ap as_end first.0 ∙ ap Some count, omega (arith, past, inside))
+      (first.0 ∙ ap (λ n. Some (End n)) count, omega (arith, past, inside))
     where
       none_left : (xs : List Row) (n : ℕ) → drop n xs ≡ [] → length xs ≤ n
       none_left xs n nothing = (let same = ap length nothing in let short = length-drop n xs in omega (arith, same, short))
 
 -- ---- what is read of the rows of a state that can be written
 
-module _ (rows : List Row) (first : FirstRow) (got : Option FirstRow) (looked : got ≡ as_first (slice_get rows 0)) (there : got ≡ Some first) (roster : Roster) (made : roster ≡ record { machine = record { processors = first.processors; frame = first.frame }; members = []; heard = 0; last_slot = None }) (c : Carried) (can : IsWritable c) (is : rows ≡ said_of c) where
+module _ (rows : List Row) (first : FirstRow) (there : slice_get rows 0 ≡ Some (First first)) (roster : Roster) (made : roster ≡ record { machine = record { processors = first.processors; frame = first.frame }; members = []; heard = 0; last_slot = None }) (c : Carried) (can : IsWritable c) (is : rows ≡ said_of c) where
   -- the first row is the state's
   first_is : first ≡ first_of c
-  first_is = (let some = sym there ∙ looked ∙ begins rows c is in cc)
+  first_is = (let some = sym there ∙ begins rows c is in cc)
 
   slot_is : first.slot ≡ c.slot
   slot_is = ap (λ (f : FirstRow). f.slot) first_is

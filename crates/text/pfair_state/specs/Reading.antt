@@ -98,10 +98,6 @@ said_of c = let rows = said_before_end c in rows ++ End (min (length rows + 1) 1
 
 -- ---- what a row is, if there is one
 
-abbrev pub as_first : Option Row → Option FirstRow
-as_first (Some (First f)) = Some f
-as_first _ = None
-
 abbrev pub as_member : Option Row → Option MemberRow
 as_member (Some (Member m)) = Some m
 as_member _ = None
@@ -113,10 +109,6 @@ as_late _ = None
 abbrev pub as_quantum : Option Row → Option (Pick × ℕ)
 as_quantum (Some (Ran p place)) = Some (p, place)
 as_quantum _ = None
-
-abbrev pub as_end : Option Row → Option ℕ
-as_end (Some (End rows)) = Some rows
-as_end _ = None
 
 -- neither of a member nor of a late release
 abbrev pub IsBehindMembers : List Row → Type 0

@@ -10,7 +10,7 @@ ghost use Rattle.pfair_state.specs.Rows.{state_text};
 ghost use Rattle.pfair_state.specs.declared.fault.ReadFault.TheVariants.{Memory};
 
 use crate::fault::{ReadFault, Why, no_row, refused};
-use crate::rows::{MemberRow, Row, begin_at, end_at, late_at, member_at, quantum_at, read_rows};
+use crate::rows::{MemberRow, Row, read_rows, row_at};
 use crate::write::add_state;
 use pfair_admission::{Delay, MemberState, Members, RestoreFault};
 use pfair_table::{Settings, State};
@@ -62,7 +62,7 @@ fn first_other_line(own: &[u8], text: &[u8]) -> usize {
 fn state_of(alloc: Global, rows: &[Row]) -> Result<State, ReadFault>
     ensures { (c : Carried) → IsWritable c → rows.now ≡ said_of c → IsReadAs result (λ state. state ≡ c) }
 {
-    let Some(first) = begin_at(rows) else {
+    let Some(Row::First(first)) = row_at(rows, 0) else {
         return Err(no_row(0));
     };
     if first.form != 1 {
@@ -78,10 +78,10 @@ fn state_of(alloc: Global, rows: &[Row]) -> Result<State, ReadFault>
     let quanta = read_members(alloc, &mut members, first.slot, rows)?;
     let mut state = State::new(alloc, first.slot, members);
     let end = read_quanta(&mut state, rows, quanta)?;
-    match end_at(rows, end) {
-        Some(count) if count == rows.len() as u64 && rows.len() == end + 1 => Ok(state),
-        Some(_) => Err(refused(end, Why::Incomplete)),
-        None => Err(no_row(end)),
+    match row_at(rows, end) {
+        Some(Row::End(count)) if count == rows.len() as u64 && rows.len() == end + 1 => Ok(state),
+        Some(Row::End(_)) => Err(refused(end, Why::Incomplete)),
+        _ => Err(no_row(end)),
     }
 }
 
@@ -103,7 +103,7 @@ fn read_members(
         IsReadAs result (λ at. (drop at rows.now ≡ behind) × (members.new ≡ record members.old { members = all }))) }
 {
     let mut at = 1;
-    while let Some(member) = member_at(rows, at) {
+    while let Some(Row::Member(member)) = row_at(rows, at) {
         let delays = delays_behind(alloc, rows, at + 1, &member.name)?;
         let behind = at + 1 + delays.len();
         if let Err(why) = restore(members, slot, member, delays) {
@@ -126,7 +126,7 @@ fn delays_behind(
     ensures back { IfDelaysFrom rows.now from task.now (λ delays. IfOk result (λ read. read.items ≡ delays)) }
 {
     let mut delays = Vec::new(alloc);
-    while let Some(late) = late_at(rows, from + delays.len()) {
+    while let Some(Row::Late(late)) = row_at(rows, from + delays.len()) {
         if late.name != *task {
             break;
         }
@@ -180,7 +180,7 @@ fn read_quanta(state: &mut State, rows: &[Row], from: usize) -> Result<usize, Re
         IsReadAs result (λ end. (drop end rows.now ≡ behind) × (state.new ≡ record state.old { table = table; places = places }))) }
 {
     let mut at = from;
-    while let Some((pick, place)) = quantum_at(rows, at) {
+    while let Some(Row::Ran(pick, place)) = row_at(rows, at) {
         if !state.add_row(pick, place)? {
             return Err(refused(at, Why::Quantum));
         }

@@ -2,7 +2,7 @@
 ghost use Rattle.std.specs.Prelude.{◌≡◌, List, map, slice_get, ◌<◌, ◌^◌, Some, IfSome, Option, ℕ};
 ghost use Rattle.std.specs.List.{AllByRecursion};
 ghost use Rattle.pfair_text.specs.Rows.{lines_text};
-ghost use Rattle.pfair_state.specs.Reading.{IsReadAs, IsSpelled, as_first, as_end, fields_of, as_late, as_member, as_quantum, first_fields, late_fields, member_fields, ran_fields};
+ghost use Rattle.pfair_state.specs.Reading.{IsReadAs, IsSpelled, fields_of, first_fields, late_fields, member_fields, ran_fields};
 ghost use Rattle.pfair_state.specs.declared.rows.Row.{Row};
 ghost use Rattle.pfair_entry_row.specs.Fields.{parts};
 ghost use Rattle.pfair_state.specs.Rows.{slot_field};
@@ -41,63 +41,15 @@ pub(crate) fn read_rows(alloc: Global, text: &[u8]) -> Result<Vec<Row>, ReadFaul
     }
 }
 
-/// The row of the slot, the processors and the frame, if it is the first.
-pub(crate) fn begin_at(rows: &[Row]) -> Option<FirstRow>
-    ensures { result ≡ as_first (slice_get rows.now 0) }
+/// The row at a place, if there is one.
+pub(crate) fn row_at(rows: &[Row], at: usize) -> Option<Row>
+    ensures { result ≡ slice_get rows.now at }
 {
-    let row = rows.first()?;
-    match *row {
-        Row::First(first) => Some(first),
-        _ => None,
-    }
-}
-
-/// The row of a member at a place, if there is one.
-pub(crate) fn member_at(rows: &[Row], at: usize) -> Option<MemberRow>
-    ensures { result ≡ as_member (slice_get rows.now at) }
-{
-    let row = rows.get(at)?;
-    match *row {
-        Row::Member(member) => Some(member),
-        _ => None,
-    }
-}
-
-/// The row of a late release at a place, if there is one.
-pub(crate) fn late_at(rows: &[Row], at: usize) -> Option<LateRow>
-    ensures { result ≡ as_late (slice_get rows.now at) }
-{
-    let row = rows.get(at)?;
-    match *row {
-        Row::Late(late) => Some(late),
-        _ => None,
-    }
-}
-
-/// The row of a quantum at a place, if there is one: the quantum and its processor.
-pub(crate) fn quantum_at(rows: &[Row], at: usize) -> Option<(Pick, u8)>
-    ensures { result ≡ as_quantum (slice_get rows.now at) }
-{
-    let row = rows.get(at)?;
-    match *row {
-        Row::Ran(pick, place) => Some((pick, place)),
-        _ => None,
-    }
-}
-
-/// The number of rows that the last row at a place says, if there is one.
-pub(crate) fn end_at(rows: &[Row], at: usize) -> Option<u64>
-    ensures { result ≡ as_end (slice_get rows.now at) }
-{
-    let row = rows.get(at)?;
-    match *row {
-        Row::End(count) => Some(count),
-        _ => None,
-    }
+    rows.get(at).copied()
 }
 
 /// A row of a state.
-#[derive(Clone, Copy, Debug, PartialEq, Eq)]
+#[derive(Clone, Copy)]
 pub(crate) enum Row {
     First(FirstRow),
     Member(MemberRow),
@@ -108,7 +60,7 @@ pub(crate) enum Row {
 }
 
 /// The row of the form of the rows, the slot, the processors and the frame.
-#[derive(Clone, Copy, Debug, PartialEq, Eq)]
+#[derive(Clone, Copy)]
 pub(crate) struct FirstRow {
     pub form: u64,
     pub slot: u64,
@@ -117,7 +69,7 @@ pub(crate) struct FirstRow {
 }
 
 /// The row of a member, without its late releases.
-#[derive(Clone, Copy, Debug, PartialEq, Eq)]
+#[derive(Clone, Copy)]
 pub(crate) struct MemberRow {
     pub name: TaskName,
     pub weight: Weight,
@@ -128,7 +80,7 @@ pub(crate) struct MemberRow {
 }
 
 /// The row of a late release of a task.
-#[derive(Clone, Copy, Debug, PartialEq, Eq)]
+#[derive(Clone, Copy)]
 pub(crate) struct LateRow {
     pub name: TaskName,
     pub index: u64,

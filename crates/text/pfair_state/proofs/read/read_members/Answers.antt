@@ -1,20 +1,19 @@
-use Rattle.std.proofs.Common.{rules, arith, ℕ, ◌≡◌, ◌+◌, ap, subst, sym, ◌∙◌, length, slice_get}
-use Rattle.pfair_state.proofs.Common.{Roster}
+use Rattle.std.proofs.Common.{rules, arith, ℕ, ◌≡◌, ◌+◌, ap, subst, sym, ◌∙◌, length, None, Some}
+use Rattle.pfair_state.proofs.Common.{Roster, as_member}
 use Rattle.pfair_state.proofs.MembersRead.{AreRestoredSoFar, all_restored, can, restored}
-use Rattle.pfair_state.proofs.RowKinds.{member_is}
 use Rattle.pfair_state.proofs.read.read_members.Goals as goal
 
 pub returns-in-Err-clause-back : goal.returns-in-Err-clause-back
 returns-in-Err-clause-back c all behind none left is ends =
     let rows = c.args.rows.now in
-    let here = member_is (slice_get rows c.loop-member.at) c.in-Some.member (sym c.member_at.ensures ∙ c.in-Some.is) in
+    let here = sym c.row_at.ensures ∙ c.in-Some-Member.is ∙ ap Some c.in-Some-Member.field-0-is in
     c.not_restored.ensures (c.in-Err.ensures.back
-    (can rows c.args.slot c.args.members.now c.loop-member.members c.loop-member.at c.loop-member.invariant.4 c.in-Some.member here c.in_ok-delays.delays.items c.in_ok-delays.ensures.back all behind none left is ends))
+    (can rows c.args.slot c.args.members.now c.loop-member.members c.loop-member.at c.loop-member.invariant.4 c.in-Some-Member.member here c.in_ok-delays.delays.items c.in_ok-delays.ensures.back all behind none left is ends))
 
 pub loop-member-preserved : goal.loop-member-preserved
 loop-member-preserved c =
     let rows = c.args.rows.now in
-    let here = member_is (slice_get rows c.loop-member.at) c.in-Some.member (sym c.member_at.ensures ∙ c.in-Some.is) in
+    let here = sym c.row_at.ensures ∙ c.in-Some-Member.is ∙ ap Some c.in-Some-Member.field-0-is in
     let long : c.len.result ≡ length c.in_ok-delays.delays.items = search (rules, arith) in
     let inside = c.in_ok-delays.ensures.inside in
     let grown = c.in_default-restore.ensures.members in
@@ -25,9 +24,15 @@ loop-member-preserved c =
       ap (λ (r : Roster). r.machine) grown ∙ machine,
       ap (λ (r : Roster). r.last_slot) grown ∙ before,
       subst (λ (n : ℕ). AreRestoredSoFar rows c.args.slot c.args.members.now c.restore.new.members (c.loop-member.at + 1 + n)) (sym long)
-          (restored rows c.args.slot c.args.members.now c.loop-member.members c.loop-member.at c.loop-member.invariant.4 c.in-Some.member here c.in_ok-delays.delays.items c.in_ok-delays.ensures.back c.restore.new.members grown),
+          (restored rows c.args.slot c.args.members.now c.loop-member.members c.loop-member.at c.loop-member.invariant.4 c.in-Some-Member.member here c.in_ok-delays.delays.items c.in_ok-delays.ensures.back c.restore.new.members grown),
     )
 
-pub returns-clause-back : goal.returns-clause-back
-returns-clause-back c all behind none left is ends =
-    all_restored c.args.rows.now c.args.slot c.args.members.now c.loop-member.members c.loop-member.at c.loop-member.invariant.4 (sym c.member_at.ensures ∙ c.in_default.is) all behind none left is ends
+pub returns-in_default-clause-back : goal.returns-in_default-clause-back
+returns-in_default-clause-back c all behind none left is ends =
+    let ended : as_member c.row_at.result ≡ None = search rules in
+    all_restored c.args.rows.now c.args.slot c.args.members.now c.loop-member.members c.loop-member.at c.loop-member.invariant.4 (ap as_member (sym c.row_at.ensures) ∙ ended) all behind none left is ends
+
+pub returns-in_default-2-clause-back : goal.returns-in_default-2-clause-back
+returns-in_default-2-clause-back c all behind none left is ends =
+    let ended : as_member c.row_at.result ≡ None = search rules in
+    all_restored c.args.rows.now c.args.slot c.args.members.now c.loop-member.members c.loop-member.at c.loop-member.invariant.4 (ap as_member (sym c.row_at.ensures) ∙ ended) all behind none left is ends
