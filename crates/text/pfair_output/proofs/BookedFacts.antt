@@ -1,6 +1,6 @@
 -- The rows of a book that is notified of one slot after another.
-use Rattle.std.proofs.Common.{ℕ, suc, ◌+◌, ◌-◌, ◌<◌, ◌≤◌, ◌≡◌, refl, sym, ap, ◌∙◌, arith, true, false, cond, List, [], ◌∷◌, ◌++◌, Some, map, length, min, take, drop, append_assoc, slice_get, is_some, ℤ}
-use Rattle.pfair_output.proofs.Common.{option_map, append-nil, drop_all, length-drop, length-take, same_Some, line, lines_text, first_left, lines_text-append, Table, Tally, Book, tally_of, lag_of, entered_with, left, is_admitted, is_leave, booked, all_booked, slot_booked, all_slots_booked, tally_row, book_rows, rows_booked}
+use Rattle.std.proofs.Common.{ℕ, suc, ◌+◌, ◌-◌, ◌<◌, ◌≤◌, ◌≡◌, refl, ap, ◌∙◌, arith, List, [], ◌∷◌, ◌++◌, Some, map, length, min, take, drop, append_assoc, slice_get, ℤ}
+use Rattle.pfair_output.proofs.Common.{option_map, append-nil, drop_all, length-drop, length-take, same_Some, line, lines_text, first_left, lines_text-append, Table, Tally, Book, lag_of, entered_with, booked, all_booked, slot_booked, all_slots_booked, tally_row, book_rows, rows_booked}
 use Rattle.std.specs.Fmt.{decimal, signed_decimal}
 use Rattle.pfair_weight.specs.Share.{Share}
 use Rattle.pfair_entry.specs.declared.entry.Announcement.{Announcement}
@@ -12,13 +12,11 @@ use Rattle.pfair_weight.specs.Name.{NameValue}
 -- ---- time
 
 entered_time : (name : NameValue) (weight : Share) (book : Book) → (entered_with name weight book).time ≡ book.time
-entered_time name weight book =
-    elim (is_some (tally_of name book)) as (λ b. (cond b book (record book { entered = book.entered ++ (name, record { weight = weight; slots = 0; ran = 0 }) ∷ [] })).time ≡ book.time) [ true ↦ refl | false ↦ refl ]
+entered_time name weight book = grind arith
 
 time-booked : (a : Announcement) (d : Decision) (book : Book) → (booked a d book).time ≡ book.time
-time-booked (Arrive name weight early) d book =
-    elim (is_admitted d) as (λ b. (cond b (entered_with name weight book) book).time ≡ book.time) [ true ↦ entered_time name weight book | false ↦ refl ]
-time-booked (Depart name) d book = elim (is_leave d) as (λ b. (cond b (left name book) book).time ≡ book.time) [ true ↦ refl | false ↦ refl ]
+time-booked (Arrive name weight early) d book = grind (arith, entered_time)
+time-booked (Depart name) d book = grind arith
 time-booked (Late name index by) d book = refl
 
 pub time-all_booked : (ds : List Decided) (book : Book) → (all_booked ds book).time ≡ book.time
@@ -39,20 +37,13 @@ row_is time time' name e numerator period t n same = λ i. decimal (t i) ∷ n i
 
 -- ---- rows
 
-one_line : (row : List (List ℕ)) → lines_text (row ∷ []) ≡ line row
-one_line row = append-nil (line row)
-
 -- one task more
 pub task_more : (row : NameValue × Tally → List (List ℕ)) (es : List (NameValue × Tally)) (place : ℕ) (before after : List ℕ) → place < length es
     → ((e : NameValue × Tally) → slice_get es place ≡ Some e → after ≡ before ++ line (row e))
     → after ++ lines_text (map row (drop (place + 1) es)) ≡ before ++ lines_text (map row (drop place es))
 task_more row es place before after inside grown =
     let t = first_left es place inside in
-    let rest : List (List (List ℕ)) = map row (drop (place + 1) es) in
-    ap (λ text. text ++ lines_text rest) (grown t.0 t.1 ∙ ap (λ text. before ++ text) (sym (one_line (row t.0))))
-    ∙ append_assoc before (lines_text (row t.0 ∷ [])) (lines_text rest)
-    ∙ ap (λ text. before ++ text) (sym (lines_text-append (row t.0 ∷ []) rest))
-    ∙ ap (λ (l : List (NameValue × Tally)). before ++ lines_text (map row l)) (sym t.2)
+    rw (grown t.0 t.1, t.2) (append_assoc before (line (row t.0)) (lines_text (map row (drop (place + 1) es))))
 
 -- one slot more
 pub booked_more : (ds : List (List Decided)) (ts : List Table) (slot : ℕ) (book book' : Book) (before after : List ℕ) → slot < length ds → slot < length ts
@@ -64,12 +55,7 @@ booked_more ds ts slot book book' before after inside inside' moved grown =
     let t = first_left ts slot inside' in
     let next : Book = slot_booked d.0 t.0 book in
     let rest : List (List (List ℕ)) = rows_booked next (drop (slot + 1) ds) (drop (slot + 1) ts) in
-    ap (λ (b : Book). after ++ lines_text (rows_booked b (drop (slot + 1) ds) (drop (slot + 1) ts))) (moved d.0 t.0 d.1 t.1)
-    ∙ ap (λ text. text ++ lines_text rest) (grown d.0 t.0 d.1 t.1)
-    ∙ append_assoc before (lines_text (book_rows next)) (lines_text rest)
-    ∙ ap (λ text. before ++ text) (sym (lines_text-append (book_rows next) rest))
-    ∙ ap (λ (l : List (List Decided)). before ++ lines_text (rows_booked book l (t.0 ∷ drop (slot + 1) ts))) (sym d.2)
-    ∙ ap (λ (l : List Table). before ++ lines_text (rows_booked book (drop slot ds) l)) (sym t.2)
+    rw (moved d.0 t.0 d.1 t.1, grown d.0 t.0 d.1 t.1, d.2, t.2, lines_text-append (book_rows next) rest) (append_assoc before (lines_text (book_rows next)) (lines_text rest))
 
 pub booked_time : (ds : List (List Decided)) (ts : List Table) (slot : ℕ) (book book' : Book) → slot < length ds → slot < length ts
     → ((d : List Decided) (t : Table) → slice_get ds slot ≡ Some d → slice_get ts slot ≡ Some t → book' ≡ slot_booked d t book)
@@ -91,9 +77,7 @@ pub over_more : (ds : List (List Decided)) (ts : List Table) (slot : ℕ) (book 
 over_more ds ts slot book book' inside inside' moved =
     let d = first_left ds slot inside in
     let t = first_left ts slot inside' in
-    ap (λ (b : Book). all_slots_booked b (drop (slot + 1) ds) (drop (slot + 1) ts)) (moved d.0 t.0 d.1 t.1)
-    ∙ ap (λ (l : List (List Decided)). all_slots_booked book l (t.0 ∷ drop (slot + 1) ts)) (sym d.2)
-    ∙ ap (λ (l : List Table). all_slots_booked book (drop slot ds) l) (sym t.2)
+    rw (moved d.0 t.0 d.1 t.1, d.2, t.2) refl
 
 pub over_done : (ds : List (List Decided)) (ts : List Table) (slot : ℕ) (book : Book) → length ds ≤ slot → all_slots_booked book (drop slot ds) (drop slot ts) ≡ book
 over_done ds ts slot book past = ap (λ (l : List (List Decided)). all_slots_booked book l (drop slot ts)) (drop_all slot ds past)
@@ -105,12 +89,8 @@ pub over_more_to : (ds : List (List Decided)) (ts : List Table) (slot to : ℕ) 
 over_more_to ds ts slot to book book' early inside inside' moved =
     let d = first_left ds slot inside in
     let t = first_left ts slot inside' in
-    let n : ℕ = to - (slot + 1) in
-    let next : to - slot ≡ suc n = omega arith in
-    ap (λ (b : Book). all_slots_booked b (take n (drop (slot + 1) ds)) (take n (drop (slot + 1) ts))) (moved d.0 t.0 d.1 t.1)
-    ∙ ap (λ (l : List (List Decided)). all_slots_booked book (take (suc n) l) (take (suc n) (t.0 ∷ drop (slot + 1) ts))) (sym d.2)
-    ∙ ap (λ (l : List Table). all_slots_booked book (take (suc n) (drop slot ds)) (take (suc n) l)) (sym t.2)
-    ∙ ap (λ (m : ℕ). all_slots_booked book (take m (drop slot ds)) (take m (drop slot ts))) (sym next)
+    let next : to - slot ≡ suc (to - (slot + 1)) = omega arith in
+    rw (moved d.0 t.0 d.1 t.1, d.2, t.2, next) refl
 
 pub over_done_to : (ds : List (List Decided)) (ts : List Table) (slot to : ℕ) (book : Book) → min (length ds) to ≤ slot
     → all_slots_booked book (take (to - slot) (drop slot ds)) (take (to - slot) (drop slot ts)) ≡ book

@@ -20,11 +20,7 @@ slots_more rows from to (y ∷ ys) x e =
 
 -- a text with some rows, and then with more
 pub text_more : (start before after : List ℕ) (rows more : List (List (List ℕ))) → before ≡ start ++ lines_text rows → after ≡ before ++ lines_text more → after ≡ start ++ lines_text (rows ++ more)
-text_more start before after rows more had has =
-    has
-    ∙ ap (λ (text : List ℕ). text ++ lines_text more) had
-    ∙ append_assoc start (lines_text rows) (lines_text more)
-    ∙ ap (λ (text : List ℕ). start ++ text) (sym (lines_text-append rows more))
+text_more start before after rows more had has = rw (has, had, lines_text-append rows more) (append_assoc start (lines_text rows) (lines_text more))
 
 module _ (s : Settings) (x : Replica) (n : ℕ) (start before after : List ℕ) where
   next_number : n + 1 ≡ suc n

@@ -10,11 +10,7 @@ module _ {A : Type 0} (rows : ℕ → A → List (List (List ℕ))) where
       let t = first_left xs slot inside in
       let rest : List A = drop (slot + 1) xs in
       let next : slot + 1 ≡ suc slot = omega arith in
-      ap (λ text. text ++ lines_text (slots_from rows (slot + 1) rest)) (grown t.0 t.1)
-      ∙ append_assoc before (lines_text (rows slot t.0)) (lines_text (slots_from rows (slot + 1) rest))
-      ∙ ap (λ (n : ℕ). before ++ (lines_text (rows slot t.0) ++ lines_text (slots_from rows n rest))) next
-      ∙ ap (λ text. before ++ text) (sym (lines_text-append (rows slot t.0) (slots_from rows (suc slot) rest)))
-      ∙ ap (λ left. before ++ lines_text (slots_from rows slot left)) (sym t.2)
+      rw (grown t.0 t.1, t.2, ← next, lines_text-append (rows slot t.0) (slots_from rows (slot + 1) rest)) (append_assoc before (lines_text (rows slot t.0)) (lines_text (slots_from rows (slot + 1) rest)))
 
   -- after the last slot nothing is left
   pub slots_done : (xs : List A) (slot : ℕ) (text : List ℕ) → length xs ≤ slot → text ++ lines_text (slots_from rows slot (drop slot xs)) ≡ text

@@ -1,6 +1,6 @@
 -- A book that is notified of a run's slots has the members that stay, with their lags.
-use Rattle.std.proofs.Common.{ℕ, zero, suc, ◌+◌, ◌-◌, ◌≤◌, ◌≡◌, refl, sym, ap, ◌∙◌, arith, subst, Bool, true, false, cond, not, ◌||◌, List, [], ◌∷◌, ◌++◌, Option, Some, None, map, length, append_assoc, is_some, filter, min, nat_le, if◌then◌else◌}
-use Rattle.pfair_output.proofs.Common.{AllByRecursion, flat_map, map-append, append-nil, flat_map-append, Replica, frontier, said, numbers_below, replica_of, Settings, Origin, Story, Table, machine, members_before, names_task, slot_of, history, world, table, decisions, with_decisions, plan, Tally, Book, empty_book, tally_of, has_run, entered_after, entered_with, slot_more, is_staying, lag_row, lag_rows, booked, all_booked, slot_booked, all_slots_booked, tally_row, book_rows, rows_booked, all_entered, entered_again, first_book}
+use Rattle.std.proofs.Common.{ℕ, zero, suc, ◌+◌, ◌-◌, ◌≤◌, ◌≡◌, refl, sym, ap, ◌∙◌, arith, subst, Bool, true, false, cond, not, List, [], ◌∷◌, ◌++◌, Some, None, map, length, append_assoc, filter, min}
+use Rattle.pfair_output.proofs.Common.{AllByRecursion, flat_map, map-append, append-nil, flat_map-append, Replica, frontier, said, numbers_below, replica_of, Settings, Origin, Story, Table, machine, members_before, names_task, slot_of, history, world, table, decisions, with_decisions, plan, Tally, Book, empty_book, tally_of, has_run, entered_with, slot_more, is_staying, lag_row, lag_rows, booked, all_booked, slot_booked, all_slots_booked, tally_row, book_rows, rows_booked, all_entered, entered_again, first_book}
 use Rattle.std.specs.Cmp.Lexicographic.{nat_list_eq_equiv}
 use Rattle.std.specs.Map.{lookup}
 use Rattle.pfair_weight.specs.Name.{NameValue, NamesApart, name_eq}
@@ -11,9 +11,9 @@ use Rattle.pfair_entry.specs.declared.entry.Announcement.TheVariants.{Arrive, De
 use Rattle.pfair_entry.specs.declared.entry.Said.{Said}
 use Rattle.pfair_table.specs.Refinement.{Dispatch, IsWholePlan}
 use Rattle.pfair_admission.specs.declared.decision.Decision.{Decision}
-use Rattle.pfair_admission.specs.declared.decision.Decision.TheVariants.{Admitted, Departing, Delayed, Refused}
-use Rattle.pfair_admission.specs.Member.{Member, is_departing}
-use Rattle.pfair_admission.specs.Admission.{Machine, member_named, decision, newcomer, with_freeing, with_delay, with_quantum, change, effect, is_freed, present, all_decided, all_decisions, announcements}
+use Rattle.pfair_admission.specs.declared.decision.Decision.TheVariants.{Admitted, Departing, Delayed}
+use Rattle.pfair_admission.specs.Member.{Member}
+use Rattle.pfair_admission.specs.Admission.{Machine, member_named, decision, newcomer, with_freeing, with_delay, change, effect, present, all_decided, all_decisions, announcements}
 use Rattle.pfair_table.specs.declared.slot.Pick.{Pick}
 use Rattle.pfair_table.specs.declared.slot.Decided.{Decided}
 use Rattle.pfair_admission.proofs.Deciding.{admitted_new}
@@ -33,41 +33,19 @@ shown_all time ms = map (shown time) (filter is_staying ms)
 
 -- ---- who is present
 
-stays_present : (t : ℕ) (m : Member) (rest kept : List Member) (o : Option ℕ) → filter is_staying kept ≡ rest
-    → filter is_staying (cond (not (is_freed t o)) (record m { freed_at = o } ∷ kept) kept) ≡ cond (not (is_some o)) (record m { freed_at = o } ∷ rest) rest
-stays_present t m rest kept None e = ap (λ l. record m { freed_at = None } ∷ l) e
-stays_present t m rest kept (Some slot) e =
-    elim (nat_le slot t) as (λ b. filter is_staying (cond (not b) (record m { freed_at = Some slot } ∷ kept) kept) ≡ rest) [ true ↦ e | false ↦ e ]
-
 staying_present : (t : ℕ) (ms : List Member) → filter is_staying (present t ms) ≡ filter is_staying ms
 staying_present t [] = refl
-staying_present t (m ∷ ms) = stays_present t m (filter is_staying ms) (present t ms) m.freed_at (staying_present t ms)
+staying_present t (m ∷ ms) = grind (arith, staying_present t ms)
 
 -- ---- who enters
 
 no_entry : (time : ℕ) (name : NameValue) (ms : List Member) → member_named ms name ≡ None → lookup (name_eq name) (shown_all time ms) ≡ None
 no_entry time name [] none = refl
-no_entry time name (m ∷ ms) none =
-    elim (name_eq name m.name) as (λ b. name_eq name m.name ≡ b → cond b (Some m) (member_named ms name) ≡ None → lookup (name_eq name) (shown_all time (m ∷ ms)) ≡ None) [
-      | true ↦ λ _ n. absurd (some_none m n)
-      | false ↦ λ e n.
-          let rest : lookup (name_eq name) (shown_all time ms) ≡ None = no_entry time name ms n in
-          elim (is_staying m) as (λ b. lookup (name_eq name) (map (shown time) (cond b (m ∷ filter is_staying ms) (filter is_staying ms))) ≡ None) [
-            | true ↦ ap (λ b. cond b (Some (shown time m).1) (lookup (name_eq name) (shown_all time ms))) e ∙ rest
-            | false ↦ rest
-          ]
-    ] refl none
-  where
-    some_none : {A : Type 0} (x : A) → Some x ≡ None → ⊥
-    some_none x e = cc
+no_entry time name (m ∷ ms) none = grind (arith, no_entry time name ms)
 
 staying_push : (ms : List Member) (m : Member) → is_staying m ≡ true → filter is_staying (ms ++ m ∷ []) ≡ filter is_staying ms ++ m ∷ []
-staying_push [] m e = ap (λ b. cond b (m ∷ []) []) e
-staying_push (x ∷ ms) m e =
-    elim (is_staying x) as (λ b. cond b (x ∷ filter is_staying (ms ++ m ∷ [])) (filter is_staying (ms ++ m ∷ [])) ≡ cond b (x ∷ filter is_staying ms) (filter is_staying ms) ++ m ∷ []) [
-      | true ↦ ap (λ l. x ∷ l) (staying_push ms m e)
-      | false ↦ staying_push ms m e
-    ]
+staying_push [] m e = grind arith
+staying_push (x ∷ ms) m e = grind (arith, staying_push ms m e)
 
 -- a newcomer has had no slot and no quantum
 new_shown : (t : ℕ) (name : NameValue) (w : Share) (early : Bool) → shown t (newcomer t name w early) ≡ (name, record { weight = w; slots = 0; ran = 0 })
@@ -76,47 +54,19 @@ new_shown t name w early = (let slots : t - t ≡ 0 = omega arith in λ i. (name
 entered_new : (t : ℕ) (ms : List Member) (name : NameValue) (w : Share) (early : Bool) (book : Book)
     → book.entered ≡ shown_all t ms → member_named ms name ≡ None
     → (entered_with name w book).entered ≡ shown_all t (ms ++ newcomer t name w early ∷ [])
-entered_new t ms name w early book is none =
-    let fresh : is_some (tally_of name book) ≡ false = ap is_some (ap (lookup (name_eq name)) is ∙ no_entry t name ms none) in
-    ap (λ b. (cond b book (record book { entered = book.entered ++ (name, record { weight = w; slots = 0; ran = 0 }) ∷ [] })).entered) fresh
-    ∙ ap (λ (l : List (NameValue × Tally)). l ++ (name, record { weight = w; slots = 0; ran = 0 }) ∷ []) is
-    ∙ ap (λ (e : NameValue × Tally). shown_all t ms ++ e ∷ []) (sym (new_shown t name w early))
-    ∙ sym (ap (map (shown t)) (staying_push ms (newcomer t name w early) refl) ∙ map-append (shown t) (filter is_staying ms) (newcomer t name w early ∷ []))
+entered_new t ms name w early book is none = grind (arith, no_entry t name ms, new_shown t name w early, staying_push ms (newcomer t name w early) refl, map-append)
 
 -- ---- who leaves
 
 shown_left : (t : ℕ) (name : NameValue) (slot : ℕ) (ms : List Member) → filter (λ (e : NameValue × Tally). not (name_eq name e.0)) (shown_all t ms) ≡ shown_all t (change name (with_freeing slot) ms)
 shown_left t name slot [] = refl
-shown_left t name slot (m ∷ ms) =
-    let others : NameValue × Tally → Bool = λ e. not (name_eq name e.0) in
-    let rest : filter others (shown_all t ms) ≡ shown_all t (change name (with_freeing slot) ms) = shown_left t name slot ms in
-    elim (name_eq name m.name) as (λ b. name_eq name m.name ≡ b → filter others (shown_all t (m ∷ ms)) ≡ shown_all t (cond b (with_freeing slot m) m ∷ change name (with_freeing slot) ms)) [
-      | true ↦ λ e. elim (is_staying m) as (λ s. filter others (map (shown t) (cond s (m ∷ filter is_staying ms) (filter is_staying ms))) ≡ shown_all t (change name (with_freeing slot) ms)) [
-        | true ↦ ap (λ b. cond (not b) (shown t m ∷ filter others (shown_all t ms)) (filter others (shown_all t ms))) e ∙ rest
-        | false ↦ rest
-      ]
-      | false ↦ λ e. elim (is_staying m) as (λ s. filter others (map (shown t) (cond s (m ∷ filter is_staying ms) (filter is_staying ms))) ≡ map (shown t) (cond s (m ∷ filter is_staying (change name (with_freeing slot) ms)) (filter is_staying (change name (with_freeing slot) ms)))) [
-        | true ↦ ap (λ b. cond (not b) (shown t m ∷ filter others (shown_all t ms)) (filter others (shown_all t ms))) e ∙ ap (λ l. shown t m ∷ l) rest
-        | false ↦ rest
-      ]
-    ] refl
+shown_left t name slot (m ∷ ms) = grind (arith, shown_left t name slot ms)
 
 -- ---- who is late
 
 shown_late : (t : ℕ) (name : NameValue) (index by : ℕ) (ms : List Member) → shown_all t (change name (with_delay index by) ms) ≡ shown_all t ms
 shown_late t name index by [] = refl
-shown_late t name index by (m ∷ ms) =
-    let rest : shown_all t (change name (with_delay index by) ms) ≡ shown_all t ms = shown_late t name index by ms in
-    elim (name_eq name m.name) as (λ b. shown_all t (cond b (with_delay index by m) m ∷ change name (with_delay index by) ms) ≡ shown_all t (m ∷ ms)) [
-      | true ↦ elim (is_staying m) as (λ s. map (shown t) (cond s (with_delay index by m ∷ filter is_staying (change name (with_delay index by) ms)) (filter is_staying (change name (with_delay index by) ms))) ≡ map (shown t) (cond s (m ∷ filter is_staying ms) (filter is_staying ms))) [
-        | true ↦ ap (λ l. shown t m ∷ l) rest
-        | false ↦ rest
-      ]
-      | false ↦ elim (is_staying m) as (λ s. map (shown t) (cond s (m ∷ filter is_staying (change name (with_delay index by) ms)) (filter is_staying (change name (with_delay index by) ms))) ≡ map (shown t) (cond s (m ∷ filter is_staying ms) (filter is_staying ms))) [
-        | true ↦ ap (λ l. shown t m ∷ l) rest
-        | false ↦ rest
-      ]
-    ]
+shown_late t name index by (m ∷ ms) = grind (arith, shown_late t name index by ms)
 
 -- ---- one announcement
 
@@ -124,17 +74,9 @@ one_booked : (machine : Machine) (t : ℕ) (ms : List Member) (a : Announcement)
     → d ≡ decision machine t ms a → book.entered ≡ shown_all t ms
     → (booked a d book).entered ≡ shown_all t (effect t ms a d)
 one_booked machine t ms (Arrive name w early) Admitted book is at = entered_new t ms name w early book at (admitted_new machine ms name w is)
-one_booked machine t ms (Arrive name w early) (Departing slot) book is at = at
-one_booked machine t ms (Arrive name w early) Delayed book is at = at
-one_booked machine t ms (Arrive name w early) (Refused why) book is at = at
-one_booked machine t ms (Depart name) Admitted book is at = at
 one_booked machine t ms (Depart name) (Departing slot) book is at = ap (filter (λ (e : NameValue × Tally). not (name_eq name e.0))) at ∙ shown_left t name slot ms
-one_booked machine t ms (Depart name) Delayed book is at = at
-one_booked machine t ms (Depart name) (Refused why) book is at = at
-one_booked machine t ms (Late name index by) Admitted book is at = at
-one_booked machine t ms (Late name index by) (Departing slot) book is at = at
 one_booked machine t ms (Late name index by) Delayed book is at = at ∙ sym (shown_late t name index by ms)
-one_booked machine t ms (Late name index by) (Refused why) book is at = at
+one_booked machine t ms _ _ book is at = at
 
 -- ---- all of a slot
 
@@ -143,16 +85,15 @@ all_of_slot : (machine : Machine) (t : ℕ) (announced : List Said) (ms : List M
     → (all_booked (with_decisions announced (all_decisions machine t ms (announcements announced))) book).entered ≡ shown_all t (all_decided machine t ms (announcements announced))
 all_of_slot machine t [] ms book at = at
 all_of_slot machine t (a ∷ more) ms book at =
-    let d : Decision = decision machine t ms a.announcement in
-    let after : List Member = effect t ms a.announcement d in
-    let one : (booked a.announcement d book).entered ≡ shown_all t after = one_booked machine t ms a.announcement d book refl at in
-    all_of_slot machine t more (present t after) (booked a.announcement d book) (one ∙ ap (map (shown t)) (sym (staying_present t after)))
+    let d = decision machine t ms a.announcement in
+    let after = effect t ms a.announcement d in
+    all_of_slot machine t more (present t after) (booked a.announcement d book) (one_booked machine t ms a.announcement d book refl at ∙ ap (map (shown t)) (sym (staying_present t after)))
 
 -- ---- the table of a slot
 
 any_of_names : (name : NameValue) (table : Table) → has_run (map (λ (p : Pick). p.name) table) name ≡ names_task name table
 any_of_names name [] = refl
-any_of_names name (p ∷ table) = ap (λ b. name_eq name p.name || b) (any_of_names name table)
+any_of_names name (p ∷ table) = grind (arith, any_of_names name table)
 
 turned : (a b : NameValue) → name_eq a b ≡ false → name_eq b a ≡ false
 turned a b e = nat_list_eq_equiv.symm b a ∙ e
@@ -162,27 +103,15 @@ abbrev pub HasJoined : ℕ → Member → Type 0
 HasJoined slot m = (m.joined ≤ slot) × (1 ≤ m.next)
 
 shown_more : (slot : ℕ) (rows : Table) (m : Member) → HasJoined slot m → (m.name, slot_more (map (λ (p : Pick). p.name) rows) m.name (shown slot m).1) ≡ shown (slot + 1) (after_table rows m)
-shown_more slot rows m h =
-    ap (λ b. (m.name, record { weight = m.weight; slots = slot - m.joined + 1; ran = m.next - 1 + cond b 1 0 })) (any_of_names m.name rows) ∙ by (names_task m.name rows)
-  where
-    by : (b : Bool) → (m.name, record { weight = m.weight; slots = slot - m.joined + 1; ran = m.next - 1 + cond b 1 0 }) ≡ shown (slot + 1) (if b then with_quantum m else m)
-    by true = (let slots : slot - m.joined + 1 ≡ slot + 1 - m.joined = omega (arith, h) in let ran : m.next - 1 + 1 ≡ m.next + 1 - 1 = omega (arith, h) in λ i. (m.name, record { weight = m.weight; slots = slots i; ran = ran i }))
-    by false = (let slots : slot - m.joined + 1 ≡ slot + 1 - m.joined = omega (arith, h) in let ran : m.next - 1 + 0 ≡ m.next - 1 = omega arith in λ i. (m.name, record { weight = m.weight; slots = slots i; ran = ran i }))
+shown_more slot rows m h = grind (arith, any_of_names)
 
 stays_after : (rows : Table) (m : Member) → is_staying (after_table rows m) ≡ is_staying m
-stays_after rows m = (elim (names_task m.name rows) as (λ b. is_staying (if b then with_quantum m else m) ≡ is_staying m) [ true ↦ refl | false ↦ refl ])
+stays_after rows m = grind arith
 
 all_recorded : (slot : ℕ) (rows : Table) (ms : List Member) → AllByRecursion (HasJoined slot) ms
     → map (λ (e : NameValue × Tally). (e.0, slot_more (map (λ (p : Pick). p.name) rows) e.0 e.1)) (shown_all slot ms) ≡ shown_all (slot + 1) (map (after_table rows) ms)
 all_recorded slot rows [] j = refl
-all_recorded slot rows (m ∷ ms) j =
-    let more : NameValue × Tally → NameValue × Tally = λ e. (e.0, slot_more (map (λ (p : Pick). p.name) rows) e.0 e.1) in
-    let rest : map more (shown_all slot ms) ≡ shown_all (slot + 1) (map (after_table rows) ms) = all_recorded slot rows ms j.1 in
-    (elim (is_staying m) as (λ b. map more (map (shown slot) (cond b (m ∷ filter is_staying ms) (filter is_staying ms))) ≡ map (shown (slot + 1)) (cond b (after_table rows m ∷ filter is_staying (map (after_table rows) ms)) (filter is_staying (map (after_table rows) ms)))) [
-      | true ↦ (λ i. shown_more slot rows m j.0 i ∷ rest i)
-      | false ↦ rest
-    ])
-    ∙ ap (λ b. map (shown (slot + 1)) (cond b (after_table rows m ∷ filter is_staying (map (after_table rows) ms)) (filter is_staying (map (after_table rows) ms)))) (sym (stays_after rows m))
+all_recorded slot rows (m ∷ ms) j = grind (arith, shown_more, stays_after, all_recorded slot rows ms j.1)
 
 -- ---- slot after slot
 
@@ -195,7 +124,7 @@ module _ (o : Origin) (s : Settings) (x : Story) (named : NamesApart label (memb
   ran_is t = all_ran_is (table o s x t) (rows_apart s.processors (slot_of o t) (world o s x t) (named_from o s named x t)) (world o s x t)
 
   joined_ran : (slot : ℕ) (rows : Table) (m : Member) → HasJoined slot m → HasJoined (suc slot) (after_table rows m)
-  joined_ran slot rows m h = (elim (names_task m.name rows) as (λ b. HasJoined (suc slot) (if b then with_quantum m else m)) [ true ↦ (omega (arith, h), omega arith) | false ↦ (omega (arith, h), h.1) ])
+  joined_ran slot rows m h = grind arith
 
   joined_history : (t : ℕ) → AllByRecursion (HasJoined (slot_of o t)) (history o s x t).members
   joined_history zero = begun
@@ -243,7 +172,9 @@ lookup_push name other t (e ∷ es) none differ = grind (arith, lookup_push name
 all_entered_are : (slot : ℕ) (ms : List Member) (book : Book) → NamesApart label ms → AllByRecursion (λ m. tally_of m.name book ≡ None) ms → (all_entered slot ms book).entered ≡ book.entered ++ shown_all slot ms
 all_entered_are slot [] book apart none = sym (append-nil book.entered)
 all_entered_are slot (m ∷ ms) book apart none =
-    by (is_departing m) (all_entered_are slot ms book (apart_tail label m ms apart) none.1) (all_entered_are slot ms grown (apart_tail label m ms apart) (others ms (apart_head label m ms apart) none.1))
+    let same = all_entered_are slot ms book (apart_tail label m ms apart) none.1 in
+    let more = all_entered_are slot ms grown (apart_tail label m ms apart) (others ms (apart_head label m ms apart) none.1) in
+    grind (arith, append_assoc)
   where
     entry : NameValue × Tally
     entry = shown slot m
@@ -251,19 +182,9 @@ all_entered_are slot (m ∷ ms) book apart none =
     grown : Book
     grown = record book { entered = book.entered ++ entry ∷ [] }
 
-    fresh : entered_after (slot - m.joined) (m.next - 1) m.name m.weight book ≡ grown
-    fresh = ap (λ b. if b then book else grown) (ap is_some none.0)
-
     others : (ns : List Member) → AllByRecursion (λ (n : Member). name_eq m.name n.name ≡ false) ns → AllByRecursion (λ (n : Member). tally_of n.name book ≡ None) ns → AllByRecursion (λ (n : Member). tally_of n.name grown ≡ None) ns
     others [] differ gone = tt
     others (n ∷ ns) differ gone = (lookup_push n.name m.name entry.1 book.entered gone.0 (turned m.name n.name differ.0), others ns differ.1 gone.1)
-
-    by : (b : Bool) → (all_entered slot ms book).entered ≡ book.entered ++ shown_all slot ms → (all_entered slot ms grown).entered ≡ grown.entered ++ shown_all slot ms
-        → (all_entered slot ms (if b then book else entered_after (slot - m.joined) (m.next - 1) m.name m.weight book)).entered ≡ book.entered ++ map (shown slot) (cond (not b) (m ∷ filter is_staying ms) (filter is_staying ms))
-    by true same more = same
-    by false same more =
-        ap (λ b. (all_entered slot ms b).entered) fresh ∙ more
-        ∙ append_assoc book.entered (entry ∷ []) (shown_all slot ms)
 
 none_entered : (ms : List Member) → AllByRecursion (λ (m : Member). tally_of m.name empty_book ≡ None) ms
 none_entered [] = tt
@@ -305,19 +226,15 @@ module _ (s : Settings) (x : Replica) where
 
 rows_push : (book : Book) (ds : List (List Decided)) (ts : List Table) (d : List Decided) (t : Table) → length ds ≡ length ts
     → rows_booked book (ds ++ d ∷ []) (ts ++ t ∷ []) ≡ rows_booked book ds ts ++ book_rows (slot_booked d t (all_slots_booked book ds ts))
-rows_push book [] [] d t e = append-nil (book_rows (slot_booked d t book))
-rows_push book [] (u ∷ ts) d t e = absurd (omega arith)
-rows_push book (c ∷ ds) [] d t e = absurd (omega arith)
-rows_push book (c ∷ ds) (u ∷ ts) d t e =
-    ap (λ l. book_rows (slot_booked c u book) ++ l) (rows_push (slot_booked c u book) ds ts d t (omega arith))
-    ∙ sym (append_assoc (book_rows (slot_booked c u book)) (rows_booked (slot_booked c u book) ds ts) (book_rows (slot_booked d t (all_slots_booked (slot_booked c u book) ds ts))))
+rows_push book [] [] d t e = grind (arith, append-nil)
+rows_push book (c ∷ ds) (u ∷ ts) d t e = grind (arith, append_assoc, rows_push (slot_booked c u book) ds ts d t)
+rows_push book _ _ d t e = absurd (omega (arith, e))
 
 over_push : (book : Book) (ds : List (List Decided)) (ts : List Table) (d : List Decided) (t : Table) → length ds ≡ length ts
     → all_slots_booked book (ds ++ d ∷ []) (ts ++ t ∷ []) ≡ slot_booked d t (all_slots_booked book ds ts)
 over_push book [] [] d t e = refl
-over_push book [] (u ∷ ts) d t e = absurd (omega arith)
-over_push book (c ∷ ds) [] d t e = absurd (omega arith)
 over_push book (c ∷ ds) (u ∷ ts) d t e = over_push (slot_booked c u book) ds ts d t (omega arith)
+over_push book _ _ d t e = absurd (omega (arith, e))
 
 same_length : {A B C : Type 0} (f : A → B) (g : A → C) (xs : List A) → length (map f xs) ≡ length (map g xs)
 same_length f g [] = refl
@@ -337,15 +254,11 @@ module _ (s : Settings) (x : Replica) where
   pub rows_of_slots : (n : ℕ) → rows_booked empty_book (map (decisions None s (said x)) (numbers_below n)) (map (table None s (said x)) (numbers_below n)) ≡ flat_map (lag_rows s x) (numbers_below n)
   rows_of_slots zero = refl
   rows_of_slots (suc n) =
-      let ds : List (List Decided) = map (decisions None s (said x)) (numbers_below n) in
-      let ts : List Table = map (table None s (said x)) (numbers_below n) in
-      ap (λ l. rows_booked empty_book l (map (table None s (said x)) (numbers_below (suc n)))) (map-append (decisions None s (said x)) (numbers_below n) (n ∷ []))
-      ∙ ap (rows_booked empty_book (ds ++ decisions None s (said x) n ∷ [])) (map-append (table None s (said x)) (numbers_below n) (n ∷ []))
-      ∙ rows_push empty_book ds ts (decisions None s (said x) n) (table None s (said x) n) (same_length (decisions None s (said x)) (table None s (said x)) (numbers_below n))
-      ∙ ap (λ l. l ++ book_rows (slot_booked (decisions None s (said x) n) (table None s (said x) n) (all_slots_booked empty_book ds ts))) (rows_of_slots n)
-      ∙ ap (λ (b : Book). flat_map (lag_rows s x) (numbers_below n) ++ book_rows (slot_booked (decisions None s (said x) n) (table None s (said x) n) b)) (over_slots None s (said x) (apart_nil label) tt empty_book n)
-      ∙ ap (λ l. flat_map (lag_rows s x) (numbers_below n) ++ l) (rows_after s x n ∙ sym (append-nil (lag_rows s x n)))
-      ∙ sym (flat_map-append (lag_rows s x) (numbers_below n) (n ∷ []))
+      let ds = decisions None s (said x) in
+      let ts = table None s (said x) in
+      let more = rows_push empty_book (map ds (numbers_below n)) (map ts (numbers_below n)) (ds n) (ts n) (same_length ds ts (numbers_below n)) in
+      rw (map-append ds (numbers_below n) (n ∷ []), map-append ts (numbers_below n) (n ∷ []), more, rows_of_slots n, over_slots None s (said x) (apart_nil label) tt empty_book n, flat_map-append (lag_rows s x) (numbers_below n) (n ∷ []), append-nil (lag_rows s x n))
+      (ap (λ l. flat_map (lag_rows s x) (numbers_below n) ++ l) (rows_after s x n))
 
 -- the rows of a first run's whole plan
 pub whole_rows : (d : Dispatch) → d.origin ≡ None → IsWholePlan d → rows_booked empty_book d.decided d.tables ≡ flat_map (lag_rows d.settings (replica_of d.replica)) (numbers_below (min (frontier (replica_of d.replica)) d.settings.slots))
