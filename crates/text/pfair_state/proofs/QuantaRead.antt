@@ -1,5 +1,5 @@
 -- The quanta of a state, added row after row.
-use Rattle.std.proofs.Common.{ℕ, ◌+◌, ◌<◌, ◌≡◌, ◌≢◌, refl, sym, ap, subst, ◌∙◌, arith, true, false, List, [], ◌∷◌, ◌++◌, Some, None, length, drop, slice_get, append_assoc, ◌||◌, not}
+use Rattle.std.proofs.Common.{ℕ, ◌+◌, ◌<◌, ◌≡◌, ◌≢◌, refl, sym, ap, subst, ◌∙◌, arith, true, false, List, [], ◌∷◌, ◌++◌, Some, None, length, drop, slice_get, append_assoc, not}
 use Rattle.pfair_state.proofs.Common.{append-nil, length-append, NamesApart, name_eq, can_add_row, with_row, Carried, Table, names_task, as_quantum, ran_said, Row, Ran}
 use Rattle.std.specs.Cmp.Lexicographic.{nat_list_eq_equiv}
 use Rattle.std.proofs.lemmas.Bool.{and_from, ne_eqb}
@@ -19,13 +19,12 @@ name_is_new : (done : Table) (p : Pick) (more : Table) → NamesApart label (don
 name_is_new [] p more apart = refl
 name_is_new (q ∷ done) p more apart =
     let other = middle (λ (y : Pick). name_eq q.name y.name ≡ false) done more p (apart_head label q (done ++ p ∷ more) apart) in
-    ap (λ b. b || names_task p.name done) (nat_list_eq_equiv.symm p.name q.name ∙ other) ∙ name_is_new done p more (apart_tail label q (done ++ p ∷ more) apart)
+    let turned = nat_list_eq_equiv.symm p.name q.name in
+    grind (arith, name_is_new done p more (apart_tail label q (done ++ p ∷ more) apart))
 
 place_is_new : (done : List ℕ) (k : ℕ) (more : List ℕ) → AllDiffer (done ++ k ∷ more) → is_used done k ≡ false
 place_is_new [] k more differ = refl
-place_is_new (j ∷ done) k more differ =
-    let other = middle (λ i. j ≢ i) done more k differ.0 in
-    ap (λ b. b || is_used done k) (ne_eqb j k other) ∙ place_is_new done k more differ.1
+place_is_new (j ∷ done) k more differ = (let other = middle (λ i. j ≢ i) done more k differ.0 in grind (arith, ne_eqb, place_is_new done k more differ.1))
 
 -- it can be added to them
 can_add : (c : Carried) (p : Pick) (k : ℕ) (more : Table) (others : List ℕ) → IsFit c.machine.processors (c.table ++ p ∷ more) → ArePlacesOf c.machine.processors (c.table ++ p ∷ more) (c.places ++ k ∷ others) → can_add_row c p k ≡ true

@@ -1,5 +1,5 @@
 -- Texts that grow by the rows of one thing after another, and how many rows these are.
-use Rattle.std.proofs.Common.{ℕ, zero, suc, ◌+◌, ◌<◌, ◌≡◌, refl, sym, ap, ◌∙◌, arith, List, [], ◌∷◌, ◌++◌, Some, length, drop, slice_get, append_assoc}
+use Rattle.std.proofs.Common.{ℕ, zero, suc, ◌+◌, ◌<◌, ◌≡◌, refl, ap, ◌∙◌, arith, List, [], ◌∷◌, ◌++◌, Some, length, drop, slice_get, append_assoc}
 use Rattle.pfair_state.proofs.Common.{flat_map, length-append, line, lines_text, first_left, lines_text-append, Table, ran_row, ran_rows}
 use Rattle.pfair_table.specs.declared.slot.Pick.{Pick}
 use Rattle.pfair_state.specs.Rows.{Row}
@@ -14,10 +14,7 @@ module _ {A : Type 0} (rows : A → List Row) where
   pub text_more : (xs : List A) (i : ℕ) (x : A) (before after : List ℕ) → i < length xs → slice_get xs i ≡ Some x → after ≡ before ++ lines_text (rows x)
       → after ++ lines_text (flat_map rows (drop (i + 1) xs)) ≡ before ++ lines_text (flat_map rows (drop i xs))
   text_more xs i x before after inside at grown =
-      ap (λ text. text ++ lines_text (flat_map rows (drop (i + 1) xs))) grown
-      ∙ append_assoc before (lines_text (rows x)) (lines_text (flat_map rows (drop (i + 1) xs)))
-      ∙ ap (λ text. before ++ text) (sym (lines_text-append (rows x) (flat_map rows (drop (i + 1) xs))))
-      ∙ ap (λ left. before ++ lines_text left) (sym (rows_left xs i x inside at))
+      rw (grown, rows_left xs i x inside at, lines_text-append (rows x) (flat_map rows (drop (i + 1) xs))) (append_assoc before (lines_text (rows x)) (lines_text (flat_map rows (drop (i + 1) xs))))
 
   pub count_left : (xs : List A) (i : ℕ) (x : A) → i < length xs → slice_get xs i ≡ Some x → length (flat_map rows (drop i xs)) ≡ length (rows x) + length (flat_map rows (drop (i + 1) xs))
   count_left xs i x inside at = ap length (rows_left xs i x inside at) ∙ length-append (rows x) (flat_map rows (drop (i + 1) xs))
@@ -40,11 +37,9 @@ ran_left table places i p k at place =
 pub ran_more : (table : Table) (places : List ℕ) (i : ℕ) (p : Pick) (k : ℕ) (before after : List ℕ) → slice_get table i ≡ Some p → slice_get places i ≡ Some k → after ≡ before ++ line (ran_row p k)
     → after ++ lines_text (ran_rows (drop (i + 1) table) (drop (i + 1) places)) ≡ before ++ lines_text (ran_rows (drop i table) (drop i places))
 ran_more table places i p k before after at place grown =
-    let left = ran_rows (drop (i + 1) table) (drop (i + 1) places) in
-    ap (λ text. text ++ lines_text left) grown ∙ append_assoc before (line (ran_row p k)) (lines_text left)
-    ∙ ap (λ rows. before ++ lines_text rows) (sym (ran_left table places i p k at place))
+    rw (grown, ran_left table places i p k at place) (append_assoc before (line (ran_row p k)) (lines_text (ran_rows (drop (i + 1) table) (drop (i + 1) places))))
 
 pub count_ran : (table : Table) (places : List ℕ) → length places ≡ length table → length (ran_rows table places) ≡ length table
 count_ran [] places same = refl
-count_ran (p ∷ table) [] same = absurd (omega (arith, same))
-count_ran (p ∷ table) (k ∷ places) same = ap suc (count_ran table places (omega (arith, same)))
+count_ran (p ∷ table) (k ∷ places) same = grind (arith, count_ran table places)
+count_ran _ _ same = absurd (omega (arith, same))

@@ -1,10 +1,10 @@
 -- The rows of a state say what the state has.
 use Rattle.std.proofs.Common.{ℕ, ◌+◌, ◌≡◌, arith, refl, sym, ap, ◌∙◌, min, List, [], ◌∷◌, ◌++◌, length, map, codes}
-use Rattle.pfair_state.proofs.Common.{decimal, flat_map, decimal_digit, length-map, map-append, Member, Delay, Carried, Table, fields_of, first_said, late_said, member_said, ran_said, said_before_end, said_of, first_row, end_row, late_row, member_row, member_rows, ran_row, ran_rows, rows_before_end, state_rows, End}
+use Rattle.pfair_state.proofs.Common.{decimal, flat_map, decimal_digit, length-map, map-append, Member, Delay, Carried, Table, fields_of, first_said, late_said, member_said, ran_said, said_before_end, said_of, first_row, end_row, late_row, member_row, member_rows, ran_rows, rows_before_end, state_rows, End}
 
 delays_say : (name : List ℕ) (delays : List Delay) → map fields_of (map (late_said name) delays) ≡ map (late_row name) delays
 delays_say name [] = refl
-delays_say name (d ∷ delays) = ap (λ rows. late_row name d ∷ rows) (delays_say name delays)
+delays_say name (d ∷ delays) = grind (arith, delays_say name delays)
 
 members_say : (members : List Member) → map fields_of (flat_map member_said members) ≡ flat_map member_rows members
 members_say [] = refl
@@ -14,7 +14,7 @@ members_say (m ∷ members) =
 ran_say : (table : Table) (places : List ℕ) → map fields_of (ran_said table places) ≡ ran_rows table places
 ran_say [] places = refl
 ran_say (p ∷ table) [] = refl
-ran_say (p ∷ table) (k ∷ places) = ap (λ rows. ran_row p k ∷ rows) (ran_say table places)
+ran_say (p ∷ table) (k ∷ places) = grind (arith, ran_say table places)
 
 first_says : (c : Carried) → fields_of (first_said c) ≡ first_row c
 first_says c = let one : decimal 1 ≡ codes "1" = decimal_digit 1 (omega arith) in ap (λ form. codes "state" ∷ form ∷ decimal c.slot ∷ decimal c.machine.processors ∷ decimal c.machine.frame ∷ []) one

@@ -1,7 +1,7 @@
 -- Rows that are spelled stand in a text as they are: no field has a comma, and no row a line break.
 use Rattle.std.proofs.Common.{ℕ, Bool, true, false, List, [], ◌∷◌, ◌++◌, ◌≡◌, ◌≢◌, ◌+◌, ◌%◌, ◌<◌, ◌^◌, ◌∙◌, arith, refl, sym, ap, length, map, Option, None, Some, append_assoc, IfSome, ◌==◌}
 use Rattle.pfair_state.proofs.Common.{decimal, AllByRecursion, join_with_byte, list_all, list_any, decimal_by_steps, decimal_injective, IsTaskName, is_plain, lines_text, is_plain-decimal, is_plain-name, IsSpelled, fields_of, line_of, slot_field, MemberRow, Row, First, Late, Ran, End}
-use Rattle.std.proofs.lemmas.Bool.{and_from, and_parts, ne_eqb}
+use Rattle.std.proofs.lemmas.Bool.{and_parts, ne_eqb}
 use Rattle.std.proofs.lemmas.List.Folds.{list_any-append}
 use Rattle.std.proofs.lemmas.List.Splits.{join_with_byte-slice_split, slice_split_at}
 use Rattle.pfair_weight.specs.Share.{IsWeight}
@@ -40,20 +40,15 @@ pub plain_fields : (row : Row) → IsSpelled row → list_all is_plain (fields_o
 plain_fields (First f) h = grind (arith, is_plain-decimal)
 plain_fields (Member m) h =
     let weight = h.1 in
-    let cost = weight.some_cost in
-    let most = weight.at_most_one in
-    let range = weight.period_in_range in
-    and_from _ _ (is_plain-name m.name h.0) (and_from _ _ (is_plain-decimal m.weight.cost (omega (arith, most, range))) (and_from _ _ (is_plain-decimal m.weight.period (omega (arith, range)))
-    (and_from _ _ (truth_is_plain m.early) (and_from _ _ (is_plain-decimal m.joined h.2) (and_from _ _ (is_plain-decimal m.next h.3) (and_from _ _ (slot_is_plain m.freed_at h.4) refl))))))
-plain_fields (Late l) h = and_from _ _ (is_plain-name l.name h.0) (and_from _ _ (is_plain-decimal l.index h.1) (and_from _ _ (is_plain-decimal l.by h.2) refl))
-plain_fields (Ran p place) h = and_from _ _ (is_plain-name p.name h.0) (and_from _ _ (is_plain-decimal p.index h.1) (and_from _ _ (is_plain-decimal place (let small = h.2 in omega (arith, small))) refl))
-plain_fields (End rows) h = and_from _ _ (is_plain-decimal rows h) refl
+    let freed_at = slot_is_plain m.freed_at h.4 in
+    grind (arith, is_plain-decimal, is_plain-name, truth_is_plain)
+plain_fields (Late l) h = grind (arith, is_plain-decimal, is_plain-name)
+plain_fields (Ran p place) h = grind (arith, is_plain-decimal, is_plain-name)
+plain_fields (End rows) h = grind (arith, is_plain-decimal)
 
 no_commas : (fields : List (List ℕ)) → list_all is_plain fields ≡ true → HaveNoCommas fields
 no_commas [] h = tt
-no_commas (f ∷ fields) h =
-    let each = and_parts (is_plain f) (list_all is_plain fields) h in
-    (no_comma-plain f each.0, no_commas fields each.1)
+no_commas (f ∷ fields) h = (let each = and_parts (is_plain f) (list_all is_plain fields) h in (no_comma-plain f each.0, no_commas fields each.1))
 
 word_and_more : (row : Row) → IsSpelled row → (word : List ℕ) × (more : List (List ℕ)) × (fields_of row ≡ word ∷ more)
 word_and_more (First f) h = (_, _, refl)
@@ -87,6 +82,9 @@ no_hyphen = decimal_by_steps (λ n ds. list_any (λ b. b == 45) ds ≡ false) no
 
 pub dash_is_no_number : (n : ℕ) → n < 2 ^ 64 → dash ≢ decimal n
 dash_is_no_number n h is = (let none = no_hyphen n h in let same = ap (list_any (λ b. b == 45)) is in cc)
+
+-- fields that are read are what was written
+pub ruleset whole_fields = (decimal_injective, whole, dash_is_no_number, no_weight_fault)
 
 truth_injective : (a b : Bool) → truth a ≡ truth b → a ≡ b
 truth_injective true true is = refl

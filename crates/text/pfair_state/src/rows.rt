@@ -1,4 +1,6 @@
 //! The rows of a text, each read.
+#![tactic(auto, using(crate::proofs::Spelled::whole_fields))]
+
 ghost use Rattle.std.specs.Prelude.{◌≡◌, List, map, slice_get, ◌<◌, ◌^◌, Some, IfSome, Option, ℕ};
 ghost use Rattle.std.specs.List.{AllByRecursion};
 ghost use Rattle.pfair_text.specs.Rows.{lines_text};

@@ -1,14 +1,8 @@
 use Rattle.std.proofs.Common.{arith, ap, Some, ◌≡◌}
 use Rattle.pfair_state.proofs.Common.{decimal, decimal_injective}
 use Rattle.pfair_entry_row.specs.Row.{truth}
-use Rattle.pfair_state.proofs.Spelled.{whole, no_weight_fault, same_member}
+use Rattle.pfair_state.proofs.Spelled.{whole, same_member}
 use Rattle.pfair_state.proofs.rows.read_member.Goals as goal
-
-pub returns-in_err-ok-2 : goal.returns-in_err-ok-2
-returns-in_err-ok-2 c row spelled is = grind (arith, decimal_injective, whole, no_weight_fault)
-
-pub returns-in_err-read_slot : goal.returns-in_err-read_slot
-returns-in_err-read_slot c row spelled is = grind (arith, decimal_injective, whole, no_weight_fault)
 
 pub returns : goal.returns
 returns c row spelled is =
