@@ -94,7 +94,7 @@ over_more_to ds ts slot to book book' early inside inside' moved =
 
 pub over_done_to : (ds : List (List Decided)) (ts : List Table) (slot to : ℕ) (book : Book) → min (length ds) to ≤ slot
     → all_slots_booked book (take (to - slot) (drop slot ds)) (take (to - slot) (drop slot ts)) ≡ book
-over_done_to ds ts slot to book past = none (take (to - slot) (drop slot ds)) (take (to - slot) (drop slot ts)) (length-take (to - slot) (drop slot ds) ∙ (let size = length-drop slot ds in let zero_left : min (to - slot) (length (drop slot ds)) ≡ 0 = omega arith in zero_left))
+over_done_to ds ts slot to book past = none (take (to - slot) (drop slot ds)) (take (to - slot) (drop slot ts)) (let size = length-drop slot ds in let few = length-take (to - slot) (drop slot ds) in omega arith)
   where
     none : (ds : List (List Decided)) (ts : List Table) → length ds ≡ 0 → all_slots_booked book ds ts ≡ book
     none [] ts e = refl

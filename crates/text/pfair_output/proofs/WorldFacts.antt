@@ -49,7 +49,7 @@ staying_push (x ∷ ms) m e = grind (arith, staying_push ms m e)
 
 -- a newcomer has had no slot and no quantum
 new_shown : (t : ℕ) (name : NameValue) (w : Share) (early : Bool) → shown t (newcomer t name w early) ≡ (name, record { weight = w; slots = 0; ran = 0 })
-new_shown t name w early = (let slots : t - t ≡ 0 = omega arith in λ i. (name, record { weight = w; slots = slots i; ran = 0 }))
+new_shown t name w early = grind arith
 
 entered_new : (t : ℕ) (ms : List Member) (name : NameValue) (w : Share) (early : Bool) (book : Book)
     → book.entered ≡ shown_all t ms → member_named ms name ≡ None
@@ -211,7 +211,7 @@ module _ (s : Settings) (x : Replica) where
 
   same_rows : (time : ℕ) (ms : List Member) → map (tally_row time) (map (shown time) ms) ≡ map (lag_row time) ms
   same_rows time [] = refl
-  same_rows time (m ∷ ms) = ap (λ l. lag_row time m ∷ l) (same_rows time ms)
+  same_rows time (m ∷ ms) = grind (arith, same_rows time ms)
 
   -- the rows after a slot
   pub rows_after : (t : ℕ) → book_rows (book_after (suc t)) ≡ lag_rows s x t
@@ -264,6 +264,6 @@ module _ (s : Settings) (x : Replica) where
 pub whole_rows : (d : Dispatch) → d.origin ≡ None → IsWholePlan d → rows_booked empty_book d.decided d.tables ≡ flat_map (lag_rows d.settings (replica_of d.replica)) (numbers_below (min (frontier (replica_of d.replica)) d.settings.slots))
 whole_rows d first whole =
     let n : ℕ = min (frontier (replica_of d.replica)) d.settings.slots in
-    ap (λ (ds : List (List Decided)). rows_booked empty_book ds d.tables) (whole.decided_are ∙ ap (λ (o : Origin). map (decisions o d.settings (said (replica_of d.replica))) (numbers_below n)) first)
-    ∙ ap (λ (ts : List Table). rows_booked empty_book (map (decisions None d.settings (said (replica_of d.replica))) (numbers_below n)) ts) (whole.tables_are ∙ ap (λ (o : Origin). plan o d.settings (replica_of d.replica)) first)
+    (λ i. rows_booked empty_book (whole.decided_are i) (whole.tables_are i))
+    ∙ ap (λ (o : Origin). rows_booked empty_book (map (decisions o d.settings (said (replica_of d.replica))) (numbers_below n)) (plan o d.settings (replica_of d.replica))) first
     ∙ rows_of_slots d.settings (replica_of d.replica) n

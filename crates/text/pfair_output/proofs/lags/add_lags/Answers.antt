@@ -1,9 +1,7 @@
 use Rattle.std.proofs.Common.{◌≡◌, ◌<◌, ◌++◌, ◌∷◌, [], ap, sym, ◌∙◌, length, arith, rules, refl, SFits, w64, to_z-of_z}
-use Rattle.pfair_output.proofs.Common.{common_steps, option_map, is_plain-decimal, line, text_so_far, tally_row}
-use Rattle.pfair_text.proofs.NameFacts.{is_plain-name}
+use Rattle.pfair_output.proofs.Common.{common_steps, option_map, line, text_so_far, tally_row}
 use Rattle.std.specs.Fmt.{decimal, signed_decimal}
 use Rattle.pfair_output.proofs.BookedFacts.{lag_at, named_at, row_is, task_more}
-use Rattle.pfair_output.proofs.SignedFacts.{is_plain-signed}
 use Rattle.pfair_output.proofs.lags.add_lags.Goals as goal
 
 pub loop-place-preserved : goal.loop-place-preserved
@@ -22,10 +20,3 @@ loop-place-preserved c =
           (row_is book.time book.time c.in-Some.name.now task c.in-Some.numerator c.in-Some.period refl (named_at book place c.in-Some.name.now task named at) (lag_at book place task c.in-Some.numerator c.in-Some.period lag at)))
           ∙ c.loop-place.invariant.1,
     )
-
-pub add_row-requires-clause-plain : goal.add_row-requires-clause-plain
-add_row-requires-clause-plain c =
-    let fits : SFits w64 c.in-Some.numerator = search rules in
-    let numerator = is_plain-signed c.in-Some.numerator fits in
-    let same = to_z-of_z fits in
-    grind (arith, is_plain-decimal, is_plain-name)
