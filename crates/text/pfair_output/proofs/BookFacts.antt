@@ -1,7 +1,5 @@
 -- The book before a run's first slot.
-use Rattle.std.proofs.Common.{ℕ, zero, suc, ◌<◌, ◌+◌, ◌≡◌, refl, sym, ap, ◌∙◌, arith, List, [], ◌∷◌, length, take, None, Some, slice_get}
-use Rattle.pfair_output.proofs.Common.{option_map, none-some, same_Some, Book, empty_book, Origin, first_left, all_entered, entered_again, first_book}
-use Rattle.pfair_admission.specs.Member.{Member}
+use Rattle.pfair_output.proofs.Common.{option_map, none-some, same_Some, Book, empty_book, Origin, first_left, all_entered, entered_again, first_book, ℕ, zero, suc, ◌<◌, ◌+◌, ◌≡◌, refl, sym, ap, ◌∙◌, arith, List, [], ◌∷◌, length, take, None, Some, slice_get, Member}
 use Rattle.pfair_output.proofs.WorldFacts.{entered_time}
 
 entered_more : (slot : ℕ) (ms : List Member) (place : ℕ) (m : Member) (b : Book) → slice_get ms place ≡ Some m

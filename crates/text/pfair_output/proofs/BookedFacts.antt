@@ -1,13 +1,5 @@
 -- The rows of a book that is notified of one slot after another.
-use Rattle.std.proofs.Common.{ℕ, suc, ◌+◌, ◌-◌, ◌<◌, ◌≤◌, ◌≡◌, refl, ap, ◌∙◌, arith, List, [], ◌∷◌, ◌++◌, Some, map, length, min, take, drop, append_assoc, slice_get, ℤ}
-use Rattle.pfair_output.proofs.Common.{option_map, append-nil, drop_all, length-drop, length-take, same_Some, line, lines_text, first_left, lines_text-append, Table, Tally, Book, lag_of, entered_with, booked, all_booked, slot_booked, all_slots_booked, tally_row, book_rows, rows_booked}
-use Rattle.std.specs.Fmt.{decimal, signed_decimal}
-use Rattle.pfair_weight.specs.Share.{Share}
-use Rattle.pfair_entry.specs.declared.entry.Announcement.{Announcement}
-use Rattle.pfair_entry.specs.declared.entry.Announcement.TheVariants.{Arrive, Depart, Late}
-use Rattle.pfair_admission.specs.declared.decision.Decision.{Decision}
-use Rattle.pfair_table.specs.declared.slot.Decided.{Decided}
-use Rattle.pfair_weight.specs.Name.{NameValue}
+use Rattle.pfair_output.proofs.Common.{option_map, append-nil, drop_all, length-drop, length-take, same_Some, line, lines_text, first_left, lines_text-append, Table, Tally, Book, lag_of, entered_with, booked, all_booked, slot_booked, all_slots_booked, tally_row, book_rows, rows_booked, ℕ, suc, ◌+◌, ◌-◌, ◌<◌, ◌≤◌, ◌≡◌, refl, ap, ◌∙◌, arith, List, [], ◌∷◌, ◌++◌, Some, map, length, min, take, drop, append_assoc, slice_get, ℤ, decimal, signed_decimal, Share, Announcement, Arrive, Depart, Late, Decision, Decided, NameValue}
 
 -- ---- time
 

@@ -1,7 +1,5 @@
 -- Texts that grow by one row after another, each with its place.
-use Rattle.std.proofs.Common.{ℕ, suc, ◌+◌, ◌<◌, ◌≡◌, sym, ap, ◌∙◌, arith, List, ◌++◌, Some, length, drop, slice_get, append_assoc}
-use Rattle.pfair_output.proofs.Common.{same_Some, first_left, line, lines_text, Table, placed_row, placed_rows_from}
-use Rattle.pfair_table.specs.declared.slot.Pick.{Pick}
+use Rattle.pfair_output.proofs.Common.{same_Some, first_left, line, lines_text, Table, placed_row, placed_rows_from, ℕ, suc, ◌+◌, ◌<◌, ◌≡◌, sym, ap, ◌∙◌, arith, List, ◌++◌, Some, length, drop, slice_get, append_assoc, Pick}
 
 -- one row more
 pub row_more : (places : List ℕ) (slot : ℕ) (table : Table) (row : ℕ) (pick : Pick) (before after : List ℕ) → row < length table → slice_get table row ≡ Some pick

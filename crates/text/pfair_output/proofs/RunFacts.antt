@@ -1,8 +1,5 @@
 -- What one slot of a script's run adds.
-use Rattle.std.proofs.Common.{ℕ, suc, ◌+◌, ◌≤◌, ◌≡◌, min, sym, ap, ◌∙◌, arith, List, [], ◌∷◌, ◌++◌, length, append_assoc, None}
-use Rattle.pfair_output.proofs.Common.{flat_map, append-nil, length-map, map-append, flat_map-append, lines_text, lines_text-append, Book, Replica, frontier, numbers_below, said, Settings, table, decisions, decided_rows, lag_rows, slots_from, book_rows, slot_booked}
-use Rattle.pfair_table.specs.declared.slot.Decided.{Decided}
-use Rattle.pfair_output.specs.Runs.{decided_below}
+use Rattle.pfair_output.proofs.Common.{flat_map, append-nil, length-map, map-append, flat_map-append, lines_text, lines_text-append, Book, Replica, frontier, numbers_below, said, Settings, table, decisions, decided_rows, lag_rows, slots_from, book_rows, slot_booked, ℕ, suc, ◌+◌, ◌≤◌, ◌≡◌, min, sym, ap, ◌∙◌, arith, List, [], ◌∷◌, ◌++◌, length, append_assoc, None, Decided, decided_below}
 use Rattle.pfair_table.proofs.Runs.{length_numbers}
 use Rattle.pfair_output.proofs.WorldFacts.{book_after, rows_after}
 

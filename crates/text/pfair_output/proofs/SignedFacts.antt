@@ -1,8 +1,7 @@
 -- A signed decimal number stands in a line as it is.
-use Rattle.std.proofs.Common.{ℕ, ◌≡◌, suc, true, List, ◌∷◌, length, arith, ℤ, pos, negsuc, ◌==◌, not, FitsSigned}
-use Rattle.pfair_output.proofs.Common.{list_any, is_mark, is_plain, is_plain-decimal}
+use Rattle.std.proofs.Common.{pos, negsuc, ◌==◌, FitsSigned}
+use Rattle.pfair_output.proofs.Common.{list_any, is_mark, is_plain, is_plain-decimal, ℕ, ◌≡◌, suc, true, List, ◌∷◌, length, arith, ℤ, not, decimal, signed_decimal}
 use Rattle.std.specs.Int.{w64}
-use Rattle.std.specs.Fmt.{decimal, signed_decimal}
 use Rattle.std.proofs.lemmas.Bool.{and_parts, ne_eqb}
 
 -- a minus sign before a plain field

@@ -1,6 +1,5 @@
 -- Texts that grow by the rows of one slot after another.
-use Rattle.std.proofs.Common.{ℕ, suc, ◌+◌, ◌<◌, ◌≤◌, ◌≡◌, sym, ap, ◌∙◌, arith, List, ◌++◌, Some, length, drop, slice_get, append_assoc}
-use Rattle.pfair_output.proofs.Common.{append-nil, drop_all, IsOpen, TextWriter, lines_text, text_so_far, first_left, lines_text-append, slots_from}
+use Rattle.pfair_output.proofs.Common.{append-nil, drop_all, IsOpen, TextWriter, lines_text, text_so_far, first_left, lines_text-append, slots_from, ℕ, suc, ◌+◌, ◌<◌, ◌≤◌, ◌≡◌, sym, ap, ◌∙◌, arith, List, ◌++◌, Some, length, drop, slice_get, append_assoc}
 
 module _ {A : Type 0} (rows : ℕ → A → List (List (List ℕ))) where
   -- the rows of one slot more

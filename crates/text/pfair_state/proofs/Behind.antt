@@ -1,5 +1,5 @@
 -- What stands at a place of a list, and behind it.
-use Rattle.std.proofs.Common.{ℕ, zero, suc, ◌+◌, ◌<◌, ◌≡◌, arith, refl, ◌∙◌, ap, List, [], ◌∷◌, ◌++◌, Some, None, length, drop, slice_get}
+use Rattle.pfair_state.proofs.Common.{ℕ, zero, suc, ◌+◌, ◌<◌, ◌≡◌, arith, refl, ◌∙◌, ap, List, [], ◌∷◌, ◌++◌, Some, None, length, drop, slice_get}
 
 module _ {A : Type 0} where
   next_at : (xs : List A) (at : ℕ) (x : A) (more : List A) → drop at xs ≡ x ∷ more → (slice_get xs at ≡ Some x) × (drop (suc at) xs ≡ more) × (at < length xs)

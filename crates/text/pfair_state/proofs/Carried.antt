@@ -1,9 +1,6 @@
 -- The members that a run can leave: none, and one more.
-use Rattle.std.proofs.Common.{ℕ, ◌≡◌, [], ◌∷◌, ◌++◌, List, arith, sym, subst, Result, Ok, Err, OnOk}
-use Rattle.pfair_state.proofs.Common.{Roster, Member, AreLeftAt}
+use Rattle.pfair_state.proofs.Common.{Roster, Member, AreLeftAt, ℕ, ◌≡◌, [], ◌∷◌, ◌++◌, List, arith, sym, subst, Result, Ok, Err, OnOk, Machine, CanBeRestored}
 use Rattle.pfair_weight.proofs.NamesApart.{apart_nil}
-use Rattle.pfair_admission.specs.Admission.{Machine}
-use Rattle.pfair_admission.specs.Restored.{CanBeRestored}
 use Rattle.pfair_admission.proofs.RestoredRuns.{in_frame_more, left_more, named_more, room_more}
 
 pub none_left : (slot : ℕ) (machine : Machine) → AreLeftAt slot machine []

@@ -1,7 +1,5 @@
 -- The late releases of a task, read row after row.
-use Rattle.std.proofs.Common.{ℕ, ◌+◌, ◌≡◌, ◌≢◌, refl, sym, ap, ◌∙◌, arith, subst, Bool, true, List, [], ◌∷◌, ◌++◌, Some, None, length, map, drop, slice_get, append_assoc, not}
-use Rattle.pfair_state.proofs.Common.{name_eq, append-nil, length-append, Delay, as_late, late_said, Row, Late}
-use Rattle.std.specs.Cmp.Lexicographic.{nat_list_eq_equiv}
+use Rattle.pfair_state.proofs.Common.{name_eq, append-nil, length-append, Delay, as_late, late_said, Row, Late, ℕ, ◌+◌, ◌≡◌, ◌≢◌, refl, sym, ap, ◌∙◌, arith, subst, Bool, true, List, [], ◌∷◌, ◌++◌, Some, None, length, map, drop, slice_get, append_assoc, not, nat_list_eq_equiv}
 use Rattle.pfair_state.specs.declared.rows.LateRow.{LateRow}
 use Rattle.pfair_state.proofs.Behind.{first_at, next_behind}
 

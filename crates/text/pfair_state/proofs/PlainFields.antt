@@ -1,5 +1,4 @@
 -- Numbers and names stand in a line as they are.
-use Rattle.pfair_text.proofs.NameFacts.{is_plain-name}
-use Rattle.pfair_text.proofs.RowFacts.{is_plain-decimal}
+use Rattle.pfair_state.proofs.Common.{is_plain-name, is_plain-decimal}
 
 pub ruleset plain_fields = (is_plain-decimal, is_plain-name)

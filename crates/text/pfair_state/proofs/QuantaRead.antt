@@ -1,12 +1,9 @@
 -- The quanta of a state, added row after row.
-use Rattle.std.proofs.Common.{ℕ, ◌+◌, ◌<◌, ◌≡◌, ◌≢◌, refl, sym, ap, subst, ◌∙◌, arith, true, false, List, [], ◌∷◌, ◌++◌, Some, None, length, drop, slice_get, append_assoc, not}
-use Rattle.pfair_state.proofs.Common.{append-nil, length-append, NamesApart, name_eq, can_add_row, with_row, Carried, Table, names_task, as_quantum, ran_said, Row, Ran}
-use Rattle.std.specs.Cmp.Lexicographic.{nat_list_eq_equiv}
-use Rattle.std.proofs.lemmas.Bool.{and_from, ne_eqb}
+use Rattle.pfair_state.proofs.Common.{append-nil, length-append, NamesApart, name_eq, can_add_row, with_row, Carried, Table, names_task, as_quantum, ran_said, Row, Ran, ℕ, ◌+◌, ◌<◌, ◌≡◌, ◌≢◌, refl, sym, ap, subst, ◌∙◌, arith, true, false, List, [], ◌∷◌, ◌++◌, Some, None, length, drop, slice_get, append_assoc, not, nat_list_eq_equiv, ne_eqb, Pick, ArePlacesOf, IsFit}
+use Rattle.std.proofs.lemmas.Bool.{and_from}
 use Rattle.std.proofs.lemmas.Bool.Decides.{nat_tests}
 use Rattle.pfair_weight.proofs.NamesApart.{apart_head, apart_tail}
-use Rattle.pfair_table.specs.declared.slot.Pick.{Pick}
-use Rattle.pfair_table.specs.Places.{AllDiffer, ArePlacesOf, IsFit, is_used}
+use Rattle.pfair_table.specs.Places.{AllDiffer, is_used}
 use Rattle.pfair_state.proofs.Behind.{first_at, next_behind}
 use Rattle.pfair_state.proofs.MembersRead.{middle}
 

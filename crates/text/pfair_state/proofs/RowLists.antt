@@ -1,7 +1,5 @@
 -- Texts that grow by the rows of one thing after another, and how many rows these are.
-use Rattle.std.proofs.Common.{ℕ, zero, suc, ◌+◌, ◌<◌, ◌≡◌, refl, ap, ◌∙◌, arith, List, [], ◌∷◌, ◌++◌, Some, length, drop, slice_get, append_assoc}
-use Rattle.pfair_state.proofs.Common.{flat_map, length-append, line, lines_text, first_left, lines_text-append, Table, ran_row, ran_rows}
-use Rattle.pfair_table.specs.declared.slot.Pick.{Pick}
+use Rattle.pfair_state.proofs.Common.{flat_map, length-append, line, lines_text, first_left, lines_text-append, Table, ran_row, ran_rows, ℕ, zero, suc, ◌+◌, ◌<◌, ◌≡◌, refl, ap, ◌∙◌, arith, List, [], ◌∷◌, ◌++◌, Some, length, drop, slice_get, append_assoc, Pick}
 use Rattle.pfair_state.specs.Rows.{Row}
 
 module _ {A : Type 0} (rows : A → List Row) where

@@ -1,8 +1,6 @@
 -- The rows of a text, read line after line.
-use Rattle.std.proofs.Common.{ℕ, ◌≡◌, refl, sym, ap, ◌∙◌, arith, List, [], ◌∷◌, ◌++◌, Option, Some, length, map, append_assoc, ◌==◌}
-use Rattle.pfair_state.proofs.Common.{AllByRecursion, append-nil, lines_text, IsSpelled, fields_of, line_of, Row}
+use Rattle.pfair_state.proofs.Common.{AllByRecursion, append-nil, lines_text, IsSpelled, fields_of, line_of, Row, ℕ, ◌≡◌, refl, sym, ap, ◌∙◌, arith, List, [], ◌∷◌, ◌++◌, Option, Some, length, map, append_assoc, ◌==◌, parts, parts_at}
 use Rattle.std.proofs.lemmas.List.Splits.{length-slice_split}
-use Rattle.pfair_entry_row.specs.Fields.{parts, parts_at}
 use Rattle.pfair_state.proofs.Spelled.{parts_of_line, parts_of_text}
 
 -- the rows that are left, where some were read and this is the rest of the text

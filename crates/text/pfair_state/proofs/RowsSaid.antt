@@ -1,6 +1,6 @@
 -- The rows of a state say what the state has.
-use Rattle.std.proofs.Common.{ℕ, ◌+◌, ◌≡◌, arith, refl, sym, ap, ◌∙◌, min, List, [], ◌∷◌, ◌++◌, length, map, codes}
-use Rattle.pfair_state.proofs.Common.{decimal, flat_map, decimal_digit, length-map, map-append, Member, Delay, Carried, Table, fields_of, first_said, late_said, member_said, ran_said, said_before_end, said_of, first_row, end_row, late_row, member_row, member_rows, ran_rows, rows_before_end, state_rows, End}
+use Rattle.std.proofs.Common.{codes}
+use Rattle.pfair_state.proofs.Common.{decimal, flat_map, decimal_digit, length-map, map-append, Member, Delay, Carried, Table, fields_of, first_said, late_said, member_said, ran_said, said_before_end, said_of, first_row, end_row, late_row, member_row, member_rows, ran_rows, rows_before_end, state_rows, End, ℕ, ◌+◌, ◌≡◌, arith, refl, sym, ap, ◌∙◌, min, List, [], ◌∷◌, ◌++◌, length, map}
 
 delays_say : (name : List ℕ) (delays : List Delay) → map fields_of (map (late_said name) delays) ≡ map (late_row name) delays
 delays_say name [] = refl

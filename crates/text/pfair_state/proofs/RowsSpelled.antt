@@ -1,6 +1,5 @@
 -- The rows that are written of a state are spelled.
-use Rattle.std.proofs.Common.{ℕ, ◌+◌, ◌<◌, ◌≡◌, ◌∙◌, ◌^◌, ap, arith, subst, sym, List, [], ◌∷◌, ◌++◌, min, length, slice_get, take, Some, Result, Ok, Err, OnOk}
-use Rattle.pfair_state.proofs.Common.{AllByRecursion, flat_map, take_more, get_or_from_slice_get, Member, Delay, IsState, Carried, Table, AreSpelled, IsSpelled, IsSpelledQuantum, IsWritable, first_said, late_said, member_said, own_said, ran_said, said_before_end, End}
+use Rattle.pfair_state.proofs.Common.{AllByRecursion, flat_map, take_more, get_or_from_slice_get, Member, Delay, IsState, Carried, Table, AreSpelled, IsSpelled, IsSpelledQuantum, IsWritable, first_said, late_said, member_said, own_said, ran_said, said_before_end, End, ℕ, ◌+◌, ◌<◌, ◌≡◌, ◌∙◌, ◌^◌, ap, arith, subst, sym, List, [], ◌∷◌, ◌++◌, min, length, slice_get, take, Some, Result, Ok, Err, OnOk}
 use Rattle.std.proofs.SliceLists.{all_by_recursion_push}
 use Rattle.pfair_admission.proofs.Each.{each, each_map}
 

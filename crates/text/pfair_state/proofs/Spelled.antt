@@ -1,7 +1,6 @@
 -- Rows that are spelled stand in a text as they are: no field has a comma, and no row a line break.
-use Rattle.std.proofs.Common.{ℕ, Bool, true, false, List, [], ◌∷◌, ◌++◌, ◌≡◌, ◌≢◌, ◌+◌, ◌%◌, ◌<◌, ◌^◌, ◌∙◌, arith, refl, sym, ap, length, map, Option, None, Some, append_assoc, IfSome, ◌==◌}
-use Rattle.pfair_state.proofs.Common.{decimal, AllByRecursion, join_with_byte, list_all, list_any, decimal_by_steps, decimal_injective, IsTaskName, is_plain, lines_text, is_plain-decimal, is_plain-name, IsSpelled, fields_of, line_of, slot_field, MemberRow, Row, First, Late, Ran, End}
-use Rattle.std.proofs.lemmas.Bool.{and_parts, ne_eqb}
+use Rattle.pfair_state.proofs.Common.{decimal, AllByRecursion, join_with_byte, list_all, list_any, decimal_by_steps, decimal_injective, IsTaskName, is_plain, lines_text, is_plain-decimal, is_plain-name, IsSpelled, fields_of, line_of, slot_field, MemberRow, Row, First, Late, Ran, End, ℕ, Bool, true, false, List, [], ◌∷◌, ◌++◌, ◌≡◌, ◌≢◌, ◌+◌, ◌%◌, ◌<◌, ◌^◌, ◌∙◌, arith, refl, sym, ap, length, map, Option, None, Some, append_assoc, IfSome, ◌==◌, ne_eqb, parts, parts_at, truth}
+use Rattle.std.proofs.lemmas.Bool.{and_parts}
 use Rattle.std.proofs.lemmas.List.Folds.{list_any-append}
 use Rattle.std.proofs.lemmas.List.Splits.{join_with_byte-slice_split, slice_split_at}
 use Rattle.pfair_weight.specs.Share.{IsWeight}
@@ -11,8 +10,7 @@ use Rattle.pfair_weight.specs.declared.name.NameFault.{NameFault}
 use Rattle.pfair_weight.specs.declared.name.NameFault.TheVariants.{Empty, TooLong, BadByte}
 use Rattle.pfair_weight.specs.declared.weight.WeightFault.{WeightFault}
 use Rattle.pfair_weight.specs.declared.weight.WeightFault.TheVariants.{ZeroCost, CostOverPeriod, PeriodTooLong}
-use Rattle.pfair_entry_row.specs.Fields.{parts, parts_at}
-use Rattle.pfair_entry_row.specs.Row.{dash, truth, HasNone}
+use Rattle.pfair_entry_row.specs.Row.{dash, HasNone}
 use Rattle.pfair_entry_row.proofs.Commas.{HaveNoCommas, parts-join}
 use Rattle.pfair_entry_row.proofs.Lines.{at_each, joined, truth_is_plain}
 use Rattle.pfair_entry_row.proofs.Names.{no_comma-plain}

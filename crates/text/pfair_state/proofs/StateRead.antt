@@ -1,8 +1,6 @@
 -- The state of rows, from the first to the end.
-use Rattle.std.proofs.Common.{ℕ, ◌+◌, ◌<◌, ◌≤◌, ◌≡◌, refl, sym, ap, subst, ◌∙◌, arith, List, [], ◌∷◌, ◌++◌, Option, Some, None, Result, Err, MatchResult, length, min, drop, slice_get, append_assoc}
-use Rattle.pfair_state.proofs.Common.{flat_map, length-append, length-drop, Member, Roster, AreLeftAt, Carried, Table, IsBehindMembers, IsWritable, first_of, member_said, as_quantum, ran_said, said_before_end, said_of, Row, First, End}
-use Rattle.pfair_admission.specs.Admission.{Machine}
-use Rattle.pfair_table.specs.Places.{ArePlacesOf, IsFit}
+use Rattle.std.proofs.Common.{MatchResult}
+use Rattle.pfair_state.proofs.Common.{flat_map, length-append, length-drop, Member, Roster, AreLeftAt, Carried, Table, IsBehindMembers, IsWritable, first_of, member_said, as_quantum, ran_said, said_before_end, said_of, Row, First, End, ℕ, ◌+◌, ◌<◌, ◌≤◌, ◌≡◌, refl, sym, ap, subst, ◌∙◌, arith, List, [], ◌∷◌, ◌++◌, Option, Some, None, Result, Err, length, min, drop, slice_get, append_assoc, Machine, ArePlacesOf, IsFit}
 use Rattle.pfair_state.specs.declared.fault.ReadFault.{ReadFault}
 use Rattle.pfair_state.specs.declared.fault.ReadFault.TheVariants.{Memory}
 use Rattle.pfair_state.specs.declared.rows.FirstRow.{FirstRow}

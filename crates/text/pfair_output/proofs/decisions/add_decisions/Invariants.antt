@@ -1,5 +1,4 @@
-use Rattle.std.proofs.Common.{◌≡◌, ◌++◌, drop, map}
-use Rattle.pfair_output.proofs.Common.{IsOpen, lines_text, text_so_far, decision_row}
+use Rattle.pfair_output.proofs.Common.{IsOpen, lines_text, text_so_far, decision_row, ◌≡◌, ◌++◌, drop, map}
 use Rattle.pfair_output.proofs.decisions.add_decisions.Given as goal
 
 -- the text so far, with the rows that are left, is the whole

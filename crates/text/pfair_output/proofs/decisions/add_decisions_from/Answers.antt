@@ -1,5 +1,4 @@
-use Rattle.std.proofs.Common.{arith, refl}
-use Rattle.pfair_output.proofs.Common.{common_steps, decided_rows}
+use Rattle.pfair_output.proofs.Common.{common_steps, decided_rows, arith, refl}
 use Rattle.pfair_output.proofs.SlotFacts.{at_the_end, on_the_way}
 use Rattle.pfair_output.proofs.decisions.add_decisions_from.Goals as goal
 

@@ -1,6 +1,5 @@
-use Rattle.std.proofs.Common.{◌≡◌, ◌<◌, ◌++◌, ◌∷◌, [], ap, sym, ◌∙◌, length, arith, rules, refl, SFits, w64, to_z-of_z}
-use Rattle.pfair_output.proofs.Common.{common_steps, option_map, line, text_so_far, tally_row}
-use Rattle.std.specs.Fmt.{decimal, signed_decimal}
+use Rattle.std.proofs.Common.{rules, SFits, w64}
+use Rattle.pfair_output.proofs.Common.{common_steps, option_map, line, text_so_far, tally_row, ◌≡◌, ◌<◌, ◌++◌, ◌∷◌, [], ap, sym, ◌∙◌, length, arith, refl, to_z-of_z, decimal, signed_decimal}
 use Rattle.pfair_output.proofs.BookedFacts.{lag_at, named_at, row_is, task_more}
 use Rattle.pfair_output.proofs.lags.add_lags.Goals as goal
 

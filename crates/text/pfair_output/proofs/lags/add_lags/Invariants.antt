@@ -1,5 +1,4 @@
-use Rattle.std.proofs.Common.{◌≡◌, ◌++◌, map, drop}
-use Rattle.pfair_output.proofs.Common.{IsOpen, lines_text, text_so_far, tally_row, book_rows}
+use Rattle.pfair_output.proofs.Common.{IsOpen, lines_text, text_so_far, tally_row, book_rows, ◌≡◌, ◌++◌, map, drop}
 use Rattle.pfair_output.proofs.lags.add_lags.Given as goal
 
 -- the text so far, with the rows that are left, is the whole

@@ -1,5 +1,4 @@
-use Rattle.std.proofs.Common.{◌+◌, ◌++◌, ◌<◌, ◌≤◌, ◌∙◌, sym, ap, arith, length}
-use Rattle.pfair_output.proofs.Common.{lines_text, text_so_far, book_rows}
+use Rattle.pfair_output.proofs.Common.{lines_text, text_so_far, book_rows, ◌+◌, ◌++◌, ◌<◌, ◌≤◌, ◌∙◌, sym, ap, arith, length}
 use Rattle.pfair_output.proofs.BookedFacts.{booked_more, booked_time, booked_done, over_more, over_done}
 use Rattle.pfair_output.proofs.lags.add_lags_from.Goals as goal
 

@@ -1,5 +1,4 @@
-use Rattle.std.proofs.Common.{◌≡◌, ◌≤◌, ◌++◌, drop}
-use Rattle.pfair_output.proofs.Common.{IsOpen, lines_text, text_so_far, all_slots_booked, rows_booked}
+use Rattle.pfair_output.proofs.Common.{IsOpen, lines_text, text_so_far, all_slots_booked, rows_booked, ◌≡◌, ◌≤◌, ◌++◌, drop}
 use Rattle.pfair_output.proofs.lags.add_lags_from.Given as goal
 
 -- the book and the text so far, with the slots that are left, are the whole

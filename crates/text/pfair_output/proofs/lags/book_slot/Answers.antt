@@ -1,5 +1,4 @@
-use Rattle.std.proofs.Common.{◌≡◌, arith, ap}
-use Rattle.pfair_output.proofs.Common.{Book, all_booked, common_steps}
+use Rattle.pfair_output.proofs.Common.{Book, all_booked, common_steps, ◌≡◌, arith, ap}
 use Rattle.pfair_output.proofs.BookedFacts.{time-all_booked}
 use Rattle.pfair_output.proofs.lags.book_slot.Goals as goal
 

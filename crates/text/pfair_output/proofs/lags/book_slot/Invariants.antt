@@ -1,5 +1,4 @@
-use Rattle.std.proofs.Common.{◌≡◌, drop}
-use Rattle.pfair_output.proofs.Common.{all_booked}
+use Rattle.pfair_output.proofs.Common.{all_booked, ◌≡◌, drop}
 use Rattle.pfair_output.proofs.lags.book_slot.Given as goal
 
 -- booking what is left makes the whole

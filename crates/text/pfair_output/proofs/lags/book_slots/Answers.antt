@@ -1,4 +1,4 @@
-use Rattle.std.proofs.Common.{◌+◌, ◌<◌, ◌≤◌, ◌∙◌, sym, ap, arith, length, min}
+use Rattle.pfair_output.proofs.Common.{◌+◌, ◌<◌, ◌≤◌, ◌∙◌, sym, ap, arith, length, min}
 use Rattle.pfair_output.proofs.BookedFacts.{booked_time, over_more_to, over_done_to}
 use Rattle.pfair_output.proofs.lags.book_slots.Goals as goal
 

@@ -1,5 +1,4 @@
-use Rattle.std.proofs.Common.{◌≡◌, ◌≤◌, ◌-◌, drop, take}
-use Rattle.pfair_output.proofs.Common.{all_slots_booked}
+use Rattle.pfair_output.proofs.Common.{all_slots_booked, ◌≡◌, ◌≤◌, ◌-◌, drop, take}
 use Rattle.pfair_output.proofs.lags.book_slots.Given as goal
 
 -- the book so far, with the slots that are left, is the whole

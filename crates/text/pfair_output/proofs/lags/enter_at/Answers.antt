@@ -1,6 +1,5 @@
-use Rattle.std.proofs.Common.{◌≤◌, ◌+◌, sym, subst, arith}
+use Rattle.pfair_output.proofs.Common.{◌≤◌, ◌+◌, sym, subst, arith, Share}
 use Rattle.std.proofs.lemmas.Nat.{mul-le}
-use Rattle.pfair_weight.specs.Share.{Share}
 use Rattle.pfair_admission.specs.declared.members.TheConstants.Members.{LAST_SLOT}
 use Rattle.pfair_admission.specs.Carried.{CanBeCarried}
 use Rattle.pfair_admission.proofs.Successors.{able_at}

@@ -1,7 +1,5 @@
-use Rattle.std.proofs.Common.{◌<◌, ◌≡◌, ◌∙◌, List, Some, length, take, ap, arith}
-use Rattle.pfair_output.proofs.Common.{option_map, empty_book, all_entered, Carried, Origin}
+use Rattle.pfair_output.proofs.Common.{option_map, empty_book, all_entered, Carried, Origin, ◌<◌, ◌≡◌, ◌∙◌, List, Some, length, take, ap, arith, Member}
 use Rattle.std.proofs.Math.Seq.{take-length}
-use Rattle.pfair_admission.specs.Member.{Member}
 use Rattle.pfair_output.proofs.BookFacts.{begun_with, entered_next}
 use Rattle.pfair_output.proofs.lags.first_book.Goals as goal
 

@@ -1,5 +1,4 @@
-use Rattle.std.proofs.Common.{◌≡◌, take}
-use Rattle.pfair_output.proofs.Common.{empty_book, all_entered}
+use Rattle.pfair_output.proofs.Common.{empty_book, all_entered, ◌≡◌, take}
 use Rattle.pfair_output.proofs.lags.first_book.Given as goal
 
 abbrev pub invariant-loop-place : goal.invariant-loop-place

@@ -1,6 +1,4 @@
-use Rattle.std.proofs.Common.{◌≤◌, ◌≡◌, ◌++◌, ◌∙◌, arith, refl}
-use Rattle.pfair_output.proofs.Common.{common_steps, same_Some, lines_text, text_so_far, placed_rows_from, placed_table_rows}
-use Rattle.pfair_table.specs.Places.{places_in}
+use Rattle.pfair_output.proofs.Common.{common_steps, same_Some, lines_text, text_so_far, placed_rows_from, placed_table_rows, ◌≤◌, ◌≡◌, ◌++◌, ◌∙◌, arith, refl, places_in}
 use Rattle.pfair_output.specs.Replay.{places_at}
 use Rattle.pfair_output.proofs.SlotFacts.{at_the_end, on_the_way}
 use Rattle.pfair_output.proofs.replay.add_placed_tables_from.Goals as goal

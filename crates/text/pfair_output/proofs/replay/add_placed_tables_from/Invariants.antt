@@ -1,5 +1,4 @@
-use Rattle.pfair_table.specs.Places.{places_in}
-use Rattle.pfair_output.proofs.Common.{placed_table_rows}
+use Rattle.pfair_output.proofs.Common.{placed_table_rows, places_in}
 use Rattle.pfair_output.proofs.SlotFacts.{IsOnTheWay}
 use Rattle.pfair_output.proofs.replay.add_placed_tables_from.Given as goal
 

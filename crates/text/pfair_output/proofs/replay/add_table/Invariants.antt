@@ -1,5 +1,4 @@
-use Rattle.std.proofs.Common.{◌≡◌, ◌++◌, drop}
-use Rattle.pfair_output.proofs.Common.{IsOpen, lines_text, text_so_far, placed_rows_from}
+use Rattle.pfair_output.proofs.Common.{IsOpen, lines_text, text_so_far, placed_rows_from, ◌≡◌, ◌++◌, drop}
 use Rattle.pfair_output.proofs.replay.add_table.Given as goal
 
 -- the text so far, with the rows that are left, is the whole

@@ -1,5 +1,4 @@
-use Rattle.std.proofs.Common.{◌++◌, ◌∙◌, ap, arith, refl}
-use Rattle.pfair_output.proofs.Common.{same_Some, lines_text, text_so_far, Table, table_rows}
+use Rattle.pfair_output.proofs.Common.{same_Some, lines_text, text_so_far, Table, table_rows, ◌++◌, ◌∙◌, ap, arith, refl}
 use Rattle.pfair_output.proofs.SlotFacts.{at_the_end, on_the_way}
 use Rattle.pfair_output.proofs.replay.add_tables_from.Goals as goal
 

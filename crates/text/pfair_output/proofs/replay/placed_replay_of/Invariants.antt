@@ -1,5 +1,4 @@
-use Rattle.std.proofs.Common.{◌≡◌, ◌++◌, drop, map}
-use Rattle.pfair_output.proofs.Common.{IsOpen, line, lines_text, text_so_far, slots_from, placed_table_rows}
+use Rattle.pfair_output.proofs.Common.{IsOpen, line, lines_text, text_so_far, slots_from, placed_table_rows, ◌≡◌, ◌++◌, drop, map}
 use Rattle.pfair_output.specs.Replay.{placed_header}
 use Rattle.pfair_output.proofs.replay.placed_replay_of.Given as goal
 

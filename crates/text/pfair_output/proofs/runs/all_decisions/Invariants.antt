@@ -1,7 +1,4 @@
-use Rattle.std.proofs.Common.{◌≡◌, ◌++◌, None, length}
-use Rattle.pfair_output.proofs.Common.{replica_of, IsOpen, line, lines_text, text_so_far, decided_rows, decisions_header, slots_from}
-use Rattle.pfair_table.specs.ScriptRun.{IsBySlot}
-use Rattle.pfair_output.specs.Runs.{decided_below}
+use Rattle.pfair_output.proofs.Common.{replica_of, IsOpen, line, lines_text, text_so_far, decided_rows, decisions_header, slots_from, ◌≡◌, ◌++◌, None, length, IsBySlot, decided_below}
 use Rattle.pfair_output.proofs.runs.all_decisions.Given as goal
 
 -- the text has the rows of the slots so far

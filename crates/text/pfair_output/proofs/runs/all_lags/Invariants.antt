@@ -1,6 +1,4 @@
-use Rattle.std.proofs.Common.{◌≡◌, ◌++◌, None, length}
-use Rattle.pfair_output.proofs.Common.{flat_map, replica_of, numbers_below, IsOpen, line, lines_text, text_so_far, lag_rows, lags_header}
-use Rattle.pfair_table.specs.ScriptRun.{IsBySlot}
+use Rattle.pfair_output.proofs.Common.{flat_map, replica_of, numbers_below, IsOpen, line, lines_text, text_so_far, lag_rows, lags_header, ◌≡◌, ◌++◌, None, length, IsBySlot}
 use Rattle.pfair_output.proofs.WorldFacts.{book_after}
 use Rattle.pfair_output.proofs.runs.all_lags.Given as goal
 

@@ -1,6 +1,4 @@
-use Rattle.std.proofs.Common.{◌∙◌, ap, arith}
-use Rattle.pfair_output.proofs.Common.{frontier, Settings, decisions_text}
-use Rattle.pfair_output.specs.Runs.{decided_below}
+use Rattle.pfair_output.proofs.Common.{frontier, Settings, decisions_text, ◌∙◌, ap, arith, decided_below}
 use Rattle.pfair_output.proofs.RunFacts.{all_slots}
 use Rattle.pfair_output.proofs.runs.decisions_of_script.Goals as goal
 

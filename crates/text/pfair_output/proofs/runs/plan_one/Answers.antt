@@ -1,6 +1,4 @@
-use Rattle.std.proofs.Common.{◌∙◌, ap, length}
-use Rattle.pfair_output.proofs.Common.{replica_of, said, Origin, decisions, table}
-use Rattle.pfair_table.specs.Refinement.{Dispatch}
+use Rattle.pfair_output.proofs.Common.{replica_of, said, Origin, decisions, table, ◌∙◌, ap, length, Dispatch}
 use Rattle.pfair_output.proofs.runs.plan_one.Goals as goal
 
 pub returns-in-Ok-Some-clause-table : goal.returns-in-Ok-Some-clause-table

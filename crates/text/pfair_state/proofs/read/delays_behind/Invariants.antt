@@ -1,4 +1,4 @@
-use Rattle.std.proofs.Common.{◌+◌, ◌-◌, ◌≤◌, length}
+use Rattle.pfair_state.proofs.Common.{◌+◌, ◌-◌, ◌≤◌, length}
 use Rattle.pfair_state.proofs.DelaysRead.{AreReadSoFar}
 use Rattle.pfair_state.proofs.read.delays_behind.Given as goal
 

@@ -1,5 +1,4 @@
-use Rattle.std.proofs.Common.{rules, arith, ℕ, ◌≡◌, ◌+◌, ap, subst, sym, ◌∙◌, length, None, Some}
-use Rattle.pfair_state.proofs.Common.{Roster, as_member}
+use Rattle.pfair_state.proofs.Common.{Roster, as_member, rules, arith, ℕ, ◌≡◌, ◌+◌, ap, subst, sym, ◌∙◌, length, None, Some}
 use Rattle.pfair_state.proofs.MembersRead.{AreRestoredSoFar, all_restored, can, restored}
 use Rattle.pfair_state.proofs.read.read_members.Goals as goal
 

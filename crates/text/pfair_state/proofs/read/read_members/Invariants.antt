@@ -1,5 +1,4 @@
-use Rattle.std.proofs.Common.{◌-◌, ◌≡◌, ◌≤◌, None, length}
-use Rattle.pfair_state.proofs.Common.{AreLeftAt}
+use Rattle.pfair_state.proofs.Common.{AreLeftAt, ◌-◌, ◌≡◌, ◌≤◌, None, length}
 use Rattle.pfair_state.proofs.MembersRead.{AreRestoredSoFar}
 use Rattle.pfair_state.proofs.read.read_members.Given as goal
 

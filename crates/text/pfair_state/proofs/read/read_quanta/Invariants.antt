@@ -1,4 +1,4 @@
-use Rattle.std.proofs.Common.{◌-◌, ◌≤◌, length}
+use Rattle.pfair_state.proofs.Common.{◌-◌, ◌≤◌, length}
 use Rattle.pfair_state.proofs.QuantaRead.{AreAddedSoFar}
 use Rattle.pfair_state.proofs.read.read_quanta.Given as goal
 

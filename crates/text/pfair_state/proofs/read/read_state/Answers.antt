@@ -1,5 +1,4 @@
-use Rattle.std.proofs.Common.{ℕ, map, ◌≡◌, ◌++◌, ◌∙◌, rules, sym, ap, List, []}
-use Rattle.pfair_state.proofs.Common.{text_so_far, state_text, Carried, lines_text, fields_of, said_of}
+use Rattle.pfair_state.proofs.Common.{text_so_far, state_text, Carried, lines_text, fields_of, said_of, ℕ, map, ◌≡◌, ◌++◌, ◌∙◌, rules, sym, ap, List, []}
 use Rattle.pfair_state.proofs.DelaysRead.{other_name}
 use Rattle.pfair_state.proofs.RowsSaid.{rows_say}
 use Rattle.pfair_state.proofs.StateRead.{memory}

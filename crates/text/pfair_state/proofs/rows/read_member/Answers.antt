@@ -1,6 +1,4 @@
-use Rattle.std.proofs.Common.{arith, ap, Some, ◌≡◌}
-use Rattle.pfair_state.proofs.Common.{decimal, decimal_injective}
-use Rattle.pfair_entry_row.specs.Row.{truth}
+use Rattle.pfair_state.proofs.Common.{decimal, decimal_injective, arith, ap, Some, ◌≡◌, truth}
 use Rattle.pfair_state.proofs.Spelled.{whole, same_member}
 use Rattle.pfair_state.proofs.rows.read_member.Goals as goal
 

@@ -1,5 +1,4 @@
-use Rattle.std.proofs.Common.{arith}
-use Rattle.pfair_state.proofs.Common.{First, Late, Ran, End}
+use Rattle.pfair_state.proofs.Common.{First, Late, Ran, End, arith}
 use Rattle.pfair_state.specs.declared.rows.Row.TheVariants.{Member}
 use Rattle.pfair_state.proofs.rows.read_row.Goals as goal
 

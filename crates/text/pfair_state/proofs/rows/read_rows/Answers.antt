@@ -1,5 +1,4 @@
-use Rattle.std.proofs.Common.{List, ap, arith, length, rules, sym, subst}
-use Rattle.pfair_state.proofs.Common.{Row}
+use Rattle.pfair_state.proofs.Common.{Row, List, ap, arith, length, rules, sym, subst}
 use Rattle.pfair_state.proofs.RowsRead.{IsReadSoFar, all_read, begun, none_read, row_read}
 use Rattle.pfair_state.proofs.rows.read_rows.Goals as goal
 

@@ -1,4 +1,4 @@
-use Rattle.std.proofs.Common.{length}
+use Rattle.pfair_state.proofs.Common.{length}
 use Rattle.pfair_state.proofs.RowsRead.{IsReadSoFar}
 use Rattle.pfair_state.proofs.rows.read_rows.Given as goal
 

@@ -1,6 +1,4 @@
-use Rattle.std.proofs.Common.{arith}
-use Rattle.std.proofs.lemmas.Grind.{common_steps}
-use Rattle.pfair_state.proofs.Common.{AllByRecursion, IsSpelled, late_said, own_said}
+use Rattle.pfair_state.proofs.Common.{AllByRecursion, IsSpelled, late_said, own_said, arith, common_steps}
 use Rattle.pfair_state.proofs.RowsSpelled.{member_spelled}
 use Rattle.pfair_state.proofs.write.add_member.Goals as goal
 

@@ -1,5 +1,4 @@
-use Rattle.std.proofs.Common.{◌≡◌, ◌++◌, drop, map, take}
-use Rattle.pfair_state.proofs.Common.{AllByRecursion, IsOpen, lines_text, text_so_far, IsSpelled, late_said, late_row, member_rows}
+use Rattle.pfair_state.proofs.Common.{AllByRecursion, IsOpen, lines_text, text_so_far, IsSpelled, late_said, late_row, member_rows, ◌≡◌, ◌++◌, drop, map, take}
 use Rattle.pfair_state.proofs.write.add_member.Given as goal
 
 -- the text so far, with the rows that are left, is the whole, and the rows so far are spelled

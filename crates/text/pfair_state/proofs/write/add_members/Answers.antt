@@ -1,5 +1,4 @@
-use Rattle.std.proofs.Common.{◌<◌, ◌≡◌, ◌∙◌, ap, sym, Some, drop, length, map, slice_get, arith}
-use Rattle.pfair_state.proofs.Common.{drop_all, flat_map, length-map, text_so_far, AreSpelled, member_said, late_row, member_rows}
+use Rattle.pfair_state.proofs.Common.{drop_all, flat_map, length-map, text_so_far, AreSpelled, member_said, late_row, member_rows, ◌<◌, ◌≡◌, ◌∙◌, ap, sym, Some, drop, length, map, slice_get, arith}
 use Rattle.pfair_state.proofs.RowLists.{count_left, text_more}
 use Rattle.pfair_state.proofs.RowsSpelled.{more_taken}
 use Rattle.pfair_state.proofs.write.add_members.Goals as goal

@@ -1,5 +1,4 @@
-use Rattle.std.proofs.Common.{◌≡◌, ◌+◌, ◌≤◌, ◌++◌, drop, length, min, take}
-use Rattle.pfair_state.proofs.Common.{AllByRecursion, flat_map, IsOpen, lines_text, text_so_far, AreSpelled, member_said, member_rows}
+use Rattle.pfair_state.proofs.Common.{AllByRecursion, flat_map, IsOpen, lines_text, text_so_far, AreSpelled, member_said, member_rows, ◌≡◌, ◌+◌, ◌≤◌, ◌++◌, drop, length, min, take}
 use Rattle.pfair_state.proofs.write.add_members.Given as goal
 
 -- the text so far, with the rows of the members that are left, is the whole, the rows so far are spelled, and both are all, as far as 64 bits go

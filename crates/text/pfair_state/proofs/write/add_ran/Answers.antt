@@ -1,6 +1,5 @@
-use Rattle.std.proofs.Common.{◌≡◌, ◌<◌, ◌++◌, ◌∙◌, arith, length, Some, slice_get, slice_index, refl}
-use Rattle.pfair_state.proofs.Common.{slice_get-get_or, slice_get_read, line, text_so_far, ran_row, IsSpelledQuantum}
-use Rattle.std.proofs.lemmas.Grind.{common_steps}
+use Rattle.std.proofs.Common.{slice_index}
+use Rattle.pfair_state.proofs.Common.{slice_get-get_or, slice_get_read, line, text_so_far, ran_row, IsSpelledQuantum, ◌≡◌, ◌<◌, ◌++◌, ◌∙◌, arith, length, Some, slice_get, refl, common_steps}
 use Rattle.pfair_state.proofs.RowLists.{ran_more}
 use Rattle.pfair_state.proofs.RowsSpelled.{more_taken}
 use Rattle.pfair_state.proofs.write.add_ran.Goals as goal

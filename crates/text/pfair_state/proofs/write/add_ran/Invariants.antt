@@ -1,5 +1,4 @@
-use Rattle.std.proofs.Common.{◌≡◌, ◌++◌, drop, take}
-use Rattle.pfair_state.proofs.Common.{AllByRecursion, IsOpen, lines_text, text_so_far, IsSpelledQuantum, ran_rows}
+use Rattle.pfair_state.proofs.Common.{AllByRecursion, IsOpen, lines_text, text_so_far, IsSpelledQuantum, ran_rows, ◌≡◌, ◌++◌, drop, take}
 use Rattle.pfair_state.proofs.write.add_ran.Given as goal
 
 -- the text so far, with the rows that are left, is the whole, and the rows so far are spelled

@@ -1,6 +1,4 @@
-use Rattle.std.proofs.Common.{◌≡◌, ◌+◌, ap, arith, length, min, subst, List}
-use Rattle.std.proofs.lemmas.Grind.{common_steps}
-use Rattle.pfair_state.proofs.Common.{AllByRecursion, flat_map, length-append, member_rows, ran_rows, rows_before_end, Member, AreSpelled, IsSpelledQuantum, member_said}
+use Rattle.pfair_state.proofs.Common.{AllByRecursion, flat_map, length-append, member_rows, ran_rows, rows_before_end, Member, AreSpelled, IsSpelledQuantum, member_said, ◌≡◌, ◌+◌, ap, arith, length, min, subst, List, common_steps}
 use Rattle.pfair_state.proofs.RowLists.{count_ran}
 use Rattle.pfair_state.proofs.RowsSpelled.{on_ok, writable}
 use Rattle.pfair_state.proofs.write.add_state.Goals as goal
