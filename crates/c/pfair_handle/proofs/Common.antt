@@ -3,8 +3,7 @@ pub use Rattle.core.proofs.alloc.Calls.{Al, Goes-blank, handle_tells}
 pub use Rattle.std_alloc.proofs.BoxSteps.Steps.{box_in, box_out}
 pub use base.Fml.{flft, fsep, ftrue}
 pub use base.Logic.{SProp, emp, ent, fst∗, id⊢, never}
-pub use contract.Monad.{Fun, fact, fact_i}
-unfoldable pub use contract.Running.{tables_of}
+pub use contract.Monad.{fact, fact_i}
 pub use contract.Running.{tables}
 pub use denote.Exit.{no, yes}
 pub use denote.RattleType.{RattleType, Valss, owns}
@@ -12,12 +11,12 @@ pub use denote.RawPtr.{Ptr, block_ptr, in_a_block, null_ptr, ptr_val}
 pub use denote.Signature.{Slot, plain, type_at, types_at}
 pub use denote.Steps.{heard, nothing, only}
 pub use denote.Triple.Spec.{triple_of}
-pub use denote.Triple.Walked.{Goes-dropped, Stays, ends_at, says, stay_dropped, walk_Meets, walk_of}
+pub use denote.Triple.Walked.{Goes-dropped, Stays, ends_at, says, stay_dropped, walk_of}
 pub use mir.Syntax.{a_type, dcons, dnil, impl, tnil}
 pub use mir.Val.{Val, WT, has_ty, of_list, vcons, vint, vnil, vptr, vstruct}
-pub use prog.Wp.{Tables, WpFn}
+pub use prog.Wp.{WpFn}
 pub use types.ByLocal.{alloc_all, env, free_all, get, get_in, lands_as, lands_last, look_at, pass_all, sets}
-pub use types.Kit.{ !, Goal, Item, Seq, Step, at_ret, await, by, done, drop, feq_i, feq_l, fjoin, fpack, fpick, fsplit, join, keep, later, move, pick, qed, raw, rewrite, some, split, split3, step, suffices, use0, use1, ‵, ◌$◌, ◌∵◌, ◌⊛◌}
+pub use types.Kit.{!, Goal, Item, Seq, Step, at_ret, await, by, done, drop, feq_i, feq_l, fjoin, fpack, fpick, fsplit, join, keep, later, move, pick, qed, raw, rewrite, some, split, split3, step, suffices, use0, use1, ‵, ◌$◌, ◌∵◌, ◌⊛◌}
 pub use types.Logic.{Logic, sem}
 pub use types.Part.{agg, sub, whole}
 pub use types.Run.{and_then, blocks, enter, exec, first, fld, lit, no_more, of_opd, returns, stop}
