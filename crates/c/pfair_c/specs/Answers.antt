@@ -125,28 +125,16 @@ pub record IsPlannedTo (row : PfairStep) (d e : Dispatch) : Type 0 where
   pub course : course_of e ≡ happens d.settings (course_of d) Plan
   pub rest : e ≡ record d { tables = e.tables; decided = e.decided }
 
--- the dispatcher d refused a plan, and is e then
-abbrev pub IsRefusedTo : (answer : ℕ) → (old new : PfairStep) → Dispatch → Dispatch → Type 0
-IsRefusedTo answer old new d e = IsFaultAs answer old new (λ f. IsPlanFault d f × (e ≡ after_fault d f))
-
--- the dispatcher d planned on to slot `until` - 1 or as far as it could, ended with this step, and is e then
-abbrev pub IsPlannedUpTo : (until : ℕ) → PfairStep → Dispatch → Dispatch → Type 0
-IsPlannedUpTo until row d e = IsPlannedOn until d e × IsStepAs row (IsStopOf until e)
-
--- the dispatcher d planned on, refused a plan before slot `until` - 1 was planned, and is e then
-abbrev pub IsStoppedAt : (until answer : ℕ) → (old new : PfairStep) → Dispatch → Dispatch → Type 0
-IsStoppedAt until answer old new d e = IsFaultAs answer old new (λ f. IsStoppedBy until f d e)
-
 -- what `pfair_plan_next` answers, and what the dispatcher d is then
 pub record IsPlanAnswer (d e : Dispatch) (answer : ℕ) (old new : PfairStep) : Type 0 where
   pub planned : answer ≡ DONE → IsPlannedTo new d e
-  pub refused : (answer ≡ DONE → ⊥) → IsRefusedTo answer old new d e
+  pub refused : (answer ≡ DONE → ⊥) → IsFaultAs answer old new (λ f. IsPlanFault d f × (e ≡ after_fault d f))
 
--- what `pfair_plan_to` answers
+-- what `pfair_plan_to` answers: it planned on to slot `until` - 1 or as far as it could, or refused a plan before that slot was planned
 pub record IsPlanToAnswer (until : ℕ) (d e : Dispatch) (answer : ℕ) (old new : PfairStep) : Type 0 where
   pub out_of_range : answer ≡ OUT_OF_RANGE → (until ≡ 0) × (e ≡ d) × (new ≡ old)
-  pub planned : answer ≡ DONE → IsPlannedUpTo until new d e
-  pub refused : (answer ≡ DONE → ⊥) → (answer ≡ OUT_OF_RANGE → ⊥) → IsStoppedAt until answer old new d e
+  pub planned : answer ≡ DONE → IsPlannedOn until d e × IsStepAs new (IsStopOf until e)
+  pub refused : (answer ≡ DONE → ⊥) → (answer ≡ OUT_OF_RANGE → ⊥) → IsFaultAs answer old new (λ f. IsStoppedBy until f d e)
 
 -- the planned slots below `slots` are forgotten
 abbrev pub forgetting : (slots : ℕ) → Dispatch → Dispatch

@@ -22,10 +22,6 @@ IsStartedWith script d =
     (d.settings ≡ script.settings) × (d.origin ≡ None) × (replica_of d.replica ≡ replica_of_logs script.logs)
     × (d.tables ≡ []) × (d.spent ≡ false)
 
--- what a file says, in such a dispatcher
-abbrev pub IsReadFrom : List ℕ → Dispatch → Type 0
-IsReadFrom bytes d = (script : LoggedRun) × (script_of_file bytes ≡ Ok script) × IsStartedWith script d
-
 -- the number of a key: in the order of the fields
 abbrev pub field_number : Field → ℕ
 field_number field.Version = 1
@@ -62,11 +58,6 @@ fault_row (fault.Entry processor number cause) =
 fault_row fault.Version = nowhere
 fault_row fault.Memory = nowhere
 
--- the file's first fault, by its number, and where it is
-abbrev pub IsFileFault : List ℕ → ℕ → PfairFileFault → Type 0
-IsFileFault bytes answer row =
-    (f : FileFault) × (script_of_file bytes ≡ Err f) × (answer ≡ file_fault_number f) × (row ≡ fault_row f)
-
 -- the file was read, or not for its fault
 abbrev pub IsNoFault : ℕ → Type 0
 IsNoFault answer = (answer ≡ DONE) ⊎ ((answer ≡ FILE_TOO_LONG) ⊎ ((answer ≡ MEMORY) ⊎ (answer ≡ OPEN_ALREADY)))
@@ -76,7 +67,7 @@ pub record IsReadAnswer (bytes : List ℕ) (before after : Kept) (answer : ℕ) 
   pub already : is_kept before ≡ true → answer ≡ OPEN_ALREADY
   pub too_long : before ≡ None → LONGEST_FILE < length bytes → answer ≡ FILE_TOO_LONG
   pub only : (answer ≡ OPEN_ALREADY → is_kept before ≡ true) × (answer ≡ FILE_TOO_LONG → LONGEST_FILE < length bytes)
-  pub read : answer ≡ DONE → Of after (IsReadFrom bytes)
-  pub fault : (IsNoFault answer → ⊥) → IsFileFault bytes answer new
+  pub read : answer ≡ DONE → Of after (λ d. (script : LoggedRun) × (script_of_file bytes ≡ Ok script) × IsStartedWith script d)
+  pub fault : (IsNoFault answer → ⊥) → (f : FileFault) × (script_of_file bytes ≡ Err f) × (answer ≡ file_fault_number f) × (new ≡ fault_row f)
   pub unchanged : (answer ≡ DONE → ⊥) → after ≡ before
   pub unread : IsNoFault answer → new ≡ old

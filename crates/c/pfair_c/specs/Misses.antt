@@ -23,19 +23,10 @@ miss_row (Some (Unserved index)) = record { kind = 3; index = index; slot = 0 }
 abbrev pub asked_answer : (cost period horizon : ℕ) → ℕ
 asked_answer cost period horizon = weight_answer cost period (if nat_le horizon MAX_HORIZON then DONE else OUT_OF_RANGE)
 
--- the row of a first miss, or of none, and then all is well
-abbrev pub IsFoundAs : PfairMiss → (AllIsWell : Type 0) → (IsFirst : Miss → Type 0) → Type 0
-IsFoundAs row AllIsWell IsFirst = (found : Option Miss) × (row ≡ miss_row found) × MatchOption found AllIsWell IsFirst
-
 -- the place at which a list of picks is at fault
 abbrev pub fault_place : PickFault → ℕ
 fault_place (PicksNotRising at) = at
 fault_place (PickPastHorizon at) = at
-
--- the answer and the place are those of the first fault of the picks
-abbrev pub IsPickFaultAs : (picks : List ℕ) → (horizon answer place : ℕ) → Type 0
-IsPickFaultAs picks horizon answer place =
-    (f : PickFault) × (answer ≡ pick_fault_number f) × (place ≡ fault_place f) × IsFaultOf picks horizon f
 
 -- what is answered about the picks of a weight cost/period up to a horizon: that all is well, or the first miss, in the row `miss`, and then
 -- the picks rise and end before the horizon; or why the weight and the horizon are refused, or the picks, and these with the place at fault
@@ -43,7 +34,9 @@ pub record IsMissAnswer (AllIsWell : Share → List ℕ → ℕ → Type 0) (IsF
     (answer : ℕ) (miss miss' : PfairMiss) (place place' : ℕ) : Type 0 where
   pub valid : answer ≡ 0 → ArePicks picks horizon
   pub asked : (asked_answer cost period horizon ≡ 0 → ⊥) → answer ≡ asked_answer cost period horizon
-  pub found : answer ≡ 0 → IsFoundAs miss' (AllIsWell (record { cost = cost; period = period }) picks horizon) (IsFirst (record { cost = cost; period = period }) picks horizon)
-  pub fault : asked_answer cost period horizon ≡ 0 → (answer ≡ 0 → ⊥) → IsPickFaultAs picks horizon answer place'
+  pub found : answer ≡ 0 → (found : Option Miss) × (miss' ≡ miss_row found)
+      × MatchOption found (AllIsWell (record { cost = cost; period = period }) picks horizon) (IsFirst (record { cost = cost; period = period }) picks horizon)
+  pub fault : asked_answer cost period horizon ≡ 0 → (answer ≡ 0 → ⊥)
+      → (f : PickFault) × (answer ≡ pick_fault_number f) × (place' ≡ fault_place f) × IsFaultOf picks horizon f
   pub unchanged : (answer ≡ 0 → ⊥) → miss' ≡ miss
   pub unread : (answer ≡ 40 → ⊥) → (answer ≡ 41 → ⊥) → place' ≡ place

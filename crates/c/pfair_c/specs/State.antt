@@ -66,17 +66,14 @@ pub record IsResumedFrom (bytes : List ℕ) (slots capacity : ℕ) (d : Dispatch
   pub course : course_of d ≡ begin_at (Some state) (settings_from state slots) capacity
   pub whole : (d.forgotten ≡ 0) × (d.spent ≡ false)
 
--- no state that is read back has this text
-abbrev pub IsNoStatesText : (bytes : List ℕ) → Type 0
-IsNoStatesText bytes = (c : Carried) → IsWritable c → bytes ≡ state_text c → ⊥
-
 -- what becomes of a text that isn't too long, where a run can be asked for: a run begins with it, the run would end too late, an
 -- allocation failed, or the text isn't a state's
 pub record IsBegunBy (bytes : List ℕ) (slots capacity : ℕ) (after : Kept) (answer : ℕ) (new : PfairStateFault) : Type 0 where
   pub resumed : answer ≡ DONE → Of after (IsResumedFrom bytes slots capacity)
   pub late : answer ≡ 33 → (c : Carried) × IsWritable c × (bytes ≡ state_text c) × (LAST_SLOT < c.slot + slots)
   pub refused : (answer ≡ DONE → ⊥) → (answer ≡ 33 → ⊥) → (answer ≡ MEMORY → ⊥)
-      → (f : ReadFault) × (answer ≡ read_fault_number f) × (new ≡ state_fault_row f) × IsNoStatesText bytes
+      → (f : ReadFault) × (answer ≡ read_fault_number f) × (new ≡ state_fault_row f)
+      × ((c : Carried) → IsWritable c → bytes ≡ state_text c → ⊥)
 
 -- what `pfair_resume` answers
 pub record IsResumeAnswer (bytes : List ℕ) (slots capacity : ℕ) (before after : Kept) (answer : ℕ) (old new : PfairStateFault) : Type 0 where

@@ -76,14 +76,6 @@ IsRefusedAt x k n entries place answer =
 
 -- ---- what the calls answer
 
--- no entries are taken: there is no such log, or no such number in it
-abbrev pub IsKeyFault : (k n answer taken : ℕ) → ReplicaRows → Type 0
-IsKeyFault k n answer taken x = (key_answer x k n ≡ DONE → ⊥) → (answer ≡ key_answer x k n) × (taken ≡ 0)
-
--- after so many entries were taken from number n on, the next one is refused
-abbrev pub IsRefusedAfter : (taken : ℕ) → (k n : ℕ) → List PfairEntry → (answer : ℕ) → ReplicaRows → Type 0
-IsRefusedAfter taken k n entries answer x = key_answer x k n ≡ DONE → IsRefusedAt x k (n + taken) entries taken answer
-
 -- how an entry was taken, as C has it
 abbrev pub how_number : Taken → ℕ
 how_number New = 0
@@ -108,6 +100,6 @@ pub record IsTakeAnswer (k n : ℕ) (entry : PfairEntry) (d e : Dispatch) (answe
 -- that one is refused, or that there is no log of k or no number n in it
 pub record IsTakeLogAnswer (k n : ℕ) (entries : List PfairEntry) (d e : Dispatch) (answer : ℕ) (old new : PfairTakenLog) : Type 0 where
   pub first : IsTakenTo k n entries new d e
-  pub no_key : IsKeyFault k n answer new.taken d.replica
+  pub no_key : (key_answer d.replica k n ≡ DONE → ⊥) → (answer ≡ key_answer d.replica k n) × (new.taken ≡ 0)
   pub all : answer ≡ DONE → new.taken ≡ length entries
-  pub refused : (answer ≡ DONE → ⊥) → IsRefusedAfter new.taken k n entries answer e.replica
+  pub refused : (answer ≡ DONE → ⊥) → key_answer e.replica k n ≡ DONE → IsRefusedAt e.replica k (n + new.taken) entries new.taken answer
