@@ -1,6 +1,6 @@
 -- The quanta of several slots, row by row and slot by slot.
 use Rattle.std.proofs.Common.{◌≡◌, ◌+◌, ◌-◌, ℕ, zero, suc, ◌<◌, ◌≤◌, ◌++◌, ◌∷◌, List, length, min, take, drop, set, get_or, slice_get, ap, refl, arith, ◌∙◌, append_assoc, sym, []}
-use Rattle.std.proofs.lemmas.List.{length-append}
+use Rattle.std.proofs.lemmas.List.{drop-drop, length-append}
 use Rattle.pfair_table.specs.declared.slot.Pick.{Pick}
 use Rattle.pfair_table.specs.Table.{Origin, Table}
 use Rattle.pfair_c.specs.declared.quanta.PfairQuantum.{PfairQuantum}
@@ -38,20 +38,13 @@ all-written places slot table rows old row low high is = grind (arith, take-leng
 
 -- ---- some rows, and then others behind them
 
-further : {B : Type 0} (m n k : ℕ) (xs : List B) → k ≡ m + n → drop n (drop m xs) ≡ drop k xs
-further zero n k xs is = grind arith
-further (suc m) n zero xs is = absurd (omega arith)
-further (suc m) zero (suc k) [] is = refl
-further (suc m) (suc n) (suc k) [] is = refl
-further (suc m) n (suc k) (x ∷ xs) is = further m n k xs (omega arith)
-
 pub behind : {B : Type 0} (written more old : List B) → length written ≤ length old
     → take (length written) (written_over written old) ++ written_over more (drop (length written) (written_over written old)) ≡ written_over (written ++ more) old
 behind written more old room =
     let first : take (length written) (written_over written old) ≡ written = take-append_seam written (drop (length written) old) in
     let rest : drop (length written) (written_over written old) ≡ drop (length written) old = drop-append_seam written (drop (length written) old) in
     let far : drop (length more) (drop (length written) old) ≡ drop (length (written ++ more)) old =
-    further (length written) (length more) (length (written ++ more)) old (length-append written more) in
+    drop-drop (length more) (length written) old ∙ ap (λ n. drop n old) (sym (length-append written more)) in
     ap (λ xs. xs ++ written_over more (drop (length written) (written_over written old))) first
     ∙ ap (λ ys. written ++ written_over more ys) rest
     ∙ ap (λ zs. written ++ (more ++ zs)) far

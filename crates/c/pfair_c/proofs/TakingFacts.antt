@@ -84,30 +84,12 @@ refused-at x k n es i j place answer d inside at same refused =
 
 -- ---- what an entry meets
 
-abbrev content_or : Held Logged → Logged → Logged
-content_or None d = d
-content_or (Some (One f)) d = f
-content_or (Some TornContent) d = d
-
-abbrev is_one : Held Logged → Bool
-is_one None = false
-is_one (Some (One f)) = true
-is_one (Some TornContent) = false
-
-known_if : (b : Bool) → b ≡ true → Known ≡ (if b then Known else Torn)
-known_if true is = refl
-known_if false is = absurd (true≢false (sym is))
-
-torn_if : (b : Bool) → (b ≡ true → ⊥) → Torn ≡ (if b then Known else Torn)
-torn_if true not = absurd (not refl)
-torn_if false not = refl
-
 pub met-is : (h : Held Logged) (e : Logged) (how : Taken) → IsTakenAs h e how → how ≡ met h e
-met-is None e New is = refl
-met-is (Some c) e New is = absurd (none-some c (sym is))
-met-is None e Known is = absurd (none-some (One e) is)
-met-is (Some (One f)) e Known is = grind (arith, known_if, entry_exact.itself)
-met-is (Some TornContent) e Known is = absurd (true≢false (sym (ap is_one is)))
-met-is None e Torn is = absurd (is.0 refl)
-met-is (Some (One f)) e Torn is = grind (arith, torn_if, entry_exact.alike)
-met-is (Some TornContent) e Torn is = refl
+met-is None e New is = grind arith
+met-is (Some c) e New is = grind arith
+met-is None e Known is = grind arith
+met-is (Some (One f)) e Known is = grind (arith, entry_exact.itself)
+met-is (Some TornContent) e Known is = grind arith
+met-is None e Torn is = grind arith
+met-is (Some (One f)) e Torn is = grind (arith, entry_exact.alike)
+met-is (Some TornContent) e Torn is = grind arith
