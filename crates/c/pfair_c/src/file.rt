@@ -1,10 +1,10 @@
 //! Task files, read into dispatchers.
 ghost use Rattle.std.specs.Prelude.{◌≡◌};
-ghost use Rattle.pfair_c.specs.Files.{IsReadAnswer, fault_row, field_number};
+ghost use Rattle.pfair_c.specs.Files.{IsReadAnswer, fault_row};
 
 use crate::answer::{FILE_TOO_LONG, MEMORY, OPEN_ALREADY};
 use crate::open::put_new;
-use pfair_file::{Field, FileFault, LONGEST_FILE, read_file};
+use pfair_file::{FileFault, LONGEST_FILE, read_file};
 use pfair_handle::Handle;
 use pfair_table::take_script;
 use std::alloc::Global;
@@ -16,7 +16,7 @@ pub struct PfairFileFault {
     /// After 61 to 63 the number of the entry's table in the file, counted from 1, or 0 for the
     /// file's own keys; else 0.
     pub place: u64,
-    /// After 61 to 63 the key: 1 to 15, in the order of [`Field`]; else 0.
+    /// After 61 to 63 the key: 1 to 15, in the order of [`Field`](pfair_file::Field); else 0.
     pub field: u64,
     /// After 64 the processor, counted from 0; else 0.
     pub processor: u64,
@@ -27,7 +27,6 @@ pub struct PfairFileFault {
     pub cause: u64,
 }
 
-// No place.
 const NOWHERE: PfairFileFault = PfairFileFault {
     place: 0,
     field: 0,
@@ -67,7 +66,6 @@ pub extern "C" fn pfair_read_file(
     }
 }
 
-// The place of the fault, as C has it.
 fn fault_row(fault: FileFault) -> PfairFileFault
     ensures { result ≡ fault_row fault }
 {
@@ -76,7 +74,7 @@ fn fault_row(fault: FileFault) -> PfairFileFault
         | FileFault::WrongKind { place, field }
         | FileFault::Range { place, field } => PfairFileFault {
             place,
-            field: field_number(field),
+            field: field as u64 + 1,
             ..NOWHERE
         },
         FileFault::Entry {
@@ -90,28 +88,5 @@ fn fault_row(fault: FileFault) -> PfairFileFault
             ..NOWHERE
         },
         FileFault::NotToml | FileFault::Version | FileFault::Memory => NOWHERE,
-    }
-}
-
-// The number of a key.
-fn field_number(field: Field) -> u64
-    ensures { result ≡ field_number field }
-{
-    match field {
-        Field::Version => 1,
-        Field::Processors => 2,
-        Field::Frame => 3,
-        Field::Slots => 4,
-        Field::Entries => 5,
-        Field::Processor => 6,
-        Field::Floor => 7,
-        Field::Kind => 8,
-        Field::At => 9,
-        Field::Name => 10,
-        Field::Cost => 11,
-        Field::Period => 12,
-        Field::Early => 13,
-        Field::Index => 14,
-        Field::By => 15,
     }
 }
