@@ -43,12 +43,7 @@ IsMeant e = IsInRange e × IsWhole e × IsLoggable (logged_of e)
 
 -- ---- what is wrong, by its number: the first that applies
 
-abbrev pub IsUnreadable : PfairEntry → ℕ → Type 0
-IsUnreadable e n =
-    ((n ≡ 100) × (IsInRange e → ⊥))
-    ⊎ ((n ≡ 2) × IsInRange e × (1 ≤ e.kind) × (16 < e.name.length))
-
 abbrev pub IsEntryFault : PfairEntry → ℕ → Type 0
 IsEntryFault e n =
-    IsUnreadable e n
+    (((n ≡ 100) × (IsInRange e → ⊥)) ⊎ ((n ≡ 2) × IsInRange e × (1 ≤ e.kind) × (16 < e.name.length)))
     ⊎ (IsInRange e × IsWhole e × (result_map_both (λ e. e) notice_fault_number (checked (logged_of e)) ≡ Err n))

@@ -1,8 +1,7 @@
 //! Entries and names, as C has them.
 ghost use Rattle.std.specs.Prelude.{◌≡◌, ◌≤◌, ◌<◌, IfOk, IfErr, OnOk};
-ghost use Rattle.pfair_entry.specs.Notice.{unchecked};
-ghost use Rattle.pfair_c.specs.EntryRows.{entry_row, silent_row};
-ghost use Rattle.pfair_c.specs.Entries.{spelled, change_of, logged_of, IsInRange, IsWhole, IsMeant, IsUnreadable, IsEntryFault};
+ghost use Rattle.pfair_c.specs.EntryRows.{entry_row};
+ghost use Rattle.pfair_c.specs.Entries.{spelled, change_of, logged_of, IsInRange, IsWhole, IsMeant, IsEntryFault};
 ghost use Rattle.pfair_c.specs.Rows.{name_row};
 
 use crate::answer::OUT_OF_RANGE;
@@ -33,35 +32,24 @@ pub struct PfairEntry {
     pub by: u64,
 }
 
-/// Returns the entry that C's fields make. O(1).
-///
-/// # Errors
-/// Returns the number of the first fault that applies: a field out of its range (100), then the name's
-/// fault, the weight's, the entry's.
+/// Returns the entry that C's fields make, or the number of the first fault that applies: a field out of
+/// its range (100), then the name's fault, the weight's, the entry's.
 pub(crate) fn read_entry(entry: &PfairEntry) -> Result<Entry, u32>
     ensures ok { IfOk result (λ read. read ≡ logged_of entry.now) }
     ensures meant { OnOk result (IsMeant entry.now) }
     ensures err { IfErr result (IsEntryFault entry.now) }
     ensures numbered { IfErr result (λ number. (0 < number) × (10 < number → number ≡ 100)) }
 {
-    let notice = read_notice(entry)?;
+    let notice = match read_change(entry)? {
+        None => None,
+        Some(change) => {
+            let (name, at) = (read_name(&entry.name)?, entry.at);
+            Some(Notice { at, name, change })
+        }
+    };
     checked_entry(entry.floor, notice).map_err(|fault| fault.number() as u32)
 }
 
-// The announcement before it is checked, if there is one, or the number of what keeps it from being read.
-fn read_notice(entry: &PfairEntry) -> Result<Option<Notice<'_>>, u32>
-    ensures ok { IfOk result (λ notice. unchecked entry.now.floor notice ≡ logged_of entry.now) }
-    ensures readable { OnOk result (IsInRange entry.now × IsWhole entry.now) }
-    ensures err { IfErr result (IsUnreadable entry.now) }
-{
-    let Some(change) = read_change(entry)? else {
-        return Ok(None);
-    };
-    let (name, at) = (read_name(&entry.name)?, entry.at);
-    Ok(Some(Notice { at, name, change }))
-}
-
-// What is announced, if something is.
 fn read_change(entry: &PfairEntry) -> Result<Option<Change>, u32>
     ensures ok { IfOk result (λ change. (change ≡ change_of entry.now) × IsInRange entry.now) }
     ensures err { IfErr result (λ number. (number ≡ OUT_OF_RANGE) × (IsInRange entry.now → ⊥)) }
@@ -82,7 +70,6 @@ fn read_change(entry: &PfairEntry) -> Result<Option<Change>, u32>
     }
 }
 
-// The bytes of a name, or the number of a name that is too long.
 fn read_name(name: &PfairName) -> Result<&[u8], u32>
     ensures ok { IfOk result (λ bytes. (bytes.now ≡ spelled name.now) × (name.now.length ≤ 16)) }
     ensures err { IfErr result (λ number. (number ≡ 2) × (16 < name.now.length)) }
@@ -97,7 +84,20 @@ fn read_name(name: &PfairName) -> Result<&[u8], u32>
 pub(crate) fn entry_row(entry: &Entry) -> PfairEntry
     ensures { result ≡ entry_row entry.now }
 {
-    let silent = silent_row(entry.floor());
+    let silent = PfairEntry {
+        floor: entry.floor(),
+        kind: 0,
+        at: 0,
+        name: PfairName {
+            bytes: [0; 16],
+            length: 0,
+        },
+        cost: 0,
+        period: 0,
+        early: 0,
+        index: 0,
+        by: 0,
+    };
     let Some((at, announcement)) = entry.said() else {
         return silent;
     };
@@ -132,26 +132,6 @@ pub(crate) fn entry_row(entry: &Entry) -> PfairEntry
     }
 }
 
-// An entry that announces nothing.
-fn silent_row(floor: u64) -> PfairEntry
-    ensures { result ≡ silent_row floor }
-{
-    PfairEntry {
-        floor,
-        kind: 0,
-        at: 0,
-        name: PfairName {
-            bytes: [0; 16],
-            length: 0,
-        },
-        cost: 0,
-        period: 0,
-        early: 0,
-        index: 0,
-        by: 0,
-    }
-}
-
 /// A name: its first `length` bytes.
 #[repr(C)]
 #[derive(Clone, Copy)]
@@ -162,7 +142,6 @@ pub struct PfairName {
     pub length: u64,
 }
 
-/// Returns a name as C has it.
 pub(crate) fn name_row(name: &TaskName) -> PfairName
     ensures { result ≡ name_row name.now }
 {

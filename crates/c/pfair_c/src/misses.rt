@@ -1,6 +1,6 @@
 //! Whether the slots in which a task ran are right: its first subtask that is out of its window, or
 //! late.
-ghost use Rattle.std.specs.Prelude.{◌≡◌, ◌≤◌, IfOk, IfErr, OnOk};
+ghost use Rattle.std.specs.Prelude.{◌≡◌, ◌≤◌, IfOk, IfErr};
 ghost use Rattle.pfair_lag.specs.Picks.{InWindows, MeetsDeadlines};
 ghost use Rattle.pfair_lag.specs.Miss.{IsFirstMiss, IsFirstLate};
 ghost use Rattle.pfair_lag.specs.PickFault.{pick_fault_number};
@@ -67,11 +67,9 @@ pub extern "C" fn pfair_first_late(
     }
 }
 
-// The weight, or the answer if there is no such weight or the horizon is too far.
 fn asked_weight(cost: u64, period: u64, horizon: u64) -> Result<Weight, u32>
-    ensures weight { IfOk result (λ weight. weight ≡ record { cost = cost; period = period }) }
-    ensures near { OnOk result (horizon ≤ MAX_HORIZON) }
-    ensures asked { OnOk result (asked_answer cost period horizon ≡ 0) }
+    ensures asked { IfOk result (λ weight.
+        (weight ≡ record { cost = cost; period = period }) × (horizon ≤ MAX_HORIZON) × (asked_answer cost period horizon ≡ 0)) }
     ensures refused { IfErr result (λ answer.
         (answer ≡ asked_answer cost period horizon) × (answer ≡ 0 → ⊥) × (answer ≡ 40 → ⊥) × (answer ≡ 41 → ⊥)) }
 {
@@ -82,14 +80,19 @@ fn asked_weight(cost: u64, period: u64, horizon: u64) -> Result<Weight, u32>
     Ok(weight)
 }
 
-// Writes what was found, or the place at fault, and returns the answer.
 fn write_miss(found: Result<Option<Miss>, PickFault>, miss: &mut PfairMiss, place: &mut u64) -> u32
     ensures ok { IfOk found (λ one. (result ≡ 0) × (miss.new ≡ miss_row one) × (place.new ≡ place.old)) }
     ensures err { IfErr found (λ fault. (result ≡ pick_fault_number fault) × (place.new ≡ fault_place fault) × (miss.new ≡ miss.old)) }
 {
     match found {
         Ok(one) => {
-            *miss = miss_row(one);
+            let (kind, index, slot) = match one {
+                None => (0, 0, 0),
+                Some(Miss::Early { index, slot }) => (1, index, slot),
+                Some(Miss::Tardy { index, slot }) => (2, index, slot),
+                Some(Miss::Unserved { index }) => (3, index, 0),
+            };
+            *miss = PfairMiss { kind, index, slot };
             DONE
         }
         Err(fault) => {
@@ -98,17 +101,4 @@ fn write_miss(found: Result<Option<Miss>, PickFault>, miss: &mut PfairMiss, plac
             fault.number() as u32
         }
     }
-}
-
-/// Returns the row of a miss, or of none.
-fn miss_row(found: Option<Miss>) -> PfairMiss
-    ensures { result ≡ miss_row found }
-{
-    let (kind, index, slot) = match found {
-        None => (0, 0, 0),
-        Some(Miss::Early { index, slot }) => (1, index, slot),
-        Some(Miss::Tardy { index, slot }) => (2, index, slot),
-        Some(Miss::Unserved { index }) => (3, index, 0),
-    };
-    PfairMiss { kind, index, slot }
 }

@@ -72,13 +72,8 @@ pub extern "C" fn pfair_plan_to(
     }
 }
 
-// Plans until `until` slots are planned (1 or more), or the next one isn't settled, or none is
-// left. [`Step::Planned`] has the last slot below `until`, also if it was planned before. The cost
-// is that of the plans.
-//
-// # Errors
-// Those of [`Dispatcher::plan_next`], if fewer than `until` slots are planned; those planned before
-// the fault stay.
+// Plans until `until` slots are planned, the next one isn't settled, or none is left.
+// [`Step::Planned`] has the last slot below `until`, also if it was planned before.
 fn plan_to<R: Ready>(dispatcher: &mut Dispatcher<R>, until: u64) -> Result<Step, PlanFault>
     requires { 1 ≤ until }
     ensures planned { OnOk result (IsPlannedOn until dispatcher.old dispatcher.new) }
@@ -94,14 +89,23 @@ fn plan_to<R: Ready>(dispatcher: &mut Dispatcher<R>, until: u64) -> Result<Step,
     Ok(Step::Planned(until - 1))
 }
 
-// Writes what a plan answered, and returns its number.
 fn write_step(answer: Result<Step, PlanFault>, step: &mut PfairStep) -> u32
     ensures ok { IfOk answer (λ taken. (result ≡ DONE) × (step.new ≡ step_row taken)) }
     ensures err { IfErr answer (λ fault. (result ≡ plan_fault_number fault) × (step.new ≡ fault_row fault step.old)) }
 {
     match answer {
         Ok(taken) => {
-            *step = step_row(taken);
+            let (kind, slot) = match taken {
+                Step::Planned(slot) => (0, slot),
+                Step::Waiting { frontier } => (1, frontier),
+                Step::Done => (2, 0),
+            };
+            *step = PfairStep {
+                kind,
+                slot,
+                processor: 0,
+                number: 0,
+            };
             DONE
         }
         Err(fault) => {
@@ -111,23 +115,6 @@ fn write_step(answer: Result<Step, PlanFault>, step: &mut PfairStep) -> u32
             }
             fault.number() as u32
         }
-    }
-}
-
-// The step as C has it.
-fn step_row(step: Step) -> PfairStep
-    ensures { result ≡ step_row step }
-{
-    let (kind, slot) = match step {
-        Step::Planned(slot) => (0, slot),
-        Step::Waiting { frontier } => (1, frontier),
-        Step::Done => (2, 0),
-    };
-    PfairStep {
-        kind,
-        slot,
-        processor: 0,
-        number: 0,
     }
 }
 
