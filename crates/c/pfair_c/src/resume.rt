@@ -1,6 +1,6 @@
 //! The state with which a run begins, as text: read, and given back.
 ghost use Rattle.std.specs.Prelude.{◌≡◌, IfOk, OnOk};
-ghost use Rattle.pfair_c.specs.State.{IsResumeAnswer, cause_of, state_fault_row, began, AreBytesGiven};
+ghost use Rattle.pfair_c.specs.State.{IsResumeAnswer, state_fault_row, began, AreBytesGiven};
 ghost use Rattle.pfair_state.specs.Reading.{IsWritable};
 ghost use Rattle.pfair_state.specs.Rows.{state_text};
 ghost use Rattle.pfair_c.specs.Answered.{Reads};
@@ -71,7 +71,6 @@ pub extern "C" fn pfair_resume(
     }
 }
 
-// The place of the fault, as C has it.
 fn state_fault_row(fault: ReadFault) -> PfairStateFault
     ensures { result ≡ state_fault_row fault }
 {
@@ -79,23 +78,16 @@ fn state_fault_row(fault: ReadFault) -> PfairStateFault
         ReadFault::NoRow { line } => PfairStateFault { line, cause: 0 },
         ReadFault::Refused { line, why } => PfairStateFault {
             line,
-            cause: cause_of(why),
+            cause: match why {
+                Why::OtherForm => 1,
+                Why::OutOfRange => 2,
+                Why::Member(RestoreFault::NotAdmitted(refusal)) => refusal.number() as u64,
+                Why::Member(_) => 3,
+                Why::Quantum => 4,
+                Why::Incomplete => 5,
+            },
         },
         ReadFault::Memory => PfairStateFault { line: 0, cause: 0 },
-    }
-}
-
-// The number of a cause.
-fn cause_of(why: Why) -> u64
-    ensures { result ≡ cause_of why }
-{
-    match why {
-        Why::OtherForm => 1,
-        Why::OutOfRange => 2,
-        Why::Member(RestoreFault::NotAdmitted(refusal)) => refusal.number() as u64,
-        Why::Member(_) => 3,
-        Why::Quantum => 4,
-        Why::Incomplete => 5,
     }
 }
 
@@ -124,7 +116,6 @@ pub extern "C" fn pfair_state(
     })
 }
 
-// The text of the state in which the run began.
 fn began_text(alloc: Global, dispatcher: &Dispatcher<HeapReady>) -> Result<Vec<u8>, AllocError>
     ensures text { IfOk result (λ text. text.items ≡ state_text (began dispatcher.now)) }
     ensures readable { OnOk result (IsWritable (began dispatcher.now)) }

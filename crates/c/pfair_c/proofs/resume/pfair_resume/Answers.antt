@@ -1,8 +1,8 @@
-use Rattle.std.proofs.Common.{◌≡◌, ◌∙◌, sym, subst, refl, arith, rules, false, ℕ, ◌≤◌, length, Ok}
+use Rattle.std.proofs.Common.{◌≡◌, ◌∙◌, sym, subst, refl, arith, rules, false, ℕ, ◌≤◌, length}
 use Rattle.pfair_file.specs.declared.input.TheConstants.{LONGEST_FILE}
 use Rattle.pfair_handle.specs.Kept.{is_kept}
 use Rattle.pfair_c.specs.State.{IsResumeAnswer, IsRunnable}
-use Rattle.pfair_c.proofs.Resumed.{none_kept, put_resumed, not_resumed}
+use Rattle.pfair_c.proofs.Resumed.{put_resumed, not_resumed}
 use Rattle.pfair_c.proofs.resume.pfair_resume.Goals as goal
 
 pub returns-in-Ok-resume : goal.returns-in-Ok-resume
@@ -12,8 +12,7 @@ returns-in-Ok-resume c =
     (omega (arith, c.if-slots-lt1.false), omega (arith, c.if-slots-gt-MAX_SLOTS.false), omega (arith, c.if-capacity-lt1.false), omega (arith, c.if-capacity-gt-LONGEST_LOG.false)) in
     let short : length c.args.bytes.now ≤ LONGEST_FILE = search (rules, arith) in
     let settings = c.in-Ok-resume.ensures.settings in
-    put_resumed c.args.bytes.now c.args.slots c.args.capacity c.args.fault.now runnable short c.args.handle.now.owner.kept c.put_new.new.handle.owner.kept c.put_new.result (Ok c.in-Ok-resume.dispatcher) c.in-Ok-resume.dispatcher
-    closed (none_kept c.args.handle.now.owner.kept closed) refl
+    put_resumed c.args.bytes.now c.args.slots c.args.capacity c.args.fault.now runnable short c.args.handle.now.owner.kept c.put_new.new.handle.owner.kept c.put_new.result c.in-Ok-resume.dispatcher closed
     (record { state = c.in-Ok.state; writable = c.in-Ok.ensures.writable; text = c.in-Ok.ensures.text; settings = settings; course = c.in-Ok-resume.ensures.course; whole = (c.in-Ok-resume.ensures.unforgotten, c.in-Ok-resume.ensures.spent) })
     c.put_new.ensures.done c.put_new.ensures.only
 
