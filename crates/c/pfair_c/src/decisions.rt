@@ -56,9 +56,8 @@ pub extern "C" fn pfair_decisions(
     })
 }
 
-// Returns how many decisions the slots `from` to `to` - 1, none of which is forgotten, have, if they are planned, but no
-// more than fit into 64 bits; and writes them over the first rows, if there is room for all, slot by slot, each slot's
-// in the order of processor and number. O(slots + rows).
+// Returns how many decisions the slots `from` to `to` - 1 have, but no more than fit into 64 bits, and writes them over
+// the first rows if there is room for all.
 fn write_decisions<R: Ready>(
     dispatcher: &Dispatcher<R>,
     from: u64,
@@ -77,8 +76,7 @@ fn write_decisions<R: Ready>(
     count
 }
 
-// Writes the decisions of a slot over the rows from `at` on, if there is room, and returns the
-// index behind them.
+// Writes the decisions of a slot over the rows from `at` on if there is room, and returns the index behind them.
 fn write_slot<R: Ready>(
     dispatcher: &Dispatcher<R>,
     slot: u64,
@@ -97,7 +95,6 @@ fn write_slot<R: Ready>(
     at.saturating_add(decided.len() as u64)
 }
 
-// Writes decisions over the first rows.
 fn write_rows(slot: u64, decided: &[Decided], rows: &mut [PfairDecision])
     requires { length decided.now ≤ length rows.old }
     ensures { rows.new ≡ written_over (map (decision_row slot) decided.now) rows.old }
@@ -107,7 +104,6 @@ fn write_rows(slot: u64, decided: &[Decided], rows: &mut [PfairDecision])
     }
 }
 
-/// The decision as C has it.
 fn decision_row(slot: u64, one: &Decided) -> PfairDecision
     ensures { result ≡ decision_row slot one.now }
 {

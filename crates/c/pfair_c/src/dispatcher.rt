@@ -54,7 +54,6 @@ pub extern "C" fn pfair_next_run(alloc: Global, handle: &mut Handle, slots: u64)
     with_open(alloc, handle, |dispatcher| go_on(dispatcher, slots)).unwrap_or(NOT_OPEN)
 }
 
-// Puts the dispatcher of the next run in the place of this one, and answers as the call does.
 fn go_on(dispatcher: &mut Dispatcher<HeapReady>, slots: u64) -> u32
     ensures answer { IsNextRunAnswer slots dispatcher.old dispatcher.new result }
     ensures open { result ≡ NOT_OPEN → ⊥ }

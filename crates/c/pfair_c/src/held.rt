@@ -225,7 +225,6 @@ pub extern "C" fn pfair_below(
     DONE
 }
 
-/// Returns 13 if a replica has no such processor, 14 if no log of it has such a number, else 0.
 pub(crate) fn key_answer(replica: &Replica, processor: u8, number: u32) -> u32
     ensures { result ≡ key_answer replica.now processor number }
 {
@@ -238,7 +237,6 @@ pub(crate) fn key_answer(replica: &Replica, processor: u8, number: u32) -> u32
     DONE
 }
 
-/// Writes the torn keys over the first rows, and the fallen ones behind them. O(rows).
 fn write_faults(faults: &Faults, rows: &mut [PfairKey])
     requires { length (faults.now.torn.items ++ faults.now.fallen.items) ≤ length rows.old }
     ensures { rows.new ≡ written_over (map key_row (faults.now.torn.items ++ faults.now.fallen.items)) rows.old }
@@ -247,7 +245,6 @@ fn write_faults(faults: &Faults, rows: &mut [PfairKey])
     write_keys(&faults.fallen, &mut rows[faults.torn.len()..]);
 }
 
-// Writes keys over the first rows.
 fn write_keys(keys: &[EntryKey], rows: &mut [PfairKey])
     requires { length keys.now ≤ length rows.old }
     ensures { rows.new ≡ written_over (map key_row keys.now) rows.old }

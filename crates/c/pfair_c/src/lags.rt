@@ -82,8 +82,7 @@ fn copy_lags(
     })
 }
 
-// Returns how many lags the slots `from` to `to` - 1 have, but no more than fit into 64 bits; and these lags, if they
-// are at most `room`: after each slot those of the tasks that stay, in the order of admission.
+// Returns how many lags these slots have, but no more than fit into 64 bits; and these lags, if they are at most `room`.
 fn collect_lags<R: Ready>(
     alloc: Global,
     dispatcher: &Dispatcher<R>,
@@ -124,7 +123,6 @@ fn push_lags(book: &LagBook, room: usize, lags: &mut Vec<PfairLag>) -> Result<()
     Ok(())
 }
 
-// Appends the lag of the task at a place of the book.
 fn push_lag(book: &LagBook, place: usize, lags: &mut Vec<PfairLag>) -> Result<(), AllocError>
     ensures { OnOk result ((task : NameValue × Tally) → slice_get book.now.entered place ≡ Some task →
         lags.new.items ≡ lags.old.items ++ lag_row book.now.time task ∷ []) }

@@ -76,8 +76,6 @@ fn time_of(dispatcher: &Dispatcher<HeapReady>) -> u64
     began + dispatcher.next_slot()
 }
 
-/// Writes the members over the first rows, in the order of admission, with their lags at a time.
-/// O(members + l) for l late releases accepted of them.
 fn write_members(members: &Members, time: u64, rows: &mut [PfairMember])
     requires { length members.now.members ≤ length rows.old }
     ensures { rows.new ≡ written_over (map (member_row time) members.now.members) rows.old }
@@ -87,7 +85,6 @@ fn write_members(members: &Members, time: u64, rows: &mut [PfairMember])
     }
 }
 
-// Writes the member at a place over the row at that place.
 fn write_row(members: &Members, place: usize, time: u64, rows: &mut [PfairMember])
     requires { place + 1 ≤ length rows.old }
     ensures { (member : Member) → slice_get members.now.members place ≡ Some member → rows.new ≡ set rows.old place (member_row time member) }

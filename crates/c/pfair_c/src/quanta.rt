@@ -53,9 +53,7 @@ pub extern "C" fn pfair_quanta(
     })
 }
 
-// Returns how many quanta the slots `from` to `to` - 1, none of which is forgotten, have, if they are planned; and writes
-// them over the first rows, if there is room for all, slot by slot, each slot's in the order of its table.
-// O(slots + rows).
+// Returns how many quanta the slots `from` to `to` - 1 have, and writes them over the first rows if there is room for all.
 fn write_quanta<R: Ready>(
     dispatcher: &Dispatcher<R>,
     from: u64,
@@ -75,8 +73,7 @@ fn write_quanta<R: Ready>(
     count
 }
 
-// Writes the quanta of a slot over the rows from `at` on, if there is room, and returns the index
-// behind them.
+// Writes the quanta of a slot over the rows from `at` on if there is room, and returns the index behind them.
 fn write_slot<R: Ready>(
     dispatcher: &Dispatcher<R>,
     slot: u64,
@@ -100,7 +97,6 @@ fn write_slot<R: Ready>(
     at + table.len() as u64
 }
 
-// Writes the quanta of a table over the first rows.
 fn write_rows(slot: u64, table: &[Pick], places: &[u8], rows: &mut [PfairQuantum])
     requires { length table.now ≤ length rows.old }
     ensures { rows.new ≡ written_over (quanta_in places.now slot 0 table.now) rows.old }
@@ -110,7 +106,6 @@ fn write_rows(slot: u64, table: &[Pick], places: &[u8], rows: &mut [PfairQuantum
     }
 }
 
-// The quantum of a row, with its place.
 fn quantum_row(slot: u64, row: usize, pick: &Pick, places: &[u8]) -> PfairQuantum
     ensures { result ≡ quantum_row slot row pick.now (slice_get places.now row) }
 {

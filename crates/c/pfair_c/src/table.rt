@@ -63,7 +63,6 @@ pub extern "C" fn pfair_places(
     })
 }
 
-/// Writes a table over the first rows. O(rows).
 fn write_table(table: &[Pick], rows: &mut [PfairPick])
     requires { length table.now ≤ length rows.old }
     ensures { rows.new ≡ written_over (map pick_row table.now) rows.old }

@@ -59,7 +59,6 @@ pub extern "C" fn pfair_take(
     answer
 }
 
-// Takes an entry under a number, and returns the answer, and how it was taken, or `before` if it wasn't.
 fn take_as(
     dispatcher: &mut Dispatcher<HeapReady>,
     processor: u8,
@@ -107,8 +106,6 @@ pub extern "C" fn pfair_take_log(
     answer
 }
 
-// Takes the entries, if the log is there and has such a number, up to the first that is refused, and
-// counts them.
 fn take_log(
     dispatcher: &mut Dispatcher<HeapReady>,
     processor: u8,
@@ -139,7 +136,6 @@ fn take_log(
     (DONE, counted)
 }
 
-// Takes an entry under a number, or gives the number of the fault.
 fn take_one<R: Ready>(
     dispatcher: &mut Dispatcher<R>,
     processor: u8,
@@ -163,7 +159,6 @@ fn take_one<R: Ready>(
         .map_err(|fault| fault.number() as u32)
 }
 
-// One more is taken, which met this.
 fn one_more(how: Taken, counted: PfairTakenLog) -> PfairTakenLog
     requires few { counted.taken ≤ Script.LONGEST_LOG }
     requires each { counted.fresh + counted.known + counted.torn ≡ counted.taken }
