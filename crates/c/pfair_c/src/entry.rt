@@ -1,7 +1,7 @@
 //! Entries and names, as C has them.
-ghost use Rattle.std.specs.Prelude.{◌≡◌, ◌≤◌, ◌<◌, IfOk, IfErr, OnOk};
+ghost use Rattle.std.specs.Prelude.{◌≡◌, ◌<◌, IfOk, IfErr, OnOk};
 ghost use Rattle.pfair_c.specs.EntryRows.{entry_row};
-ghost use Rattle.pfair_c.specs.Entries.{spelled, change_of, logged_of, IsInRange, IsWhole, IsMeant, IsEntryFault};
+ghost use Rattle.pfair_c.specs.Entries.{change_of, logged_of, IsInRange, IsWhole, IsMeant, IsEntryFault};
 ghost use Rattle.pfair_c.specs.Rows.{name_row};
 
 use crate::answer::OUT_OF_RANGE;
@@ -43,8 +43,15 @@ pub(crate) fn read_entry(entry: &PfairEntry) -> Result<Entry, u32>
     let notice = match read_change(entry)? {
         None => None,
         Some(change) => {
-            let (name, at) = (read_name(&entry.name)?, entry.at);
-            Some(Notice { at, name, change })
+            if entry.name.length > 16 {
+                return Err(2);
+            }
+            let name = &entry.name.bytes[..entry.name.length as usize];
+            Some(Notice {
+                at: entry.at,
+                name,
+                change,
+            })
         }
     };
     checked_entry(entry.floor, notice).map_err(|fault| fault.number() as u32)
@@ -68,16 +75,6 @@ fn read_change(entry: &PfairEntry) -> Result<Option<Change>, u32>
         })),
         _ => Err(OUT_OF_RANGE),
     }
-}
-
-fn read_name(name: &PfairName) -> Result<&[u8], u32>
-    ensures ok { IfOk result (λ bytes. (bytes.now ≡ spelled name.now) × (name.now.length ≤ 16)) }
-    ensures err { IfErr result (λ number. (number ≡ 2) × (16 < name.now.length)) }
-{
-    if name.length > 16 {
-        return Err(2);
-    }
-    Ok(&name.bytes[..name.length as usize])
 }
 
 /// Returns the entry as C has it, with zeros in the fields that its kind doesn't need.
