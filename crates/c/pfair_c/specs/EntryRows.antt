@@ -7,10 +7,7 @@ use Rattle.pfair_entry.specs.declared.entry.Announcement.TheVariants.{Arrive, De
 use Rattle.pfair_c.specs.Rows.{name_row}
 use Rattle.pfair_c.specs.declared.entry.PfairEntry.{PfairEntry}
 
--- an entry that announces nothing, or this, with zeros if its kind has no such field
-abbrev pub silent_row : ℕ → PfairEntry
-silent_row floor = record { floor = floor; kind = 0; at = 0; name = name_row []; cost = 0; period = 0; early = 0; index = 0; by = 0 }
-
+-- an entry that announces this, or nothing, with zeros if its kind has no such field
 abbrev pub announced_row : (floor at : ℕ) → Announcement → PfairEntry
 announced_row floor at (Arrive name weight early) =
     record { floor = floor; kind = 1; at = at; name = name_row name; cost = weight.cost; period = weight.period; early = if early then 1 else 0; index = 0; by = 0 }
@@ -20,7 +17,7 @@ announced_row floor at (Late name index by) =
     record { floor = floor; kind = 3; at = at; name = name_row name; cost = 0; period = 0; early = 0; index = index; by = by }
 
 abbrev pub said_row : ℕ → Option (ℕ × Announcement) → PfairEntry
-said_row floor None = silent_row floor
+said_row floor None = record { floor = floor; kind = 0; at = 0; name = name_row []; cost = 0; period = 0; early = 0; index = 0; by = 0 }
 said_row floor (Some s) = announced_row floor s.0 s.1
 
 -- an entry as C has it

@@ -1,5 +1,5 @@
 -- The state in which a run began, as C has it, and a run that begins with one.
-use Rattle.std.specs.Prelude.{ℕ, ◌≡◌, ◌+◌, ◌≤◌, ◌<◌, ◌⊎◌, true, false, List, length, Some, None}
+use Rattle.std.specs.Prelude.{ℕ, ◌≡◌, ◌+◌, ◌≤◌, ◌<◌, ◌⊎◌, true, false, List, length, Some, unwrap_or}
 use Rattle.pfair_state.specs.Reading.{IsWritable}
 use Rattle.pfair_state.specs.Rows.{state_text}
 use Rattle.pfair_state.specs.Faults.{read_fault_number}
@@ -14,7 +14,7 @@ use Rattle.pfair_admission.specs.declared.members.TheConstants.Members.{LAST_SLO
 use Rattle.pfair_table.specs.Events.{begin_at}
 use Rattle.pfair_table.specs.Limits.{first_state, settings_from}
 use Rattle.pfair_table.specs.Refinement.{Dispatch, course_of}
-use Rattle.pfair_table.specs.Table.{Carried, Origin, Settings}
+use Rattle.pfair_table.specs.Table.{Carried}
 use Rattle.pfair_table.specs.declared.script.TheConstants.Script.{LONGEST_LOG}
 use Rattle.pfair_table.specs.declared.settings.TheConstants.Settings.{MAX_SLOTS}
 use Rattle.pfair_file.specs.declared.input.TheConstants.{LONGEST_FILE}
@@ -24,12 +24,8 @@ use Rattle.pfair_c.specs.declared.answer.TheConstants.{DONE, FILE_TOO_LONG, MEMO
 use Rattle.pfair_c.specs.declared.resume.PfairStateFault.{PfairStateFault}
 use Rattle.pfair_c.specs.RowsGiven.{AreGiven, rows_count}
 
-abbrev pub state_at : Settings → Origin → Carried
-state_at s None = first_state s
-state_at s (Some c) = c
-
 abbrev pub began : Dispatch → Carried
-began d = state_at d.settings d.origin
+began d = unwrap_or d.origin (first_state d.settings)
 
 -- the bytes are given, of a state that is read back; or an allocation failed
 pub record AreBytesGiven (d : Dispatch) (answer : ℕ) (old new : ℕ × List ℕ) : Type 0 where
