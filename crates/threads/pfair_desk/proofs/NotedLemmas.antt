@@ -61,11 +61,6 @@ pub in_order_after : (processor next : ℕ) (x : Replica) (w : Knowledge) (k n p
     → p ≡ place_of x.capacity k n → v ≡ knowing w p e → IfSome (slice_index_or w.known p None) (λ z. z ≡ e) → y ≡ with_entry x k n e → IsInOrder processor next y v
 in_order_after processor next x w k n p e y v is key at known agrees learned = grind (arith, length-set, learn, place_within)
 
-pub in_order_only : (processor next : ℕ) (x : Replica) (w : Knowledge) (k n p : ℕ) (e : Logged) (y : Replica) (v : Knowledge) → IsInOrder processor next x w → IsKey x.processors x.capacity k n
-    → p ≡ place_of x.capacity k n → v ≡ knowing w p e → IfSome (slice_index_or w.known p None) (λ z. z ≡ e) → y ≡ x → IsInOrder processor next y v
-in_order_only processor next x w k n p e y v is key at known agrees same =
-    grind (arith, common_steps, place_within, length-set, remember)
-
 pub keeps_after : (x : Replica) (w : Knowledge) (k n p : ℕ) (e : Logged) (y : Replica) → AllNoted x w.known
     → p ≡ place_of x.capacity k n → IfSome (slice_index_or w.known p None) (λ z. z ≡ e) → y ≡ with_entry x k n e → Keeps x y
 keeps_after x w k n p e y all at agrees learned = grind (arith, keeps_learned)

@@ -140,10 +140,7 @@ impl Notes {
         ensures some { IfSome result (λ e. self.new ≡ knowing self.old place e) }
         ensures same { IfSome result (λ e. IfSome (slice_index_or self.old.known place None) (λ known. known ≡ e)) }
     {
-        match cell.get_as(&mut self.notes[place]) {
-            None => None,
-            Some(found) => Some(*found),
-        }
+        cell.get_as(&mut self.notes[place]).copied()
     }
 
     /// Sets the cell if it is empty, and returns its content.

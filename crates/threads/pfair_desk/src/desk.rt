@@ -123,13 +123,11 @@ impl Desk {
             return Err(LookFault::NumberOutOfRange);
         }
         let place = self.place(proc, number);
-        match self.notes.read(board.cell(place), place) {
-            None => Ok(None),
-            Some(entry) => match self.replica.take(proc, number, entry) {
-                Ok(_) => Ok(Some(entry)),
-                Err(fault) => Err(fault),
-            },
-        }
+        let Some(entry) = self.notes.read(board.cell(place), place) else {
+            return Ok(None);
+        };
+        self.replica.take(proc, number, entry)?;
+        Ok(Some(entry))
     }
 
     /// Puts an entry at the desk's next number and returns that number. The desk then holds the entry.
@@ -211,10 +209,7 @@ impl Desk {
         ensures own { OfOneBoard self.new other.now }
     {
         self.notes.share(&other.notes);
-        match self.replica.merge(&other.replica) {
-            Ok(()) => Ok(()),
-            Err(_) => Err(AllocError),
-        }
+        self.replica.merge(&other.replica).map_err(|_| AllocError)
     }
 
     /// Looks at each processor's numbers, from the first that the desk doesn't hold up to the first
