@@ -171,18 +171,8 @@ impl Notes {
         ensures theirs { Grows other.now.known self.new.known }
     {
         for place in 0..other.notes.len() {
-            self.share_one(other, place);
+            learn(&mut self.notes[place], &other.notes[place]);
         }
-    }
-
-    // The same for one cell.
-    fn share_one(&mut self, other: &Notes, place: usize)
-        requires here { place < length self.old.cells }
-        requires cells { self.old.cells ≡ other.now.cells }
-        ensures mine { KnowMore self.old self.new }
-        ensures theirs { (e : Logged) → slice_index_or other.now.known place None ≡ Some e → slice_index_or self.new.known place None ≡ Some e }
-    {
-        learn(&mut self.notes[place], &other.notes[place]);
     }
 }
 
