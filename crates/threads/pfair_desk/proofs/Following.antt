@@ -1,8 +1,7 @@
 -- What desks hold are entries of set cells, as they stand.
-use Rattle.pfair_desk.proofs.Common.{One, Torn, Logged, IsEntry, Contents, only, contents_join, IsKey, arith, ℕ, ◌≡◌, refl, sym, ◌∙◌, subst, inl, inr, Bool, true, false, List, [], ◌∷◌, Option, Some, None, HeldBelow, Flat, entry_eq, entry_exact}
-use Rattle.std.specs.Prelude.{◌⊎◌, ◌≢◌, ◌==◌, ◌&&◌, unwrap_or, if◌then◌else◌}
+use Rattle.pfair_desk.proofs.Common.{One, Torn, Logged, IsEntry, Contents, only, contents_join, IsKey, arith, ℕ, ◌≡◌, refl, subst, inl, inr, List, [], ◌∷◌, Option, Some, None, HeldBelow, Flat, entry_eq, entry_exact}
+use Rattle.std.specs.Prelude.{◌⊎◌, ◌≢◌}
 use Rattle.std.specs.List.{AllByRecursion}
-use Rattle.std.proofs.lemmas.Bool.{eqb-true, and_parts}
 use Rattle.pfair_lattice.specs.HeldLaws.{join_least, none_below, below_trans}
 use Rattle.pfair_desk.specs.Steps.{State, Step, IsStep, Set, Get, Meet, empty_board, set_cell, with_cell, with_desk, after_get, after_step, after_steps, one_of, EachDeskBelow}
 use Rattle.pfair_desk.specs.Laws.{DesksStayBelow, DesksAgree, DesksHoldReplicas}
@@ -20,18 +19,10 @@ only_below : (cells : ℕ → ℕ → Option Logged) (j m : ℕ) (e : Logged) �
 only_below cells j m e is k n = grind arith
 
 read_below : (cells : ℕ → ℕ → Option Logged) (held : Contents) (j m : ℕ) → UnderCells held cells → UnderCells (with_cell held j m (cells j m)) cells
-read_below cells held j m under = by (cells j m) refl
-  where
-    by : (o : Option Logged) → cells j m ≡ o → UnderCells (with_cell held j m o) cells
-    by None p = under
-    by (Some e) p = λ k n. join_least entry_eq entry_exact (held k n) (only j m e k n) (one_of (cells k n)) (under k n) (only_below cells j m e p k n)
+read_below cells held j m under k n = grind (arith, join_least entry_eq entry_exact, only_below, under k n)
 
 with_below : (cells : ℕ → ℕ → Option Logged) (desks : ℕ → Contents) (d : ℕ) (held : Contents) → ((c : ℕ) → UnderCells (desks c) cells) → UnderCells held cells → (c : ℕ) → UnderCells (with_desk desks d held c) cells
-with_below cells desks d held each under c = by (c == d)
-  where
-    by : (b : Bool) → UnderCells (if b then held else desks c) cells
-    by true = under
-    by false = each c
+with_below cells desks d held each under c k n = grind (arith, each c k n, under k n)
 
 got_below : (b : State) (d k n : ℕ) → EachDeskBelow b → EachDeskBelow (after_get b d k n)
 got_below b d k n each = with_below b.cells b.desks d (with_cell (b.desks d) k n (b.cells k n)) each (read_below b.cells (b.desks d) k n (each d))
@@ -54,39 +45,21 @@ desks_stay_below steps = steps_below steps empty_board (λ d k n. none_below _)
 
 -- no set cell is torn
 cell_whole : (o : Option Logged) → one_of o ≢ Some Torn
-cell_whole None e = absurd (cc)
-cell_whole (Some f) e = absurd (cc)
+cell_whole o e = grind arith
 
 pub desks_agree : DesksAgree
 desks_agree steps c d processors capacity k n torn =
     let b = after_steps steps empty_board in
     let each = desks_stay_below steps in
-    elim (join_least entry_eq entry_exact (b.desks c k n) (b.desks d k n) (one_of (b.cells k n)) (each c k n) (each d k n) Torn torn) [
-      | inl e ↦ cell_whole (b.cells k n) e
-      | inr e ↦ cell_whole (b.cells k n) e
-    ]
+    let below = join_least entry_eq entry_exact (b.desks c k n) (b.desks d k n) (one_of (b.cells k n)) (each c k n) (each d k n) Torn torn in
+    grind (arith, cell_whole (b.cells k n))
 
 -- each cell that is set is a key of the board, and its entry is stamped at or after its floor
 abbrev CellsAreGood : ℕ → ℕ → (ℕ → ℕ → Option Logged) → Type 0
 CellsAreGood processors capacity cells = (k n : ℕ) (e : Logged) → cells k n ≡ Some e → IsKey processors capacity k n × IsEntry e
 
 set_good : (processors capacity : ℕ) (cells : ℕ → ℕ → Option Logged) (j m : ℕ) (e : Logged) → IsKey processors capacity j m × IsEntry e → CellsAreGood processors capacity cells → CellsAreGood processors capacity (set_cell cells j m e)
-set_good processors capacity cells j m e new good k n f = by (k == j && n == m) refl
-  where
-    Good : ℕ → ℕ → Logged → Type 0
-    Good i l g = IsKey processors capacity i l × IsEntry g
-
-    on : (o : Option Logged) → cells j m ≡ o → Some (unwrap_or o e) ≡ Some f → IsKey processors capacity j m × IsEntry f
-    on None p h = subst (λ g. IsKey processors capacity j m × IsEntry g) (let same : e ≡ f = cc in same) new
-    on (Some g) p h = good j m f (p ∙ h)
-
-    by : (b : Bool) → (k == j && n == m) ≡ b → (if b then Some (unwrap_or (cells j m) e) else cells k n) ≡ Some f → IsKey processors capacity k n × IsEntry f
-    by true p h =
-        (let q = and_parts (k == j) (n == m) p in
-        let ek = eqb-true k j q.0 in
-        let en = eqb-true n m q.1 in
-        subst (λ (v : ℕ × ℕ). IsKey processors capacity v.0 v.1 × IsEntry f) (λ i. (sym ek i, sym en i)) (on (cells j m) refl h))
-    by false p h = good k n f h
+set_good processors capacity cells j m e new good k n f at = grind (arith, good k n f, good j m f)
 
 step_good : (processors capacity : ℕ) (b : State) (step : Step) → IsStep processors capacity step → CellsAreGood processors capacity b.cells → CellsAreGood processors capacity (after_step b step).cells
 step_good processors capacity b (Set d k n e) new good = set_good processors capacity b.cells k n e new good
@@ -101,8 +74,7 @@ steps_good processors capacity (step ∷ steps) b all good = steps_good processo
 held_cell : (c : Flat Logged) (o : Option Logged) → (one_of o ≡ Some c) ⊎ (one_of o ≡ Some Torn) → (e : Logged) × (o ≡ Some e) × (c ≡ One e)
 held_cell c None (inl h) = absurd (cc)
 held_cell c None (inr h) = absurd (cc)
-held_cell c (Some e) (inl h) = (e, refl, (let same : c ≡ One e = cc in same))
-held_cell c (Some e) (inr h) = absurd (cc)
+held_cell c (Some e) is = (e, refl, grind arith)
 
 pub desks_hold_replicas : DesksHoldReplicas
 desks_hold_replicas processors capacity steps all d =

@@ -1,12 +1,11 @@
 -- How many keys are newly held.
 use Rattle.std.proofs.Common.{not, ◌&&◌}
-use Rattle.pfair_desk.proofs.Common.{One, Logged, Replica, sound_beginning, held, replica_of, DeskView, DeskState, state_of, learned, is_gained, gained_in_row, gained_in_rows, SameDesk, NoGapInRow, ◌≡◌, ℕ, zero, suc, ◌+◌, ◌-◌, ◌<◌, ◌≤◌, Bool, true, false, cond, is_some, is_none, Some, None, IsSome, length, inl, inr, refl, sym, ap, ◌∙◌, subst, arith, Flat, Held, held_after}
+use Rattle.pfair_desk.proofs.Common.{One, Logged, Replica, sound_beginning, held, replica_of, DeskView, DeskState, state_of, learned, is_gained, gained_in_row, gained_in_rows, SameDesk, NoGapInRow, ◌≡◌, ℕ, zero, suc, ◌+◌, ◌-◌, ◌<◌, ◌≤◌, Bool, false, cond, is_some, is_none, Some, IsSome, length, inl, inr, refl, sym, ap, ◌∙◌, subst, arith, Flat, Held, held_after}
 use Rattle.std.proofs.lemmas.Option.{slice_get_cases}
 use Rattle.pfair_replica.specs.Laws.{IsReadByNumber}
 
 none_gained : (f g : Held Logged) → f ≡ g → (not (is_some f) && is_some g) ≡ false
-none_gained None g is = rw (← is) refl
-none_gained (Some f) g is = refl
+none_gained f g is = grind arith
 
 pub row_alike : (x y w z : Replica) (k n : ℕ) → ((j : ℕ) → 1 ≤ j → j ≤ n → is_gained x y k j ≡ is_gained w z k j) → gained_in_row x y k n ≡ gained_in_row w z k n
 row_alike x y w z k zero at = refl
@@ -19,22 +18,17 @@ rows_alike x y z (suc k) same at = grind (arith, row_alike, rows_alike x y z k s
 -- nothing is gained past the place where the two hold the same
 pub row_rest : (x y : Replica) (k m d : ℕ) → ((j : ℕ) → m < j → y.at k j ≡ x.at k j) → gained_in_row x y k (m + d) ≡ gained_in_row x y k m
 row_rest x y k m zero at = let none : m + 0 ≡ m = omega arith in ap (gained_in_row x y k) none
-row_rest x y k m (suc d) at =
-    let last : is_gained x y k (suc (m + d)) ≡ false = none_gained (x.at k (suc (m + d))) (y.at k (suc (m + d))) (sym (at (suc (m + d)) (omega arith))) in
-    let opened : gained_in_row x y k (m + suc d) ≡ gained_in_row x y k (suc (m + d)) = (let up : m + suc d ≡ suc (m + d) = omega arith in ap (gained_in_row x y k) up) in
-    let rest : gained_in_row x y k (m + d) ≡ gained_in_row x y k m = row_rest x y k m d at in
-    let gone : gained_in_row x y k (m + d) + 0 ≡ gained_in_row x y k m = omega arith in
-    opened ∙ (ap (λ b. gained_in_row x y k (m + d) + cond b 1 0) last ∙ gone)
+row_rest x y k m (suc d) at = let up : m + suc d ≡ suc (m + d) = omega arith in rw up (grind (arith, none_gained, row_rest x y k m d, at (suc (m + d))))
 
 pub row_full : (x y : Replica) (k m c : ℕ) → m ≤ c → ((j : ℕ) → m < j → y.at k j ≡ x.at k j) → gained_in_row x y k c ≡ gained_in_row x y k m
 row_full x y k m c le at = let whole : m + (c - m) ≡ c = omega arith in ap (gained_in_row x y k) (sym whole) ∙ row_rest x y k m (c - m) at
 
 pub row_next : (x y : Replica) (k n : ℕ) → 1 ≤ n → gained_in_row x y k n ≡ gained_in_row x y k (n - 1) + cond (is_gained x y k n) 1 0
 row_next x y k zero le = absurd (omega arith)
-row_next x y k (suc n) le = let same : n ≡ suc n - 1 = omega arith in ap (λ m. gained_in_row x y k m + cond (is_gained x y k (suc n)) 1 0) same
+row_next x y k (suc n) le = grind arith
 
 pub same_trans : (a b c : DeskView) → SameDesk a b → SameDesk b c → SameDesk a c
-same_trans a b c p q = record { processor = q.processor ∙ p.processor; next_number = q.next_number ∙ p.next_number; cells = q.cells ∙ p.cells; processors = q.processors ∙ p.processors; capacity = q.capacity ∙ p.capacity }
+same_trans a b c p q = grind arith
 
 -- one row after another
 pub no_gap_on : (old now new : Replica) (row : ℕ) → ((n : ℕ) → now.at row n ≡ old.at row n) → ((k n : ℕ) → (k ≡ row → ⊥) → new.at k n ≡ now.at k n)
@@ -49,7 +43,7 @@ pub look_other : (d new : DeskView) (p m : ℕ) (e : Logged) → state_of new �
 look_other d new p m e is k n apart = ap (λ (x : DeskState). x.replica.at k n) is ∙ held_after.other (replica_of d.replica) p m e k n apart
 
 pub is_some_some : (h : Held Logged) (f : Flat Logged) → h ≡ Some f → IsSome h
-is_some_some h f is = rw is refl
+is_some_some h f is = grind arith
 
 -- what stays in a row that was looked at one number further
 pub row_step : (old now new : Replica) (p m : ℕ) (f : Flat Logged) → 1 ≤ m → now.at p m ≡ old.at p m → new.at p m ≡ Some f → ((n : ℕ) → n < m → new.at p n ≡ now.at p n)
@@ -68,7 +62,4 @@ beginning_held law x k j first last = elim (slice_get_cases (sound_beginning x k
 ]
 
 pub none_of : (h : Held Logged) (b : Bool) → is_some h ≡ not b → b ≡ is_none h
-none_of None true e = refl
-none_of None false e = absurd (cc e)
-none_of (Some f) true e = absurd (cc e)
-none_of (Some f) false e = refl
+none_of h b e = grind arith

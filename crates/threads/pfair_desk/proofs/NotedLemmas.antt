@@ -1,6 +1,6 @@
 -- What the notes know of the contents.
 use Rattle.std.proofs.lemmas.Grind.{get_or-set_at}
-use Rattle.pfair_desk.proofs.Common.{get_or_past, length-set, get_or-set_same, get_or-set_other, length-replicate, One, Torn, Logged, Replica, with_entry, empty_replica, join, Below, Untorn, ReplicaRows, IsShape, SameShape, IsKey, place_of, DeskView, Keeps, Knowledge, knowing, IsNoted, AllNoted, Grows, KnowMore, IsInOrder, common_steps, ◌≡◌, ⊎_elim, ℕ, ◌+◌, ◌*◌, ◌<◌, ◌≤◌, List, length, Option, Some, None, slice_index_or, slice_set, replicate, refl, sym, ap, ◌∙◌, subst, arith, IfSome, Held, HeldBelow, Flat, entry_eq, entry_exact, held_after}
+use Rattle.pfair_desk.proofs.Common.{get_or_past, length-set, get_or-set_same, get_or-set_other, length-replicate, One, Logged, Replica, with_entry, empty_replica, join, Below, Untorn, ReplicaRows, IsShape, SameShape, IsKey, place_of, DeskView, Keeps, Knowledge, knowing, IsNoted, AllNoted, Grows, KnowMore, IsInOrder, common_steps, ◌≡◌, ⊎_elim, ℕ, ◌+◌, ◌*◌, ◌<◌, ◌≤◌, List, length, Option, Some, None, slice_index_or, slice_set, replicate, sym, ap, ◌∙◌, subst, arith, IfSome, Held, HeldBelow, Flat, entry_eq, entry_exact, held_after}
 use Rattle.std.proofs.lemmas.Nat.{mul-add-lt}
 use Rattle.std.proofs.Math.Nat.{mul_comm}
 use Rattle.pfair_lattice.specs.Held.{held_join}
@@ -10,22 +10,14 @@ use Rattle.pfair_replica.specs.declared.answer.MergeFault.TheVariants.{OtherShap
 
 -- a note that comes to know e
 noted_known : (h : Held Logged) (known : Option Logged) (e : Logged) → IsNoted h known → IfSome known (λ y. y ≡ e) → IsNoted h (Some e)
-noted_known None known e is agrees = tt
-noted_known (Some (One f)) known e is agrees = let same : f ≡ e = subst (λ k. IfSome k (λ y. y ≡ e)) is agrees in ap Some (sym same)
-noted_known (Some Torn) known e is agrees = is
+noted_known h known e is agrees = grind arith
 
 -- the entry of a note that knows e is joined in
 noted_joined : (h : Held Logged) (known : Option Logged) (e : Logged) → IsNoted h known → IfSome known (λ y. y ≡ e) → held_join entry_eq h (Some (One e)) ≡ Some (One e)
-noted_joined None known e is agrees = refl
-noted_joined (Some (One f)) known e is agrees =
-    let same : f ≡ e = subst (λ k. IfSome k (λ y. y ≡ e)) is agrees in
-    rw same (rw (entry_exact.itself e) refl)
-noted_joined (Some Torn) known e is agrees = absurd is
+noted_joined h known e is agrees = grind (arith, entry_exact.itself)
 
 noted_one : (h : Held Logged) (known : Option Logged) (e : Logged) (f : Flat Logged) → IsNoted h known → IfSome known (λ y. y ≡ e) → h ≡ Some f → h ≡ Some (One e)
-noted_one None known e f is agrees some = absurd (cc some)
-noted_one (Some (One g)) known e f is agrees some = let same : g ≡ e = subst (λ k. IfSome k (λ y. y ≡ e)) is agrees in ap (λ v. Some (One v)) same
-noted_one (Some Torn) known e f is agrees some = absurd is
+noted_one h known e f is agrees some = grind arith
 
 -- what the key itself holds once the entry that its note knows was joined in
 pub joined_now : (x : Replica) (ks : List (Option Logged)) (k n : ℕ) (e : Logged) → AllNoted x ks → IfSome (slice_index_or ks (place_of x.capacity k n) None) (λ y. y ≡ e)
@@ -83,15 +75,13 @@ pub in_order_next : (processor next : ℕ) (x : Replica) (w : Knowledge) → IsI
 in_order_next processor next x w is room = grind arith
 
 pub more_refl : (w : Knowledge) → KnowMore w w
-more_refl w = record { cells = refl; long = refl; grows = λ p e is. is }
+more_refl w = grind arith
 
 pub more_trans : (u v w : Knowledge) → KnowMore u v → KnowMore v w → KnowMore u w
-more_trans u v w a b = record { cells = b.cells ∙ a.cells; long = b.long ∙ a.long; grows = λ p e is. b.grows p e (a.grows p e is) }
+more_trans u v w a b = grind arith
 
 pub noted_more : (h : Held Logged) (old new : Option Logged) → ((e : Logged) → old ≡ Some e → new ≡ Some e) → IsNoted h old → IsNoted h new
-noted_more None old new more is = tt
-noted_more (Some (One e)) old new more is = more e is
-noted_more (Some Torn) old new more is = is
+noted_more h old new more is = grind arith
 
 pub all_noted_more : (x : Replica) (v w : List (Option Logged)) → Grows v w → AllNoted x v → AllNoted x w
 all_noted_more x v w grows all k n = noted_more (x.at k n) _ _ (grows (place_of x.capacity k n)) (all k n)
@@ -104,19 +94,10 @@ more_learned w v p e is agrees = grind (arith, length-set, get_or-set_at, get_or
 
 -- two contents of which one note knows
 noted_join : (h g : Held Logged) (known : Option Logged) → IsNoted h known → IsNoted g known → IsNoted (held_join entry_eq h g) known
-noted_join None g known a b = b
-noted_join (Some (One e)) None known a b = a
-noted_join (Some (One e)) (Some (One f)) known a b =
-    let same : Some e ≡ Some f = sym a ∙ b in
-    let one : e ≡ f = cc same in
-    rw (← one) (rw (entry_exact.itself e) a)
-noted_join (Some (One e)) (Some Torn) known a b = absurd b
-noted_join (Some Torn) g known a b = absurd a
+noted_join h g known a b = grind (arith, entry_exact.itself)
 
 noted_below : (h g : Held Logged) (known : Option Logged) → HeldBelow h g → IsNoted g known → IsNoted h known
-noted_below None g known below is = tt
-noted_below (Some f) g known below is =
-    ⊎_elim (λ same. subst (λ c. IsNoted c known) same is) (λ torn. absurd (subst (λ c. IsNoted c known) torn is)) (below f refl)
+noted_below h g known below is = grind arith
 
 pub join_noted : (x o : Replica) (ks : List (Option Logged)) → x.capacity ≡ o.capacity → AllNoted x ks → AllNoted o ks → AllNoted (join x o) ks
 join_noted x o ks same a b k n = grind (arith, noted_join)

@@ -1,5 +1,4 @@
-use Rattle.pfair_desk.proofs.Common.{One, held, replica_of, DeskView, state_of, learned, gained_in_row, ◌≡◌, ◌+◌, ◌-◌, ap, sym, ◌∙◌, arith, refl, ⊎_elim, subst, Ok, Some, true, false, is_none, is_some, cond, IsSome}
-use Rattle.std.proofs.lemmas.Bool.{cases_lt}
+use Rattle.pfair_desk.proofs.Common.{One, held, replica_of, DeskView, state_of, learned, gained_in_row, ◌≡◌, ◌+◌, ◌-◌, ap, sym, ◌∙◌, arith, refl, Ok, Some, true, false, is_none, is_some, cond}
 use Rattle.pfair_desk.proofs.Gains.{row_full, row_same, row_step, same_trans, same_learned, none_of, look_other, is_some_some, beginning_held}
 use Rattle.pfair_desk.proofs.desk.Desk.refresh_row.Goals as goal
 
@@ -53,12 +52,10 @@ loop-number-preserved c =
       kept = λ k n f is. c.in-Ok-Some.ensures.kept.kept k n f (was.kept k n f is);
       positive = omega arith;
       room = (let longer = desk.capacity in let long = was.same.capacity in let test = c.loop-number-test.true in omega arith);
-      full = λ j a lt. ⊎_elim (λ below. subst (λ h. IsSome h) (sym (other c.args.processor j (λ both. let eq = both.1 in absurd (omega arith)))) (was.full j a below))
-          (λ last. let last_is : m ≡ j = omega arith in subst (λ i. IsSome (held new.replica c.args.processor i)) last_is (is_some_some (held new.replica c.args.processor m) (One e) there))
-          (cases_lt j m);
+      full = λ j a lt. grind (arith, other, there, was.full j, is_some_some);
       count = ap (λ n. n + 1) was.count
           ∙ (ap (λ b. gained_in_row x y c.args.processor (m - 1) + cond b 1 0) (none_of (held now.replica c.args.processor m) true missing) ∙ (sym step ∙ ap (gained_in_row x z c.args.processor) shift));
-      few = (let few = was.few in omega arith);
-      others = λ k n apart. other k n (λ both. apart both.0) ∙ was.others k n apart;
-      later = λ n le. other c.args.processor n (λ both. let eq = both.1 in absurd (omega arith)) ∙ was.later n (omega arith);
+      few = grind arith;
+      others = λ k n apart. grind (arith, other, was.others k n);
+      later = λ n le. grind (arith, other, was.later n);
     }
