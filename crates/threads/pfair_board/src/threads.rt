@@ -4,7 +4,7 @@ ghost use Rattle.std.specs.PromisedHandle.{KeepsEach};
 ghost use Rattle.pfair_table.specs.Script.{capacity_of};
 ghost use Rattle.pfair_board.specs.Works.{AreWorkplaces, AreWorks, IsWorkOf, IsWorkplaceOf};
 
-use crate::worker::{Gate, Sink, Worker};
+use crate::worker::{Gate, Sink, run_into};
 use crossbeam_channel::{Receiver, Sender};
 use pfair_desk::{Board, Desk};
 use pfair_ready::Ready;
@@ -113,10 +113,7 @@ fn workplaces<R, K: Sink>(
     let mut sinks = sinks.into_iter();
     let mut all = Vec::new(alloc);
     for desk in board.desks()? {
-        let Some(hints) = hints.next() else {
-            unreachable!()
-        };
-        let Some(sink) = sinks.next() else {
+        let (Some(hints), Some(sink)) = (hints.next(), sinks.next()) else {
             unreachable!()
         };
         all.push(Workplace {
@@ -150,10 +147,10 @@ fn work<R: Ready, G: Gate, K: Sink>(
         ..
     } = workplace;
     let log = script.log(desk.proc());
-    let kept = match Worker::<R, K>::new(alloc, script.settings(), &desk, hints, sink) {
-        Ok(worker) => worker.run(rt, &mut desk, board, log, gate),
-        Err(_) => Err(RunFault::Memory),
-    };
+    let settings = script.settings();
+    let kept = run_into::<R, G, K>(
+        rt, alloc, settings, &mut desk, board, log, hints, gate, sink,
+    );
     Worked { desk, kept }
 }
 

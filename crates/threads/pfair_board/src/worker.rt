@@ -125,79 +125,74 @@ pub fn run_worker<R: Ready, G: Gate>(
     ensures fault { IfErr result (IsWorkerFault G.may_give_up desk.new desk.old.next_number log.now) }
     ensures own { IsDeskOf desk.new board.now }
 {
-    let sink = Vec::new(alloc);
-    let worker = Worker::<R, Vec<Vec<Pick>>>::new(alloc, settings, desk, hints, sink)?;
-    let tables = worker.run(rt, desk, board, log, gate)?;
+    let tables = run_into::<R, G, Vec<Vec<Pick>>>(
+        rt,
+        alloc,
+        settings,
+        desk,
+        board,
+        log,
+        hints,
+        gate,
+        Vec::new(alloc),
+    )?;
     Ok(Run::of_tables(alloc, tables)?)
 }
 
-/// What a worker has beside its desk: what plans its slots, what takes their tables, and its end of
-/// the hints.
+/// Does the same for any sink, which has no table yet, and returns it.
+pub(crate) fn run_into<R: Ready, G: Gate, K: Sink>(
+    rt: &impl Wait,
+    alloc: Global,
+    settings: Settings,
+    desk: &mut Desk,
+    board: &Board,
+    log: &[Entry],
+    mut hints: Hints,
+    gate: &G,
+    sink: K,
+) -> Result<K, RunFault>
+    requires own { IsDeskOf desk.old board.now }
+    requires room { desk.old.next_number + length log.now ≤ board.now.capacity + 1 }
+    requires processors { settings.processors ≡ board.now.processors }
+    requires empty { K.has sink desk.old.processor [] }
+    ensures grown { GrownDesk desk.old desk.new }
+    ensures log { OnOk result (HasPublished desk.old desk.new log.now) }
+    ensures plan { IfOk result (λ sink. K.has sink desk.old.processor (plan None settings (replica_of desk.new.replica))) }
+    ensures fault { IfErr result (IsWorkerFault G.may_give_up desk.new desk.old.next_number log.now) }
+    ensures own { IsDeskOf desk.new board.now }
+{
+    let planner = SlotPlanner::<R>::new(alloc, settings, desk.replica())?;
+    let mut worker = Worker {
+        planner,
+        sink,
+        room: Vec::new(alloc),
+        alloc,
+    };
+    publish_log(rt, desk, board, log, &hints)?;
+    // once all workers have, no hint can come any more
+    hints.senders.clear();
+    worker.plan_all(rt, desk, board, &hints, gate)?;
+    Ok(worker.sink)
+}
+
+// What plans a worker's slots, and what takes their tables.
 #[derive(Drop)]
-pub(crate) struct Worker<R: Ready, K: Sink> {
-    pub(crate) planner: SlotPlanner<R>,
-    pub(crate) sink: K,
-    hints: Hints,
+struct Worker<R: Ready, K: Sink> {
+    planner: SlotPlanner<R>,
+    sink: K,
     // for the next table
     room: Vec<Pick>,
     alloc: Global,
 }
 
 impl<R: Ready, K: Sink> Worker<R, K> {
-    /// Before the first slot of what a desk holds.
-    pub(crate) fn new(
-        alloc: Global,
-        settings: Settings,
-        desk: &Desk,
-        hints: Hints,
-        sink: K,
-    ) -> Result<Worker<R, K>, AllocError>
-        requires processors { desk.now.replica.processors ≡ settings.processors }
-        requires empty { K.has sink desk.now.processor [] }
-        ensures settings { IfOk result (λ w. w.planner.settings ≡ settings) }
-        ensures at_work { IfOk result (λ w. IsAtWork K.has w.planner w.sink desk.now) }
-    {
-        Ok(Worker {
-            planner: SlotPlanner::new(alloc, settings, desk.replica())?,
-            sink,
-            hints,
-            room: Vec::new(alloc),
-            alloc,
-        })
-    }
-
-    /// Publishes a log, and plans all slots that the logs on the board settle. Returns what took
-    /// their tables.
-    pub(crate) fn run<G: Gate>(
-        mut self,
-        rt: &impl Wait,
-        desk: &mut Desk,
-        board: &Board,
-        log: &[Entry],
-        gate: &G,
-    ) -> Result<K, RunFault>
-        requires own { IsDeskOf desk.old board.now }
-        requires room { desk.old.next_number + length log.now ≤ board.now.capacity + 1 }
-        requires at_work { IsAtWork K.has self.planner self.sink desk.old }
-        ensures grown { GrownDesk desk.old desk.new }
-        ensures log { OnOk result (HasPublished desk.old desk.new log.now) }
-        ensures plan { IfOk result (λ sink. K.has sink desk.old.processor (plan None self.planner.settings (replica_of desk.new.replica))) }
-        ensures fault { IfErr result (IsWorkerFault G.may_give_up desk.new desk.old.next_number log.now) }
-        ensures own { IsDeskOf desk.new board.now }
-    {
-        publish_log(rt, desk, board, log, &self.hints)?;
-        // once all workers have, no hint can come any more
-        self.hints.senders.clear();
-        self.plan_all(rt, desk, board, gate)?;
-        Ok(self.sink)
-    }
-
     // Plans what the desk holds, what hints point to while they come, and what a refresh finds then.
     fn plan_all<G: Gate>(
         &mut self,
         rt: &impl Wait,
         desk: &mut Desk,
         board: &Board,
+        hints: &Hints,
         gate: &G,
     ) -> Result<(), RunFault>
         requires own { IsDeskOf desk.old board.now }
@@ -208,39 +203,15 @@ impl<R: Ready, K: Sink> Worker<R, K> {
         ensures fault { IfErr result (IsPlanningFault G.may_give_up) }
     {
         self.catch_up(rt, desk, gate)?;
-        self.heed_all(rt, desk, board, gate)?;
-        desk.refresh(board)?;
-        self.catch_up(rt, desk, gate)?;
-        Ok(())
-    }
-
-    // Learns the entry that each hint points to, and plans what is settled when no further hint
-    // waits, until no hint can come any more.
-    fn heed_all<G: Gate>(
-        &mut self,
-        rt: &impl Wait,
-        desk: &mut Desk,
-        board: &Board,
-        gate: &G,
-    ) -> Result<(), RunFault>
-        requires own { IsDeskOf desk.old board.now }
-        requires at_work { IsAtWork K.has self.old.planner self.old.sink desk.old }
-        ensures learned { HasLearned desk.old desk.new }
-        ensures own { IsDeskOf desk.new board.now }
-        ensures settings { self.new.planner.settings ≡ self.old.planner.settings }
-        ensures at_work { OnOk result (IsAtWork K.has self.new.planner self.new.sink desk.new) }
-        ensures fault { IfErr result (IsPlanningFault G.may_give_up) }
-    {
-        for _ in rt.forever() {
-            let Ok(hint) = self.hints.receiver.recv(rt) else {
-                return Ok(());
-            };
+        for hint in hints.receiver.iter(rt) {
             // what isn't learned now is learned at the refresh
             let _ = desk.look(board, hint.proc, hint.number);
-            if self.hints.receiver.is_empty() {
+            if hints.receiver.is_empty() {
                 self.catch_up(rt, desk, gate)?;
             }
         }
+        desk.refresh(board)?;
+        self.catch_up(rt, desk, gate)?;
         Ok(())
     }
 
@@ -260,37 +231,21 @@ impl<R: Ready, K: Sink> Worker<R, K> {
             if slot < settled && !gate.come(rt, desk.proc(), slot) {
                 return Err(RunFault::GateGaveUp);
             }
-            if !self.plan_next(desk)? {
-                return Ok(());
+            let room = mem::replace(&mut self.room, Vec::new(self.alloc));
+            match self.planner.plan_next(replica, room) {
+                Ok(Some(next)) => {
+                    if let Some(room) = self.sink.take(slot, next.table)? {
+                        self.room = room;
+                    }
+                }
+                Ok(None) => return Ok(()),
+                // an allocation failed, since a desk holds nothing torn
+                Err(_) => return Err(RunFault::Memory),
             }
         }
         // each turn has planned a slot, and a run has no more than these
         prove!(self.planner.next_slot() <= self.planner.settings().slots());
         unreachable!()
-    }
-
-    // Plans the next slot, if the desk settles it, and hands its table to the sink. Returns whether
-    // it did.
-    fn plan_next(&mut self, desk: &Desk) -> Result<bool, AllocError>
-        requires { IsAtWork K.has self.old.planner self.old.sink desk.now }
-        ensures settings { self.new.planner.settings ≡ self.old.planner.settings }
-        ensures at_work { OnOk result (IsAtWork K.has self.new.planner self.new.sink desk.now) }
-        ensures all { IfOk result (λ more. more ≡ false → HasPlanned self.new.planner desk.now) }
-        ensures more { IfOk result (λ more. more ≡ true → length self.new.planner.tables ≡ length self.old.planner.tables + 1) }
-    {
-        let slot = self.planner.next_slot();
-        let room = mem::replace(&mut self.room, Vec::new(self.alloc));
-        match self.planner.plan_next(desk.replica(), room) {
-            Ok(Some(next)) => {
-                if let Some(room) = self.sink.take(slot, next.table)? {
-                    self.room = room;
-                }
-                Ok(true)
-            }
-            Ok(None) => Ok(false),
-            // an allocation failed, since a desk holds nothing torn
-            Err(_) => Err(AllocError),
-        }
     }
 }
 

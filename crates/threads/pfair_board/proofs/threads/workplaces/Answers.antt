@@ -30,9 +30,9 @@ loop-desk-preserved g c =
     let more : vec_len c.push.new.self ≡ made + 1 = search rules in
     let count : length c.loop-desk.all.items ≡ made = search rules in
     let desk = was.left 0 c.in-Some.desk first in
-    let first_sink : slice_get (into_iter_items c.loop-desk.sinks) 0 ≡ Some c.in-Some-next-2.sink = grind (arith, common_steps) in
-    let next_sink : into_iter_items c.loop-desk.sinks ≡ c.in-Some-next-2.sink ∷ into_iter_items c.next-in-loop-desk-2.new.self = grind (arith, common_steps) in
-    let empty = was.empty 0 c.in-Some-next-2.sink first_sink in
+    let first_sink : slice_get (into_iter_items c.loop-desk.sinks) 0 ≡ Some c.in-Some-Some.sink = grind (arith, common_steps) in
+    let next_sink : into_iter_items c.loop-desk.sinks ≡ c.in-Some-Some.sink ∷ into_iter_items c.next-in-loop-desk-2.new.self = grind (arith, common_steps) in
+    let empty = was.empty 0 c.in-Some-Some.sink first_sink in
     record {
       count = grind (arith, common_steps);
       hints = grind (arith, common_steps);
@@ -45,6 +45,6 @@ loop-desk-preserved g c =
           (let there : slice_get (into_iter_items c.loop-desk.desk-iterator) (k + 1) ≡ Some d = rw (next, add-one) at in
           let is = was.left (k + 1) d there in (is.0, (let row = is.1 in omega arith), is.2));
       made = λ k w at. each_snoc (λ j x. IsWorkplaceOf g.K.Sink.has c.args.board.now j x) c.loop-desk.all.items
-          (record { desk = c.in-Some.desk; hints = c.in-Some-next.hints; sink = c.in-Some-next-2.sink; ready = _ }) was.made
-          (record { desk = desk.0; processor = (let row = desk.1 in omega arith); first = desk.2; empty = subst (λ j. g.K.Sink.has c.in-Some-next-2.sink j []) (let same : made + 0 ≡ length c.loop-desk.all.items = omega (arith, count) in same) empty }) k w (rw (← c.in_ok-push.ensures.items) at);
+          (record { desk = c.in-Some.desk; hints = c.in-Some-Some.hints; sink = c.in-Some-Some.sink; ready = _ }) was.made
+          (record { desk = desk.0; processor = (let row = desk.1 in omega arith); first = desk.2; empty = subst (λ j. g.K.Sink.has c.in-Some-Some.sink j []) (let same : made + 0 ≡ length c.loop-desk.all.items = omega (arith, count) in same) empty }) k w (rw (← c.in_ok-push.ensures.items) at);
     }

@@ -1,8 +1,8 @@
 use Rattle.pfair_board.proofs.Common.{IsDeskOf, HasLearned, IsAtWork, ◌≡◌}
-use Rattle.pfair_board.proofs.worker.Worker.heed_all.Given as goal
+use Rattle.pfair_board.proofs.worker.Worker.plan_all.Given as goal
 
-abbrev pub invariant-loop : goal.invariant-loop
-invariant-loop g l = record {
+abbrev pub invariant-loop-hint : goal.invariant-loop-hint
+invariant-loop-hint g l = record {
   own : IsDeskOf l.desk l.board;
   learned : HasLearned l.fn.desk l.desk;
   settings : l.self.planner.settings ≡ l.fn.self.planner.settings;
