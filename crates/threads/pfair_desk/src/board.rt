@@ -163,8 +163,7 @@ impl Notes {
         Ok(*standing)
     }
 
-    /// Takes over all that the other list knows. What both know of a cell is the same entry. As
-    /// notes take no bytes, neither does this.
+    /// Takes over all that the other list knows. Notes take no bytes, so this copies nothing.
     pub(crate) fn share(&mut self, other: &Notes)
         requires { self.old.cells ≡ other.now.cells }
         ensures mine { KnowMore self.old self.new }

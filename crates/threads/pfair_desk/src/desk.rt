@@ -97,15 +97,14 @@ impl Desk {
         &self.replica
     }
 
-    /// Looks at one cell and returns its entry, which the desk then holds, or `None` if the cell is
-    /// empty; the desk then has no entry of that key, and is unchanged.
+    /// Looks at one cell and returns its entry, which the desk then holds, or `None` if it is empty.
     ///
     /// O(log e) for e entries of the row, and the same for each entry right behind a gap that this one
     /// fills, once for each entry.
     ///
     /// # Errors
-    /// The first of these that applies, and then nothing has changed: `NoSuchProcessor`,
-    /// `NumberOutOfRange`, and `Memory`, which happens only if the desk had no entry of that key.
+    /// The first of these that applies: `NoSuchProcessor`, `NumberOutOfRange`, and `Memory`, which
+    /// happens only if the desk had no entry of that key.
     pub fn look(&mut self, board: &Board, proc: u8, number: u32) -> Result<Option<Entry>, LookFault>
         requires own { IsDeskOf self.old board.now }
         ensures some { (e : Logged) → result ≡ Ok (Some e) → IsLearned self.old self.new proc number e }
@@ -130,15 +129,14 @@ impl Desk {
         Ok(Some(entry))
     }
 
-    /// Puts an entry at the desk's next number and returns that number. The desk then holds the entry.
-    /// The cost is that of [`Desk::look`].
+    /// Puts an entry at the desk's next number and returns that number. The cost is that of
+    /// [`Desk::look`].
     ///
     /// # Errors
-    /// The first of these that applies. `RowFull` if the next number is past the capacity; nothing has
-    /// then changed. `Taken` if the cell has another entry: the desk then holds that one, and its next
-    /// number is one further. `Memory`, which happens only if the desk had no entry at that number;
-    /// the desk is then as before, but the cell may be set: publishing the same entry once more
-    /// returns its number, and another entry meets the first as `Taken`.
+    /// The first of these that applies. `RowFull` if the next number is past the capacity. `Taken` if
+    /// the cell has another entry: the desk then holds that one, and its next number is one further.
+    /// `Memory` if an allocation fails; the desk is then as before, but the cell may be set:
+    /// publishing the same entry once more returns its number, and another entry is `Taken`.
     pub fn publish(&mut self, board: &Board, entry: Entry) -> Result<u32, PublishFault>
         requires own { IsDeskOf self.old board.now }
         ensures ok { IfOk result (λ n. (n ≡ self.old.next_number) × (state_of self.new ≡ numbered (state_of self.old) entry)) }
@@ -159,8 +157,7 @@ impl Desk {
         }
     }
 
-    // Sets the cell of the next number if it is empty, takes what stands there then, and goes
-    // on to the number after it.
+    // Sets the cell of the next number if it is empty, and takes what stands there then.
     fn put(&mut self, board: &Board, entry: Entry) -> Result<Entry, AllocError>
         requires own { IsDeskOf self.old board.now }
         requires room { self.old.next_number ≤ self.old.replica.capacity }
@@ -189,16 +186,14 @@ impl Desk {
         processor as usize * self.replica.capacity() as usize + (number as usize - 1)
     }
 
-    /// Adds the entries of another desk of the same board. The desk then holds those of both, none of
-    /// them torn.
+    /// Adds the entries of another desk of the same board.
     ///
     /// O(cells of the board), and a look-up for each entry of the other and for each number of a row in
     /// which it has one.
     ///
     /// # Errors
-    /// Returns [`AllocError`] if an allocation fails, which happens only if the other has a key that
-    /// this desk hasn't: some of those are then added, and another meet gives what one would have
-    /// given.
+    /// Returns [`AllocError`] if an allocation fails: some of the other's entries are then added, and
+    /// another meet gives what one would have given.
     pub fn meet(&mut self, other: &Desk) -> Result<(), AllocError>
         requires own { OfOneBoard self.old other.now }
         ensures ok { OnOk result (state_of self.new ≡ met (state_of self.old) (state_of other.now)) }
@@ -213,16 +208,13 @@ impl Desk {
     }
 
     /// Looks at each processor's numbers, from the first that the desk doesn't hold up to the first
-    /// empty cell, and returns how many keys are new. In a row that gained some, no number up to the
-    /// last one is missing then, also after a failed allocation.
+    /// empty cell, and returns how many keys are new.
     ///
     /// For each processor the cost of [`Desk::look`] for each new number, one empty cell, and a look-up
-    /// for each number past its sound beginning that was held already. Entries of a sound beginning are
-    /// not looked at again.
+    /// for each number past its sound beginning that was held already.
     ///
     /// # Errors
-    /// Returns [`AllocError`] if an allocation fails, which happens only if the board has a key that
-    /// the desk still hasn't; what was found before that is held.
+    /// Returns [`AllocError`] if an allocation fails; what was found before that is held.
     pub fn refresh(&mut self, board: &Board) -> Result<u64, AllocError>
         requires own { IsDeskOf self.old board.now }
         ensures count { IfOk result (λ c. c ≡ gained (replica_of self.old.replica) (replica_of self.new.replica)) }
