@@ -36,10 +36,9 @@ pub struct Finished {
 /// Runs a dispatcher for each processor of a script, in M threads of their own on one board, each
 /// with its own desk and log. No master decides: each works out every slot itself.
 ///
-/// The board has the capacity of the script's longest log, at least 1. At Ok each desk holds the
-/// script's replica, every entry of its logs and nothing else, the tables of each run are the plan
-/// of that replica, and its places are those of the tables. No table depends on hints. That a run
-/// ends does: each worker waits for the end of the hints, after which every log is on the board.
+/// The board has the capacity of the script's longest log, at least 1. No table depends on hints.
+/// That a run ends does: each worker waits for the end of the hints, after which every log is on the
+/// board.
 ///
 /// Each thread has the cost of [`run_worker`](crate::run_worker). Beside that there are O(e log e)
 /// steps for the e entries of all logs to take the script, and as many for each thread to compare its

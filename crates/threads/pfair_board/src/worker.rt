@@ -25,9 +25,9 @@ pub trait Gate {
     /// Whether a gate of this type may give up.
     ghost may_give_up: { Bool };
 
-    /// Lets a worker pass, which comes from its own thread, once for each slot, just before it plans
-    /// that slot. The worker is the processor whose log it has, counted from 0. Returns `false` if
-    /// the gate gave up; the worker's run ends then.
+    /// Lets a worker pass, which comes from its own thread just before it plans a slot, once for
+    /// each. It is the processor whose log it has, counted from 0. Returns `false` if the gate gave
+    /// up; the worker's run ends then.
     fn come<P: Wait>(&self, rt: &P, worker: u8, slot: u64) -> bool
         ensures { result ≡ false → may_give_up ≡ true };
 }
@@ -90,22 +90,19 @@ impl<K: Sink> Sink for Option<K> {
 
 /// Works out every slot of one processor's run, given its own log alone.
 ///
-/// Publishes the log from the desk's next number on, sends a hint of each entry to the other
-/// workers and drops its senders, looks where a hint points, plans by itself what its desk settles,
-/// and refreshes and plans the rest once no hint can come any more. The result does not depend on
-/// hints: at Ok the run has the plan of what the desk then holds, and the places of its tables. So
-/// of the answers of two desks of one board, under equal settings, the shorter begins the longer.
+/// Publishes the log from the desk's next number on and sends a hint of each entry to the other
+/// workers, looks where a hint points, plans what its desk settles, and refreshes and plans the rest
+/// once no hint can come any more. The result does not depend on hints. Of the answers of two desks
+/// of one board, under equal settings, the shorter begins the longer.
 ///
 /// Beside what [`SlotPlanner::plan_next`](pfair_table::SlotPlanner::plan_next) costs for each slot,
 /// and the places of its table, it costs a publish of each entry of the log, and a hint of it to
 /// each other worker; for each hint that comes a look; a look-up for each processor when no further
-/// hint waits; and a refresh at the end. The desk alone holds the entries, each once. No table is
-/// copied: at the end all are moved into the answer, and their places are worked out.
+/// hint waits; and a refresh at the end. No table is copied.
 ///
 /// # Errors
 /// `Memory` if an allocation fails. `GateGaveUp` only if the gate's type may give up. `Astray` only
-/// if the desk's row has another entry at a number of the log. After each the desk holds all that
-/// it held, and what it learned.
+/// if the desk's row has another entry at a number of the log.
 pub fn run_worker<R: Ready, G: Gate>(
     rt: &impl Wait,
     alloc: Global,
@@ -125,16 +122,9 @@ pub fn run_worker<R: Ready, G: Gate>(
     ensures fault { IfErr result (IsWorkerFault G.may_give_up desk.new desk.old.next_number log.now) }
     ensures own { IsDeskOf desk.new board.now }
 {
+    let sink = Vec::new(alloc);
     let tables = run_into::<R, G, Vec<Vec<Pick>>>(
-        rt,
-        alloc,
-        settings,
-        desk,
-        board,
-        log,
-        hints,
-        gate,
-        Vec::new(alloc),
+        rt, alloc, settings, desk, board, log, hints, gate, sink,
     )?;
     Ok(Run::of_tables(alloc, tables)?)
 }
