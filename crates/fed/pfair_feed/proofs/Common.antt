@@ -9,7 +9,7 @@ pub use Rattle.pfair_feed.specs.Entries.{entries_text, log_rows, numbered_from}
 pub use Rattle.pfair_feed.specs.Feeding.{AreFedBytes, AreLines, AreTakenFrom, AreWelcome, HasFailed, HasGoneOn, HasStood, IsCaughtUp, IsFedLine, IsFedTo, IsLeft, IsOneLine, IsStopped, IsTakenFrom, IsWelcome, ended, question}
 pub use Rattle.pfair_feed.specs.Follow.{Follow, HaveWrittenAlike, IsGrown, IsPlannedOut, IsSameRun, IsStopOf, missing_of, news}
 pub use Rattle.pfair_feed.specs.Missing.{dropped_line, dropped_of, is_past, key_line, missing_line, missing_lines}
-pub use Rattle.pfair_feed.specs.RoundTrip.{AreAmong, BringsNothing, HasScheduleOf, HaveTheRows, IsBegun, IsOneOf, IsPlaced, IsScript, Placed, placed_from, placed_in, replica_with_room, row_of, rows_of}
+pub use Rattle.pfair_feed.specs.RoundTrip.{AreAmong, BringsNothing, HasScheduleOf, HaveTheRows, IsBegun, IsPlaced, IsScript, Placed, placed_from, placed_in, replica_with_room, row_of, rows_of}
 pub use Rattle.pfair_feed.specs.RowLaws.{WholeRows, text_of}
 pub use Rattle.pfair_feed.specs.Rows.{IsBookIfAny, IsBookOf, KeepsUnwritten, book_before, header_of, rows_in}
 pub use Rattle.pfair_feed.specs.declared.output.Output.{Output}
@@ -22,6 +22,7 @@ pub use Rattle.pfair_lattice.specs.Held.{Held}
 pub use Rattle.pfair_lattice.specs.declared.join_map.Flat.TheVariants.{One}
 pub use Rattle.pfair_output.specs.Booked.{rows_booked, first_book}
 pub use Rattle.pfair_output.specs.Slots.{slots_from}
+pub use Rattle.pfair_replica.specs.Among.{Among}
 pub use Rattle.pfair_replica.specs.Offered.{taken}
 pub use Rattle.pfair_replica.specs.Replica.{Below, Replica, empty_replica, frontier, goes_on, has_torn, last_floor, mark, numbers_below, only, run_from, run_on, said, said_in, sound_beginning, with_entry}
 pub use Rattle.pfair_replica.specs.ReplicaRows.{ReplicaRows, SameShape, held, replica_of}

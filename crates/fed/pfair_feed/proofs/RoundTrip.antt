@@ -1,5 +1,5 @@
 -- Lines that have the rows of a script leave the script.
-use Rattle.pfair_feed.proofs.Common.{appends-more, AllByRecursion, and_parts, leb-true, ltb-true, Logged, Below, Replica, empty_replica, run_of, Course, run, Settings, AreTakenFrom, IsTakenFrom, AreAmong, BringsNothing, HasScheduleOf, IsOneOf, IsPlaced, IsScript, Placed, placed_in, replica_with_room, row_of, rows_of, HaveTheRows, line, Output, header_of, Appends, replica_of, news, ℕ, ◌+◌, ◌<◌, ◌≤◌, ◌≡◌, inl, inr, refl, sym, ap, subst, ◌∙◌, arith, List, [], ◌∷◌, map, Some, None, ◌++◌, ◌⊎◌, One, RowsAreLines, taken, LoggedRun, capacity_of, contents_of, replica_of_logs, entry_eq, entry_exact, WholeRows, text_of}
+use Rattle.pfair_feed.proofs.Common.{appends-more, AllByRecursion, and_parts, leb-true, ltb-true, Logged, Below, Replica, empty_replica, run_of, Course, run, Settings, AreTakenFrom, IsTakenFrom, AreAmong, BringsNothing, HasScheduleOf, Among, IsPlaced, IsScript, Placed, placed_in, replica_with_room, row_of, rows_of, HaveTheRows, line, Output, header_of, Appends, replica_of, news, ℕ, ◌+◌, ◌<◌, ◌≤◌, ◌≡◌, inl, inr, refl, sym, ap, subst, ◌∙◌, arith, List, [], ◌∷◌, map, Some, None, ◌++◌, ◌⊎◌, One, RowsAreLines, taken, LoggedRun, capacity_of, contents_of, replica_of_logs, entry_eq, entry_exact, WholeRows, text_of}
 use Rattle.pfair_lattice.specs.Held.{HeldBelow}
 use Rattle.pfair_entry_row.specs.Laws.{EachEntryHasItsRow}
 use Rattle.pfair_table.specs.EventLaws.{EventsLeaveTheLeast, IsBroughtBelow}
@@ -10,6 +10,9 @@ use Rattle.pfair_lattice.specs.HeldLaws.{below_antisym}
 use Rattle.pfair_table.specs.declared.run.Event.{Event}
 use Rattle.pfair_table.specs.declared.run.Event.TheVariants.{Take}
 use Rattle.pfair_feed.proofs.OneWay.{lines_are_one}
+use Rattle.pfair_feed.proofs.RowsGoOn.{rows_go_on, whole_texts}
+use Rattle.pfair_admission.proofs.Each.{each, each_map}
+use Rattle.pfair_replica.specs.Among.{all_among, among_all, among_map, map_among}
 
 -- the contents after some entries
 abbrev pub held_after : Replica → List Placed → Replica
@@ -29,21 +32,12 @@ run_held s c (e ∷ es) = run_held s (record c { replica = taken c.replica e.0 e
 
 -- ---- lists of the same entries
 
-pub all_of : {A : Type 0} (P : A → Type 0) (fs : List A) (e : A) → AllByRecursion P fs → IsOneOf e fs → P e
-all_of P [] e a i = absurd i
-all_of P (f ∷ fs) e a i = elim i [ inl same ↦ subst P (sym same) a.0 | inr more ↦ all_of P fs e a.1 more ]
-
-pub all_among : (P : Placed → Type 0) (es fs : List Placed) → AllByRecursion P fs → AreAmong es fs → AllByRecursion P es
-all_among P [] fs a m = tt
-all_among P (e ∷ es) fs a m = (all_of P fs e a m.0, all_among P es fs a m.1)
+among_each : (P : Placed → Type 0) (es fs : List Placed) → AllByRecursion P fs → AreAmong es fs → AllByRecursion P es
+among_each P es fs all among = each (λ e. Among fs e) P (λ e i. among_all P fs all e i) es among
 
 pub all_from_map : (P : Event → Type 0) (es : List Placed) → AllByRecursion P (map event_of es) → AllByRecursion (λ e. P (event_of e)) es
 all_from_map P [] a = tt
 all_from_map P (e ∷ es) a = (a.0, all_from_map P es a.1)
-
-pub all_to_map : (P : Event → Type 0) (es : List Placed) → AllByRecursion (λ e. P (event_of e)) es → AllByRecursion P (map event_of es)
-all_to_map P [] a = tt
-all_to_map P (e ∷ es) a = (a.0, all_to_map P es a.1)
 
 -- ---- what some entries leave is the least that has them
 
@@ -55,13 +49,13 @@ module _ (least : EventsLeaveTheLeast) (s : Settings) (capacity : ℕ) (es : Lis
 
   pub below_all : (y : Replica) → AllByRecursion (λ e. IsBroughtBelow s capacity y (event_of e)) es → Below (held_after (empty_replica s.processors capacity) es) y
   below_all y brought =
-      subst (λ (x : Replica). Below x y) (run_held s _ es) ((least None s capacity (map event_of es)).1 y (all_to_map (IsBroughtBelow s capacity y) es brought))
+      subst (λ (x : Replica). Below x y) (run_held s _ es) ((least None s capacity (map event_of es)).1 y (each_map (λ e. IsBroughtBelow s capacity y (event_of e)) (IsBroughtBelow s capacity y) event_of (λ e b. b) es brought))
 
 below_after : EventsLeaveTheLeast → (s : Settings) (capacity : ℕ) (es fs : List Placed) → AreAmong es fs
     → Below (held_after (empty_replica s.processors capacity) es) (held_after (empty_replica s.processors capacity) fs)
 below_after least s capacity es fs among =
     let y : Replica = held_after (empty_replica s.processors capacity) fs in
-    below_all least s capacity es y (all_among (λ e. IsBroughtBelow s capacity y (event_of e)) es fs (brought_all least s capacity fs) among)
+    below_all least s capacity es y (among_each (λ e. IsBroughtBelow s capacity y (event_of e)) es fs (brought_all least s capacity fs) among)
 
 -- ---- the law
 
@@ -88,22 +82,17 @@ order_is_nothing least processors capacity es fs y z all_es all_fs es_fs fs_es t
 
 -- ---- the whole text
 
-pub text_is_whole : WholeRows → WholeText
-text_is_whole whole bytes rest f g old new first none fed = grind (arith, whole)
+pub text_is_whole : WholeText
+text_is_whole bytes rest f g old new first none fed = grind (arith, whole_texts)
 
 -- ---- entries that are those of a script
-
--- each of a list
-each_of : {A : Type 0} (P : A → Type 0) (xs : List A) → ((x : A) → IsOneOf x xs → P x) → AllByRecursion P xs
-each_of P [] f = tt
-each_of P (x ∷ xs) f = (f x (inl refl), each_of P xs (λ y i. f y (inr i)))
 
 module _ (least : EventsLeaveTheLeast) (run : LoggedRun) (script : IsScript run) (capacity : ℕ) (room : capacity_of run.logs ≤ capacity) where
   abbrev all_entries : List Placed
   all_entries = placed_in 0 run.logs
 
   -- a key of the script is one of its replica's
-  pub keyed : (e : Placed) → IsOneOf e all_entries → (e.0 < run.settings.processors) × (1 ≤ e.1) × (e.1 ≤ capacity)
+  pub keyed : (e : Placed) → Among all_entries e → (e.0 < run.settings.processors) × (1 ≤ e.1) × (e.1 ≤ capacity)
   keyed e i =
       let h = in_logs 0 run.logs e.0 e.1 e.2 i in
       let k_is = h.1 in
@@ -112,7 +101,7 @@ module _ (least : EventsLeaveTheLeast) (run : LoggedRun) (script : IsScript run)
       let one_each = script.logged.one_each in
       (omega (arith, k_is, inside, one_each), h.3, omega (arith, small, room))
 
-  at_key : (e : Placed) → IsOneOf e all_entries → contents_of run.logs e.0 e.1 ≡ Some (One e.2)
+  at_key : (e : Placed) → Among all_entries e → contents_of run.logs e.0 e.1 ≡ Some (One e.2)
   at_key e i =
       let h = in_logs 0 run.logs e.0 e.1 e.2 i in
       let k_is = h.1 in
@@ -125,11 +114,11 @@ module _ (least : EventsLeaveTheLeast) (run : LoggedRun) (script : IsScript run)
       let shape = shape_after (empty_replica run.settings.processors capacity) es in
       same_replica y (replica_with_room capacity run) (shape.0 ∙ sym script.logged.one_each) shape.1
       (below_all least run.settings capacity es (replica_with_room capacity run)
-      (all_among (λ e. IsBroughtBelow run.settings capacity (replica_with_room capacity run) (event_of e)) es all_entries
-      (each_of (λ e. IsBroughtBelow run.settings capacity (replica_with_room capacity run) (event_of e)) all_entries (λ e i. above e i)) es_all))
+      (among_each (λ e. IsBroughtBelow run.settings capacity (replica_with_room capacity run) (event_of e)) es all_entries
+      (all_among (λ e. IsBroughtBelow run.settings capacity (replica_with_room capacity run) (event_of e)) all_entries (λ e i. above e i)) es_all))
       (λ k n. below k n)
     where
-      above : (e : Placed) → IsOneOf e all_entries → e.0 < run.settings.processors → 1 ≤ e.1 → e.1 ≤ capacity → HeldBelow (Some (One e.2)) (contents_of run.logs e.0 e.1)
+      above : (e : Placed) → Among all_entries e → e.0 < run.settings.processors → 1 ≤ e.1 → e.1 ≤ capacity → HeldBelow (Some (One e.2)) (contents_of run.logs e.0 e.1)
       above e i k one many c same = inl (at_key e i ∙ same)
 
       below : (k n : ℕ) → HeldBelow (contents_of run.logs k n) ((held_after (empty_replica run.settings.processors capacity) es).at k n)
@@ -137,15 +126,15 @@ module _ (least : EventsLeaveTheLeast) (run : LoggedRun) (script : IsScript run)
         | inl none ↦ (λ c some. absurd (let e : None ≡ Some c = sym none ∙ some in cc e))
         | inr some ↦
             (let e : Placed = (k, n, some.0) in
-            let here : IsOneOf e all_entries = subst (λ (j : ℕ). IsOneOf {A = Placed} (j, n, some.0) all_entries) (let j_is : 0 + k ≡ k = omega arith in j_is) some.5 in
+            let here : Among all_entries e = subst (λ (j : ℕ). Among all_entries (j, n, some.0)) (let j_is : 0 + k ≡ k = omega arith in j_is) some.5 in
             let key = keyed e here in
-            let brought = all_of (λ f. IsBroughtBelow run.settings capacity (held_after (empty_replica run.settings.processors capacity) es) (event_of f)) es e (brought_all least run.settings capacity es)
-            (all_of (λ f. IsOneOf f es) all_entries e all_es here) in
+            let brought = among_all (λ f. IsBroughtBelow run.settings capacity (held_after (empty_replica run.settings.processors capacity) es) (event_of f)) es (brought_all least run.settings capacity es) e
+            (among_all (λ f. Among es f) all_entries all_es e here) in
             subst (λ h. HeldBelow h ((held_after (empty_replica run.settings.processors capacity) es).at k n)) (sym some.1) (brought key.0 key.1 key.2))
       ]
 
   script_there : held_after (empty_replica run.settings.processors capacity) all_entries ≡ replica_with_room capacity run
-  script_there = grind (arith, held_there, each_of)
+  script_there = grind (arith, held_there, all_among)
 
 -- ---- lines
 
@@ -164,9 +153,9 @@ rows_taken law x (e ∷ es) all = (
   rows_taken law (taken x e.0 e.1 e.2) es all.1,
 )
 
-pub entries_are_their_rows : EventsLeaveTheLeast → EachEntryHasItsRow → RowsAreLines → EntriesAreTheirRows
-entries_are_their_rows least law whole run script = (
-  entries_are_lines whole run script,
+pub entries_are_their_rows : EventsLeaveTheLeast → EachEntryHasItsRow → EntriesAreTheirRows
+entries_are_their_rows least law run script = (
+  entries_are_lines run script,
   λ capacity held room.
       (let start : Replica = empty_replica run.settings.processors capacity in
       let es : List Placed = placed_in 0 run.logs in
@@ -176,17 +165,6 @@ entries_are_their_rows least law whole run script = (
         λ same. subst (λ (x : Replica). AreTakenFrom (rows_of run.logs) start x) (sym (same ∙ sym there)) (rows_taken law start es placed),
       )),
 )
-
--- a row is that of one of them
-one_of_rows : (line : List ℕ) (es : List Placed) → IsOneOf line (map row_of es) → (e : Placed) × IsOneOf e es × (line ≡ row_of e)
-one_of_rows line [] i = absurd i
-one_of_rows line (e ∷ es) (inl same) = (e, inl refl, same)
-one_of_rows line (e ∷ es) (inr i) = (let h = one_of_rows line es i in (h.0, inr h.1, h.2))
-
-one_row : (e : Placed) (es : List Placed) → IsOneOf e es → IsOneOf (row_of e) (map row_of es)
-one_row e [] i = absurd i
-one_row e (f ∷ es) (inl same) = inl (ap row_of same)
-one_row e (f ∷ es) (inr i) = inr (one_row e es i)
 
 -- nothing is taken at another key
 taken_nowhere : (x : Replica) (k n : ℕ) (e : Logged) (processors capacity : ℕ) → x.processors ≡ processors → x.capacity ≡ capacity
@@ -198,7 +176,7 @@ record AreReadAs (processors capacity : ℕ) (all : List Placed) (lines : List (
   pub es : List Placed
   pub among : AreAmong es all
   pub left : y ≡ held_after x es
-  pub there : (e : Placed) → IsPlaced e → e.0 < processors → 1 ≤ e.1 → e.1 ≤ capacity → IsOneOf (row_of e) lines → IsOneOf e es
+  pub there : (e : Placed) → IsPlaced e → e.0 < processors → 1 ≤ e.1 → e.1 ≤ capacity → Among lines (row_of e) → Among es e
 
 module _ (law : EachEntryHasItsRow) (processors capacity : ℕ) (all : List Placed) (placed : AllByRecursion IsPlaced all) where
   -- no row of an entry at a key brings nothing
@@ -210,14 +188,14 @@ module _ (law : EachEntryHasItsRow) (processors capacity : ℕ) (all : List Plac
   left_nothing line x mid p c (inl none) t = t.other none
   left_nothing line x mid p c (inr there) t = grind (arith, t.row, taken_nowhere)
 
-  one_more : (line : List ℕ) (lines : List (List ℕ)) (x mid y : Replica) (e : Placed) → IsOneOf e all → line ≡ row_of e → mid ≡ taken x e.0 e.1 e.2
+  one_more : (line : List ℕ) (lines : List (List ℕ)) (x mid y : Replica) (e : Placed) → Among all e → line ≡ row_of e → mid ≡ taken x e.0 e.1 e.2
       → AreReadAs processors capacity all lines mid y → AreReadAs processors capacity all (line ∷ lines) x y
   one_more line lines x mid y e i same held rest = record {
     es = e ∷ rest.es;
     among = (i, rest.among);
     left = rest.left ∙ ap (λ (r : Replica). held_after r rest.es) held;
     there = λ f p k one many i'. (elim i' [
-      | inl is ↦ inl (same_placed law f e p (all_of IsPlaced all e placed i) (is ∙ same))
+      | inl is ↦ inl (same_placed law f e p (among_all IsPlaced all placed e i) (is ∙ same))
       | inr more ↦ inr (rest.there f p k one many more)
     ]);
   }
@@ -226,13 +204,13 @@ module _ (law : EachEntryHasItsRow) (processors capacity : ℕ) (all : List Plac
       → AreReadAs processors capacity all lines mid y → AreReadAs processors capacity all (line ∷ lines) x y
   no_more line lines x mid y nothing held rest = grind (arith, held_after, brings_some, rest.there)
 
-  read_as : (lines : List (List ℕ)) (x y : Replica) → AllByRecursion (λ line. IsOneOf line (map row_of all) ⊎ BringsNothing processors capacity line) lines
+  read_as : (lines : List (List ℕ)) (x y : Replica) → AllByRecursion (λ line. Among (map row_of all) line ⊎ BringsNothing processors capacity line) lines
       → x.processors ≡ processors → x.capacity ≡ capacity → AreTakenFrom lines x y → AreReadAs processors capacity all lines x y
   read_as [] x y each p c t = record { es = []; among = tt; left = t; there = λ e placed k one many i. absurd i }
   read_as (line ∷ lines) x y each p c (mid, t, more) = elim each.0 [
     | inl row ↦
-        (let h = one_of_rows line all row in
-        let held : mid ≡ taken x h.0.0 h.0.1 h.0.2 = t.row h.0.0 h.0.1 h.0.2 (all_of IsPlaced all h.0 placed h.1) h.2 in
+        (let h = among_map row_of all line row in
+        let held : mid ≡ taken x h.0.0 h.0.1 h.0.2 = t.row h.0.0 h.0.1 h.0.2 (among_all IsPlaced all placed h.0 h.1) h.2 in
         let shape = shape_after x (h.0 ∷ []) in
         one_more line lines x mid y h.0 h.1 h.2 held
         (read_as lines mid y each.1 (ap (λ (r : Replica). r.processors) held ∙ shape.0 ∙ p) (ap (λ (r : Replica). r.capacity) held ∙ shape.1 ∙ c) more))
@@ -248,19 +226,19 @@ entries_give_their_schedule least law run capacity lines held script room have t
     let placed = all_placed run script in
     let read = read_as law run.settings.processors capacity es placed lines (empty_replica run.settings.processors capacity) held have.each refl refl t in
     let all : AreAmong es read.es =
-    each_of (λ e. IsOneOf e read.es) es
+    all_among (λ e. Among read.es e) es
     (λ e i. (let key = keyed least run script capacity room e i in
-    read.there e (all_of IsPlaced es e placed i) key.0 key.1 key.2 (row_there e i))) in
+    read.there e (among_all IsPlaced es placed e i) key.0 key.1 key.2 (row_there e i))) in
     let same : held ≡ replica_with_room capacity run = read.left ∙ held_there least run script capacity room read.es read.among all in
     (same, subst (λ (x : Replica). HasScheduleOf run x) (sym same) (schedule_with_room run capacity room))
   where
-    row_there : (e : Placed) → IsOneOf e (placed_in 0 run.logs) → IsOneOf (row_of e) lines
-    row_there e i = all_of (λ row. IsOneOf row lines) (rows_of run.logs) (row_of e) have.all (one_row e (placed_in 0 run.logs) i)
+    row_there : (e : Placed) → Among (placed_in 0 run.logs) e → Among lines (row_of e)
+    row_there e i = among_all (λ row. Among lines row) (rows_of run.logs) have.all (row_of e) (map_among row_of (placed_in 0 run.logs) e i)
 
 -- ---- bytes that have the rows of a script give its text
 
-pub fed_entries_give_their_text : EntriesGiveTheirSchedule → WholeText → FedEntriesGiveTheirText
-fed_entries_give_their_text schedule whole run capacity bytes rest lines f g before begun after script room fresh unwritten are have head fed =
+pub fed_entries_give_their_text : EntriesGiveTheirSchedule → FedEntriesGiveTheirText
+fed_entries_give_their_text schedule run capacity bytes rest lines f g before begun after script room fresh unwritten are have head fed =
     let same = (lines_are_one bytes lines fed.lines rest rest are fed.are_lines).0 in
     let gave = schedule run capacity fed.lines (replica_of g.dispatch.replica) script room
     (subst (λ (ls : List (List ℕ)). HaveTheRows run.settings.processors capacity (rows_of run.logs) ls) same have)
@@ -268,6 +246,9 @@ fed_entries_give_their_text schedule whole run capacity bytes rest lines f g bef
     let set : g.dispatch.settings ≡ run.settings = fed.fed.gone_on.grown.settings_are ∙ fresh.settings_are in
     let out : g.output ≡ f.output = fed.fed.gone_on.output_is in
     let text : line (header_of f.output) ++ news f g ≡ text_of f.output run.settings (replica_of_logs run.logs) =
-    ap (λ (o : Output). line (header_of o) ++ news f g) (sym out) ∙ whole bytes rest f g begun after (ap (λ (c : Course). c.origin) fresh.course_is) unwritten fed
+    ap (λ (o : Output). line (header_of o) ++ news f g) (sym out) ∙ text_is_whole bytes rest f g begun after (ap (λ (c : Course). c.origin) fresh.course_is) unwritten fed
     ∙ (λ i. text_of (out i) (set i) (replica_of g.dispatch.replica)) ∙ gave.1.texts_are f.output in
     (subst (λ (l : List ℕ). Appends before after l) text (appends-more before begun after (line (header_of f.output)) (news f g) head fed.fed.gone_on.written), gave.1)
+
+-- what most functions of `laws` say
+pub ruleset most_laws = (rows_go_on, whole_texts, text_is_whole, order_is_nothing, entries_give_their_schedule)

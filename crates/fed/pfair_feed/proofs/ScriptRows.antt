@@ -1,9 +1,11 @@
 -- The entries of logs: their rows, and where they stand.
 use Rattle.std.proofs.Common.{flat_map}
-use Rattle.pfair_feed.proofs.Common.{AllByRecursion, list_all, and_parts, leb-true, append-nil, map-append, lines_text, line, Logged, IsLoggable, entries_text, log_rows, numbered_from, AreLines, IsOneLine, ended, IsOneOf, IsPlaced, IsScript, Placed, placed_from, placed_in, row_of, rows_of, same_Some, ℕ, zero, suc, ◌+◌, ◌<◌, ◌≤◌, ◌≡◌, inl, inr, refl, sym, ap, subst, ◌∙◌, arith, true, List, [], ◌∷◌, ◌++◌, length, map, Some, None, drop, take, slice_get, append_assoc, ◌⊎◌, flat_map-append, lines_text-append, One, RowsAreLines, slots_from, LoggedRun, capacity_of, contents_of}
-use Rattle.pfair_text.proofs.RowFacts.{first_left}
+use Rattle.pfair_feed.proofs.Common.{AllByRecursion, list_all, and_parts, leb-true, append-nil, map-append, lines_text, line, Logged, IsLoggable, entries_text, log_rows, numbered_from, AreLines, IsOneLine, ended, Among, IsPlaced, IsScript, Placed, placed_from, placed_in, row_of, rows_of, same_Some, ℕ, zero, suc, ◌+◌, ◌<◌, ◌≤◌, ◌≡◌, inl, inr, refl, sym, ap, subst, ◌∙◌, arith, true, List, [], ◌∷◌, ◌++◌, length, map, Some, None, drop, take, slice_get, append_assoc, ◌⊎◌, flat_map-append, lines_text-append, One, RowsAreLines, slots_from, LoggedRun, capacity_of, contents_of}
+use Rattle.std.proofs.lemmas.List.{take_more}
+use Rattle.std.proofs.lemmas.Option.{get_or_from_slice_get}
+use Rattle.pfair_entry_row.proofs.Lines.{rows_are_lines}
+use Rattle.pfair_replica.specs.Among.{among_append, among_left, among_right}
 use Rattle.pfair_table.specs.Script.{entry_of, is_short}
-use Rattle.pfair_entry_row.specs.Row.{entry_fields}
 
 -- ---- their rows
 
@@ -31,31 +33,17 @@ logs_placed processor (log ∷ logs) p short all = grind (arith, and_parts, leb-
 pub all_placed : (run : LoggedRun) → IsScript run → AllByRecursion IsPlaced (placed_in 0 run.logs)
 all_placed run script = logs_placed 0 run.logs (let e = script.logged.one_each in let h = script.few in omega (arith, e, h)) script.logged.short script.loggable
 
-rows_whole : RowsAreLines → (es : List Placed) → AllByRecursion IsPlaced es → AllByRecursion IsOneLine (map row_of es)
-rows_whole law [] all = tt
-rows_whole law (e ∷ es) all = (law e.0 e.1 e.2 all.0, rows_whole law es all.1)
+rows_whole : (es : List Placed) → AllByRecursion IsPlaced es → AllByRecursion IsOneLine (map row_of es)
+rows_whole [] all = tt
+rows_whole (e ∷ es) all = (rows_are_lines e.0 e.1 e.2 all.0, rows_whole es all.1)
 
-pub entries_are_lines : RowsAreLines → (run : LoggedRun) → IsScript run → AreLines (entries_text run.logs) (rows_of run.logs) []
-entries_are_lines law run script = grind (arith, logs_text, append-nil, rows_whole, all_placed)
+pub entries_are_lines : (run : LoggedRun) → IsScript run → AreLines (entries_text run.logs) (rows_of run.logs) []
+entries_are_lines run script = grind (arith, logs_text, append-nil, rows_whole, all_placed)
 
 -- ---- where they stand
 
-one_of_both : {A : Type 0} (x : A) (xs ys : List A) → IsOneOf x (xs ++ ys) → IsOneOf x xs ⊎ IsOneOf x ys
-one_of_both x [] ys i = inr i
-one_of_both x (y ∷ xs) ys (inl e) = inl (inl e)
-one_of_both x (y ∷ xs) ys (inr i) = elim (one_of_both x xs ys i) [ inl l ↦ inl (inr l) | inr r ↦ inr r ]
-
-one_of_first : {A : Type 0} (x : A) (xs ys : List A) → IsOneOf x xs → IsOneOf x (xs ++ ys)
-one_of_first x [] ys i = absurd i
-one_of_first x (y ∷ xs) ys (inl e) = inl e
-one_of_first x (y ∷ xs) ys (inr i) = inr (one_of_first x xs ys i)
-
-one_of_second : {A : Type 0} (x : A) (xs ys : List A) → IsOneOf x ys → IsOneOf x (xs ++ ys)
-one_of_second x [] ys i = i
-one_of_second x (y ∷ xs) ys i = inr (one_of_second x xs ys i)
-
 -- an entry of one log, by its place there
-in_log : (processor number : ℕ) (log : List Logged) (k n : ℕ) (e : Logged) → IsOneOf (k, n, e) (placed_from processor number log)
+in_log : (processor number : ℕ) (log : List Logged) (k n : ℕ) (e : Logged) → Among (placed_from processor number log) (k, n, e)
     → (i : ℕ) × (k ≡ processor) × (n ≡ number + i) × (i < length log) × (entry_of log (suc i) ≡ Some (One e))
 in_log processor number [] k n e i = absurd i
 in_log processor number (f ∷ log) k n e (inl same) = grind arith
@@ -64,10 +52,10 @@ in_log processor number (f ∷ log) k n e (inr i) =
     (suc h.0, h.1, (let s = h.2 in omega (arith, s)), (let l = h.3 in omega (arith, l)), h.4)
 
 -- an entry of the logs stands at its number
-pub in_logs : (processor : ℕ) (logs : List (List Logged)) (k n : ℕ) (e : Logged) → IsOneOf (k, n, e) (placed_in processor logs)
+pub in_logs : (processor : ℕ) (logs : List (List Logged)) (k n : ℕ) (e : Logged) → Among (placed_in processor logs) (k, n, e)
     → (j : ℕ) × (k ≡ processor + j) × (j < length logs) × (1 ≤ n) × (n ≤ capacity_of logs) × (contents_of logs j n ≡ Some (One e))
 in_logs processor [] k n e i = absurd i
-in_logs processor (log ∷ logs) k n e i = elim (one_of_both (k, n, e) (placed_from processor 1 log) (placed_in (suc processor) logs) i) [
+in_logs processor (log ∷ logs) k n e i = elim (among_append (placed_from processor 1 log) (placed_in (suc processor) logs) (k, n, e) i) [
   | inl here ↦
       (let h = in_log processor 1 log k n e here in
       let k_is = h.1 in
@@ -85,7 +73,7 @@ in_logs processor (log ∷ logs) k n e i = elim (one_of_both (k, n, e) (placed_f
 
 -- what stands at a number of one log
 at_log : (processor number : ℕ) (log : List Logged) (i : ℕ) → (entry_of log (suc i) ≡ None)
-    ⊎ ((e : Logged) × (entry_of log (suc i) ≡ Some (One e)) × (i < length log) × IsOneOf (processor, number + i, e) (placed_from processor number log))
+    ⊎ ((e : Logged) × (entry_of log (suc i) ≡ Some (One e)) × (i < length log) × Among (placed_from processor number log) (processor, number + i, e))
 at_log processor number [] i = inl refl
 at_log processor number (f ∷ log) zero = grind arith
 at_log processor number (f ∷ log) (suc i) = grind (arith, at_log processor (suc number) log)
@@ -96,7 +84,7 @@ none_at_0 (e ∷ log) = refl
 
 -- what stands at a number of the logs
 pub at_logs : (processor : ℕ) (logs : List (List Logged)) (j n : ℕ) → (contents_of logs j n ≡ None)
-    ⊎ ((e : Logged) × (contents_of logs j n ≡ Some (One e)) × (j < length logs) × (1 ≤ n) × (n ≤ capacity_of logs) × IsOneOf (processor + j, n, e) (placed_in processor logs))
+    ⊎ ((e : Logged) × (contents_of logs j n ≡ Some (One e)) × (j < length logs) × (1 ≤ n) × (n ≤ capacity_of logs) × Among (placed_in processor logs) (processor + j, n, e))
 at_logs processor [] j n = inl refl
 at_logs processor (log ∷ logs) zero zero = inl (none_at_0 log)
 at_logs processor (log ∷ logs) zero (suc n) = elim (at_log processor 1 log n) [
@@ -107,35 +95,14 @@ at_logs processor (log ∷ logs) zero (suc n) = elim (at_log processor 1 log n) 
     omega arith,
     omega arith,
     (let l = some.2 in omega (arith, l)),
-    one_of_first (processor + 0, suc n, some.0) (placed_from processor 1 log) (placed_in (suc processor) logs)
-        (subst (λ (p : ℕ). IsOneOf (p, suc n, some.0) (placed_from processor 1 log)) (let e : processor ≡ processor + 0 = omega arith in e)
-        (subst (λ (m : ℕ). IsOneOf (processor, m, some.0) (placed_from processor 1 log)) (let e : 1 + n ≡ suc n = omega arith in e) some.3)),
+    among_left (placed_from processor 1 log) (placed_in (suc processor) logs) (processor + 0, suc n, some.0)
+        (subst (λ (p : ℕ). Among (placed_from processor 1 log) (p, suc n, some.0)) (let e : processor ≡ processor + 0 = omega arith in e)
+        (subst (λ (m : ℕ). Among (placed_from processor 1 log) (processor, m, some.0)) (let e : 1 + n ≡ suc n = omega arith in e) some.3)),
   )
 ]
-at_logs processor (log ∷ logs) (suc j) n = grind (arith, one_of_second, at_logs (suc processor) logs j n)
-
--- ---- texts that grow by one entry of a log after another
-
--- one entry more
-pub entry_more : (processor : ℕ) (log : List Logged) (index : ℕ) (entry : Logged) (before after : List ℕ) → index < length log → slice_get log index ≡ Some entry
-    → after ≡ before ++ line (entry_fields processor (index + 1) entry)
-    → after ++ lines_text (numbered_from processor (index + 1 + 1) (drop (index + 1) log)) ≡ before ++ lines_text (numbered_from processor (index + 1) (drop index log))
-entry_more processor log index entry before after inside here grown =
-    let t = first_left log index inside in
-    let same : t.0 ≡ entry = same_Some _ _ (sym t.1 ∙ here) in
-    let left : List Logged = drop (index + 1) log in
-    let next : index + 1 + 1 ≡ suc (index + 1) = omega arith in
-    ap (λ text. text ++ lines_text (numbered_from processor (index + 1 + 1) left)) grown
-    ∙ append_assoc before (line (entry_fields processor (index + 1) entry)) (lines_text (numbered_from processor (index + 1 + 1) left))
-    ∙ ap (λ (n : ℕ). before ++ (line (entry_fields processor (index + 1) entry) ++ lines_text (numbered_from processor n left))) next
-    ∙ ap (λ (e : Logged). before ++ (line (entry_fields processor (index + 1) e) ++ lines_text (numbered_from processor (suc (index + 1)) left))) (sym same)
-    ∙ ap (λ rest. before ++ lines_text (numbered_from processor (index + 1) rest)) (sym t.2)
+at_logs processor (log ∷ logs) (suc j) n = grind (arith, among_right, at_logs (suc processor) logs j n)
 
 -- the first ones, with one more
-pub all_next : {A : Type 0} (P : A → Type 0) (xs : List A) (index : ℕ) (x : A) → slice_get xs index ≡ Some x → AllByRecursion P (take index xs) → P x → AllByRecursion P (take (index + 1) xs)
-all_next {A} P xs index x here all p = subst (λ (n : ℕ). AllByRecursion P (take n xs)) (let e : suc index ≡ index + 1 = omega arith in e) (by xs index here all)
-  where
-    by : (ys : List A) (i : ℕ) → slice_get ys i ≡ Some x → AllByRecursion P (take i ys) → AllByRecursion P (take (suc i) ys)
-    by [] i at a = tt
-    by (y ∷ ys) zero at a = (subst P (sym (same_Some y x at)) p, tt)
-    by (y ∷ ys) (suc i) at a = (a.0, by ys i at a.1)
+pub all_next : {A : Type 0} (P : A → Type 0) (xs : List A) (index : ℕ) (x : A) → index < length xs → slice_get xs index ≡ Some x → AllByRecursion P (take index xs) → P x → AllByRecursion P (take (index + 1) xs)
+all_next P xs index x inside here all p =
+    rw (take_more xs index x inside, get_or_from_slice_get xs index x x here) (all_append P (take index xs) (x ∷ []) all (p, tt))

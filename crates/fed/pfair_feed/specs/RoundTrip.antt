@@ -4,6 +4,7 @@ use Rattle.std.specs.List.{AllByRecursion}
 use Rattle.pfair_entry.specs.Entry.{Logged}
 use Rattle.pfair_entry.specs.Notice.{IsLoggable}
 use Rattle.pfair_entry_row.specs.Row.{entry_row, IsEntryAt}
+use Rattle.pfair_replica.specs.Among.{Among}
 use Rattle.pfair_replica.specs.Replica.{Replica, frontier, said}
 use Rattle.pfair_table.specs.declared.settings.TheConstants.Settings.{MAX_PROCESSORS}
 use Rattle.pfair_table.specs.Events.{begin_at}
@@ -48,13 +49,9 @@ pub record IsScript (run : LoggedRun) : Type 0 where
 
 -- ---- lines
 
-abbrev pub IsOneOf : {A : Type 0} → A → List A → Type 0
-IsOneOf x [] = ⊥
-IsOneOf x (y ∷ ys) = (x ≡ y) ⊎ IsOneOf x ys
-
 -- each of the first ones is one of the second ones
 abbrev pub AreAmong : {A : Type 0} → List A → List A → Type 0
-AreAmong xs ys = AllByRecursion (λ x. IsOneOf x ys) xs
+AreAmong xs ys = AllByRecursion (λ x. Among ys x) xs
 
 abbrev pub IsNoRow : List ℕ → Type 0
 IsNoRow line = (processor number : ℕ) (e : Logged) → IsEntryAt processor number e → line ≢ entry_row processor number e
@@ -74,7 +71,7 @@ BringsNothing processors capacity line = IsNoRow line ⊎ IsRowElsewhere process
 
 -- The lines have all of these rows, in whatever order and however often each, and beside them only what brings nothing.
 pub record HaveTheRows (processors capacity : ℕ) (rows lines : List (List ℕ)) : Type 0 where
-  pub each : AllByRecursion (λ line. IsOneOf line rows ⊎ BringsNothing processors capacity line) lines
+  pub each : AllByRecursion (λ line. Among rows line ⊎ BringsNothing processors capacity line) lines
   pub all : AreAmong rows lines
 
 -- ---- schedules

@@ -1,21 +1,21 @@
 //! The laws of rows that are written slot after slot, and of whole inputs. Each function does
 //! nothing, or calls other laws: its contract is the law.
+#![tactic(auto, using(crate::proofs::RoundTrip::most_laws))]
+
 ghost use Rattle.pfair_feed.specs.Laws.{EntriesAreTheirRows, EntriesGiveTheirSchedule, FedEntriesGiveTheirText, LinesAreOne, OrderIsNothing, RunsWriteAlike, WholeText};
 ghost use Rattle.pfair_feed.specs.RowLaws.{RowsGoOn, WholeRows};
 
-use pfair_entry_row::laws::{each_entry_has_its_row, rows_are_lines};
-use pfair_table::laws::{events_leave_the_least, one_table};
+use pfair_entry_row::laws::each_entry_has_its_row;
+use pfair_table::laws::events_leave_the_least;
 
 /// The rows of some planned slots and of the slots after them are the rows of the former, followed by
 /// those of the latter.
-#[tactic(auto, using(crate::proofs::RowsGoOn::rows_go_on))]
 pub fn rows_go_on()
     ensures { RowsGoOn }
 {}
 
 /// The header and the rows of a first run's whole plan, from the first slot on, are the text that
 /// `pfair` writes of the run.
-#[tactic(auto, using(crate::proofs::RowsGoOn::whole_texts))]
 pub fn whole_rows()
     ensures { WholeRows }
 {}
@@ -32,9 +32,7 @@ pub fn order_is_nothing()
 /// text of the plan of the replica that it then has.
 pub fn text_is_whole()
     ensures { WholeText }
-{
-    whole_rows();
-}
+{}
 
 /// Bytes are cut into lines, and the beginning of one, in one way only.
 pub fn lines_are_one()
@@ -49,7 +47,6 @@ pub fn entries_are_their_rows()
 {
     events_leave_the_least();
     each_entry_has_its_row();
-    rows_are_lines();
 }
 
 /// Lines that have the rows of a script's entries leave the script's replica, in whatever order they
@@ -68,7 +65,6 @@ pub fn fed_entries_give_their_text()
     ensures { FedEntriesGiveTheirText }
 {
     entries_give_their_schedule();
-    text_is_whole();
 }
 
 /// If two new followers of equal settings, outputs and first slots were fed entries that agree,
@@ -76,6 +72,4 @@ pub fn fed_entries_give_their_text()
 /// other.
 pub fn runs_write_alike()
     ensures { RunsWriteAlike }
-{
-    one_table();
-}
+{}

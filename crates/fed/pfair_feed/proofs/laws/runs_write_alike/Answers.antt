@@ -2,4 +2,4 @@ use Rattle.pfair_feed.proofs.RunsAlike.{runs_write_alike}
 use Rattle.pfair_feed.proofs.laws.runs_write_alike.Goals as goal
 
 pub returns : goal.returns
-returns c = runs_write_alike c.one_table.ensures
+returns c = runs_write_alike
