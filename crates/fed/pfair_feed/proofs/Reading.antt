@@ -1,5 +1,6 @@
 -- What a line that is read brings.
 use Rattle.std.proofs.Common.{◌&&◌, ◌==◌, not, nat_lt}
+use Rattle.pfair_replica.specs.HeldAfter.{held_after}
 use Rattle.pfair_feed.proofs.Common.{Keeps, TakesPrefix, Logged, replica_of, held, Replica, frontier, has_torn, only, with_entry, Follow, IsSameRun, IsStopOf, news, IsGrown, HasFailed, HasStood, IsCaughtUp, IsFedLine, IsTakenFrom, and_parts, eqb-true, ltb-true, Settings, arith, ℕ, ◌≡◌, ◌≢◌, refl, sym, ap, subst, ◌∙◌, List, Option, Ok, true, false, inl, inr, ◌≤◌, Bool, length, min, None, Some, ◌⊎◌, if◌then◌else◌, taken, ProgramFault, WriteFailed, Memory, is_refusal, One, Held, entry_exact, entry_eq}
 use Rattle.pfair_entry_row.specs.Faults.{IsReadingOf, Reading}
 use Rattle.pfair_entry_row.specs.Row.{entry_row, IsEntryAt}
@@ -48,19 +49,9 @@ not_writing fault e same = absurd (let h : false ≡ true = ap is_refusal (sym s
 taken_known : (x : Replica) (k n : ℕ) (e : Logged) → x.at k n ≡ Some (One e) → taken x k n e ≡ x
 taken_known x k n e here = by (has_key x k n)
   where
-    at_key : (a b : Bool) (h : Held Logged) → (a ≡ true → b ≡ true → h ≡ Some (One e)) → held_join entry_eq h (if a then (if b then Some (One e) else None) else None) ≡ h
-    at_key false b h known = join_none h
-    at_key true false h known = join_none h
-    at_key true true h known =
-        let is = known refl refl in
-        ap (λ (g : Held Logged). held_join entry_eq g (Some (One e))) is ∙ ap (λ (b : Bool). Some (if b then One e else Torn)) (entry_exact.itself e) ∙ sym is
-
-    each : (j m : ℕ) → held_join entry_eq (x.at j m) (only k n e j m) ≡ x.at j m
-    each j m = at_key (j == k) (m == n) (x.at j m) (λ a b. (let p = eqb-true j k a in let q = eqb-true m n b in (λ i. x.at (p i) (q i)) ∙ here))
-
     by : (b : Bool) → (if b then with_entry x k n e else x) ≡ x
     by false = refl
-    by true = λ i. record { processors = x.processors; capacity = x.capacity; at = λ j m. each j m i }
+    by true = held_after.known x k n e here
 
 -- as many slots are planned as the contents settle, and no fewer afterwards
 as_before : (f g : Follow) (p n : ℕ) (e : Logged) → IsCaughtUp f → held f.dispatch.replica p n ≡ Some (One e) → replica_of g.dispatch.replica ≡ taken (replica_of f.dispatch.replica) p n e

@@ -1,11 +1,10 @@
 -- Two runs whose followers hold what agrees have written texts of which one begins the other.
-use Rattle.pfair_feed.proofs.Common.{AllByRecursion, cases_order, lines_text, replica_of, Replica, empty_replica, frontier, numbers_below, said, Course, IsOf, IsPrefixOf, OneTable, Dispatch, HavePlannedAlike, IsWholePlan, Settings, Origin, Table, decisions, table, Output, Follow, news, HaveWrittenAlike, rows_in, AreTakenFrom, IsBegun, IsPlaced, Placed, same_Some, ℕ, ◌<◌, ◌≡◌, inl, inr, refl, sym, ap, subst, ◌∙◌, arith, List, [], ◌∷◌, ◌++◌, length, map, Some, slice_get, suc, ◌≤◌, ◌⊎◌, max, lines_text-append, taken, Decided}
-use Rattle.pfair_replica.proofs.OfferedTo.{offered_stays}
+use Rattle.pfair_feed.proofs.Common.{cases_order, lines_text, replica_of, Replica, empty_replica, frontier, numbers_below, said, Course, IsOf, IsPrefixOf, OneTable, Dispatch, HavePlannedAlike, IsWholePlan, Settings, Origin, Table, decisions, table, Output, Follow, news, HaveWrittenAlike, rows_in, AreTakenFrom, IsBegun, same_Some, ℕ, ◌<◌, ◌≡◌, inl, inr, refl, sym, ap, subst, ◌∙◌, arith, List, [], ◌∷◌, ◌++◌, length, map, Some, slice_get, suc, ◌≤◌, ◌⊎◌, max, lines_text-append, Decided}
 use Rattle.pfair_feed.specs.Laws.{RunsWriteAlike}
 use Rattle.pfair_feed.proofs.Going.{even}
 use Rattle.pfair_feed.proofs.OneWay.{heads}
-use Rattle.pfair_feed.proofs.RoundTrip.{held_after}
-use Rattle.pfair_table.proofs.Runs.{get_numbers}
+use Rattle.pfair_table.proofs.TableLaws.{one_table}
+use Rattle.pfair_table.proofs.Runs.{get_numbers, taken_of}
 use Rattle.pfair_feed.proofs.Planned.{so_many}
 use Rattle.pfair_feed.proofs.RowsGoOn.{rows_go_on}
 
@@ -73,26 +72,18 @@ begin_seen (x ∷ xs) (y ∷ ys) f = elim (cases_order x y) [
   | inr (inr more) ↦ absurd (f (λ b. (let e = (less_begin x y xs ys b).0 in absurd (omega (arith, e, more)))))
 ]
 
--- ---- what lines bring, some entries bring
+-- ---- what lines leave is of the settings; a double negation, since whether a line is a row isn't decided here
 
-brought : (lines : List (List ℕ)) (x y : Replica) → AreTakenFrom lines x y → ((es : List Placed) → AllByRecursion IsPlaced es → y ≡ held_after x es → ⊥) → ⊥
-brought [] x y t f = f [] tt t
-brought (line ∷ lines) x y (mid, t, more) f =
-    brought lines mid y more (λ es all same.
-    f es all (same ∙ ap (λ (r : Replica). held_after r es)
-    (t.other (λ p n e at is.
-    brought lines mid y more (λ fs all_fs same_fs. f ((p, n, e) ∷ fs) (at, all_fs) (same_fs ∙ ap (λ (r : Replica). held_after r fs) (t.row p n e at is)))))))
+of_lines : (s : Settings) (lines : List (List ℕ)) (x y : Replica) → IsOf s x → AreTakenFrom lines x y → (IsOf s y → ⊥) → ⊥
+of_lines s [] x y of t none = none (subst (λ (z : Replica). IsOf s z) (sym t) of)
+of_lines s (line ∷ lines) x y of (mid, t, more) none =
+    let left : IsOf s mid → ⊥ = λ kept. of_lines s lines mid y kept more none in
+    left (subst (λ (z : Replica). IsOf s z) (sym (t.other (λ p n e at is. left (subst (λ (z : Replica). IsOf s z) (sym (t.row p n e at is)) (taken_of s x p n e of at.loggable.entry))))) of)
 
-of_settings : (s : Settings) (x : Replica) (es : List Placed) → IsOf s x → AllByRecursion IsPlaced es → IsOf s (held_after x es)
-of_settings s x [] of all = of
-of_settings s x (e ∷ es) of all =
-    of_settings s (taken x e.0 e.1 e.2) es (record {
-      replica = offered_stays.taken_replica x e.0 e.1 e.2 of.replica all.0.loggable.entry;
-      processors = (offered_stays.taken_shape x e.0 e.1 e.2).0 ∙ of.processors;
-    }) all.1
-
-of_nothing : (s : Settings) (capacity : ℕ) → IsOf s (empty_replica s.processors capacity)
-of_nothing s capacity = grind arith
+of_new : (o : Origin) (s : Settings) (capacity : ℕ) (f : Follow) → IsBegun o s capacity f → IsOf s (replica_of f.dispatch.replica)
+of_new o s capacity f fresh =
+    let none : IsOf s (empty_replica s.processors capacity) = grind arith in
+    subst (λ (x : Replica). IsOf s x) (sym (ap (λ (c : Course). c.replica) fresh.course_is)) none
 
 -- ---- whole plans of what agrees
 
@@ -104,11 +95,11 @@ module _ (d : Dispatch) (whole : IsWholePlan d) (t : ℕ) where
       × (slice_get d.decided t ≡ Some (decisions d.origin d.settings (said (replica_of d.replica)) t))
   planned_there l = grind (arith, inside_of, get_numbers)
 
-planned_alike : OneTable → (s : Settings) (c d : Dispatch) → c.settings ≡ s → IsWholePlan c → IsWholePlan d → IsOf s (replica_of c.replica) → IsOf s (replica_of d.replica) → HavePlannedAlike c d
-planned_alike law s c d set whole whole' of of' settings origins agree t l m =
+planned_alike : (s : Settings) (c d : Dispatch) → c.settings ≡ s → IsWholePlan c → IsWholePlan d → IsOf s (replica_of c.replica) → IsOf s (replica_of d.replica) → HavePlannedAlike c d
+planned_alike s c d set whole whole' of of' settings origins agree t l m =
     let here = planned_there c whole t l in
     let there = planned_there d whole' t m in
-    let same = law c.origin s (replica_of c.replica) (replica_of d.replica) of of' agree t here.0 there.0 in
+    let same = one_table c.origin s (replica_of c.replica) (replica_of d.replica) of of' agree t here.0 there.0 in
     let tables : table d.origin d.settings (said (replica_of d.replica)) t ≡ table c.origin c.settings (said (replica_of c.replica)) t =
     (λ i. table (sym origins i) ((sym settings ∙ set) i) (said (replica_of d.replica)) t) ∙ sym same.0 ∙ ap (λ (r : Settings). table c.origin r (said (replica_of c.replica)) t) (sym set) in
     let decided : decisions d.origin d.settings (said (replica_of d.replica)) t ≡ decisions c.origin c.settings (said (replica_of c.replica)) t =
@@ -121,37 +112,17 @@ planned_alike law s c d set whole whole' of of' settings origins agree t l m =
 begin_text : (xs ys : List (List (List ℕ))) → IsPrefixOf xs ys → IsPrefixOf (lines_text xs) (lines_text ys)
 begin_text xs ys p = (lines_text p.0, sym (lines_text-append xs p.0) ∙ ap lines_text p.1)
 
-pub runs_write_alike : OneTable → RunsWriteAlike
-runs_write_alike law o s capacity capacity' bytes bytes' rest rest' f g f' g' old new old' new' fresh fresh' output unwritten a b agree =
+pub runs_write_alike : RunsWriteAlike
+runs_write_alike o s capacity capacity' bytes bytes' rest rest' f g f' g' old new old' new' fresh fresh' output unwritten a b agree =
     begin_seen (news f g) (news f' g') (λ none.
-    brought a.lines (replica_of f.dispatch.replica) (replica_of g.dispatch.replica) a.fed.held_is (λ es all left.
-    brought b.lines (replica_of f'.dispatch.replica) (replica_of g'.dispatch.replica) b.fed.held_is (λ es' all' left'.
-    none (alike es es' all all' left left'))))
+    of_lines s a.lines (replica_of f.dispatch.replica) (replica_of g.dispatch.replica) (of_new o s capacity f fresh) a.fed.held_is (λ of.
+    of_lines s b.lines (replica_of f'.dispatch.replica) (replica_of g'.dispatch.replica) (of_new o s capacity' f' fresh') b.fed.held_is (λ of'.
+    none (alike of of'))))
   where
-    of : (capacity : ℕ) (f g : Follow) (es : List Placed) → IsBegun o s capacity f → AllByRecursion IsPlaced es → replica_of g.dispatch.replica ≡ held_after (replica_of f.dispatch.replica) es → IsOf s (replica_of g.dispatch.replica)
-    of capacity f g es fresh all left =
-        subst (λ (x : Replica). IsOf s x) (sym (left ∙ ap (λ (x : Replica). held_after x es) (ap (λ (c : Course). c.replica) fresh.course_is)))
-        (of_settings s (empty_replica s.processors capacity) es (of_nothing s capacity) all)
-
-    alike : (es es' : List Placed) → AllByRecursion IsPlaced es → AllByRecursion IsPlaced es' → replica_of g.dispatch.replica ≡ held_after (replica_of f.dispatch.replica) es
-        → replica_of g'.dispatch.replica ≡ held_after (replica_of f'.dispatch.replica) es' → Begin (news f g) (news f' g')
-    alike es es' all all' left left' =
-        let set : g.dispatch.settings ≡ s = a.fed.gone_on.grown.settings_are ∙ fresh.settings_are in
-        let set' : g'.dispatch.settings ≡ s = b.fed.gone_on.grown.settings_are ∙ fresh'.settings_are in
-        let outputs : g.output ≡ g'.output = a.fed.gone_on.output_is ∙ output ∙ sym b.fed.gone_on.output_is in
-        let begun : g.dispatch.origin ≡ o = a.fed.gone_on.grown.origin_is ∙ ap (λ (c : Course). c.origin) fresh.course_is in
-        let begun' : g'.dispatch.origin ≡ o = b.fed.gone_on.grown.origin_is ∙ ap (λ (c : Course). c.origin) fresh'.course_is in
+    alike : IsOf s (replica_of g.dispatch.replica) → IsOf s (replica_of g'.dispatch.replica) → Begin (news f g) (news f' g')
+    alike of of' =
         let whole = a.fed.gone_on.caught_up.whole in
         let whole' = b.fed.gone_on.caught_up.whole in
-        let planned = planned_alike law s g.dispatch g'.dispatch set whole whole' (of capacity f g es fresh all left) (of capacity' f' g' es' fresh' all' left') in
-        let rows = written_alike g g' (even g.dispatch whole) (even g'.dispatch whole') planned outputs (set ∙ sym set') (begun ∙ sym begun') agree f.unwritten in
-        let here : lines_text (rows_in g.dispatch.origin g.output f.unwritten g.dispatch.tables g.dispatch.decided) ≡ news f g =
-        ap (λ (o : Output). lines_text (rows_in g.dispatch.origin o f.unwritten g.dispatch.tables g.dispatch.decided)) a.fed.gone_on.output_is in
-        let there : lines_text (rows_in g'.dispatch.origin g'.output f.unwritten g'.dispatch.tables g'.dispatch.decided) ≡ news f' g' =
-        (λ i. lines_text (rows_in g'.dispatch.origin (b.fed.gone_on.output_is i) (unwritten i) g'.dispatch.tables g'.dispatch.decided)) in
-        let begin : Begin (lines_text (rows_in g.dispatch.origin g.output f.unwritten g.dispatch.tables g.dispatch.decided)) (lines_text (rows_in g'.dispatch.origin g'.output f.unwritten g'.dispatch.tables g'.dispatch.decided)) =
-        elim rows [
-          | inl p ↦ inl (begin_text (rows_in g.dispatch.origin g.output f.unwritten g.dispatch.tables g.dispatch.decided) (rows_in g'.dispatch.origin g'.output f.unwritten g'.dispatch.tables g'.dispatch.decided) p)
-          | inr p ↦ inr (begin_text (rows_in g'.dispatch.origin g'.output f.unwritten g'.dispatch.tables g'.dispatch.decided) (rows_in g.dispatch.origin g.output f.unwritten g.dispatch.tables g.dispatch.decided) p)
-        ] in
-        subst (λ (l : List ℕ). Begin l (news f' g')) here (subst (λ (l : List ℕ). Begin (lines_text (rows_in g.dispatch.origin g.output f.unwritten g.dispatch.tables g.dispatch.decided)) l) there begin)
+        let planned = planned_alike s g.dispatch g'.dispatch (grind arith) whole whole' of of' in
+        let rows = written_alike g g' (even g.dispatch whole) (even g'.dispatch whole') planned (grind arith) (grind arith) (grind arith) agree f.unwritten in
+        grind (arith, begin_text)
