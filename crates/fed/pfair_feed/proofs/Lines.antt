@@ -1,6 +1,6 @@
 -- Lines that are fed, byte after byte, where only the first bytes of the open line are kept.
 use Rattle.std.proofs.Common.{drop-cons, IfErr}
-use Rattle.pfair_feed.proofs.Common.{AllByRecursion, flat_map, Consumes, IsAtEnd, cases_lt, append-nil, length-append, length-drop, length-take, take_all, take-append-le, SameShape, replica_of, Replica, Follow, IsPlannedOut, AreFedBytes, AreLines, AreTakenFrom, IsCaughtUp, IsFedLine, IsFedTo, IsLeft, IsOneLine, IsStopped, IsTakenFrom, IsWelcome, ended, question, ℕ, suc, true, false, Bool, ◌+◌, ◌≡◌, ◌≢◌, ◌≤◌, ◌<◌, refl, sym, ap, subst, ◌∙◌, arith, inl, inr, List, [], ◌∷◌, ◌++◌, length, take, drop, get_or, Option, Some, Result, Ok, Err, append_assoc, ◌⊎◌, slice_get, IsErrAnd, Keeps-refl, flat_map-append, is_refusal, ProgramFault}
+use Rattle.pfair_feed.proofs.Common.{AllByRecursion, flat_map, Consumes, IsAtEnd, cases_lt, append-nil, length-append, length-drop, length-take, take_all, take-append-le, SameShape, replica_of, Replica, Follow, IsPlannedOut, AreFedBytes, AreLines, AreTakenFrom, IsCaughtUp, IsFedLine, IsFedTo, IsLeft, IsOneLine, IsStopped, IsTakenFrom, IsWelcome, ended, question, ℕ, suc, true, Bool, ◌+◌, ◌≡◌, ◌≢◌, ◌≤◌, ◌<◌, refl, sym, ap, subst, ◌∙◌, arith, inl, inr, List, [], ◌∷◌, ◌++◌, length, take, drop, get_or, Option, Some, Result, Ok, Err, append_assoc, ◌⊎◌, slice_get, IsErrAnd, Keeps-refl, flat_map-append, is_refusal, ProgramFault}
 use Rattle.std.proofs.KnownBytes.{Consumes-nil, Consumes-trans}
 use Rattle.pfair_entry_row.specs.Laws.{RowsAreShort}
 use Rattle.pfair_file.specs.declared.program_fault.ProgramFault.TheVariants.{ReadFailed}
@@ -53,7 +53,7 @@ kept_full rest kept byte k full = k ∙ sym (take-append-le 257 rest (byte ∷ [
 
 module _ (short : RowsAreShort) where
   -- what is longer than any row brings nothing
-  long_line : (line : List ℕ) (x : Replica) → 256 < length line → IsTakenFrom line x x
+  pub long_line : (line : List ℕ) (x : Replica) → 256 < length line → IsTakenFrom line x x
   long_line line x long = grind arith
 
   -- as much is taken from a line as from what is kept of it

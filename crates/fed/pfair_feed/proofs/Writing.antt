@@ -1,6 +1,7 @@
 -- Texts that are sent piece by piece.
 use Rattle.std.proofs.Common.{flat_map}
-use Rattle.pfair_feed.proofs.Common.{appends-more, Appends, cases_lt, length-append, take-append-le, take_all, TakesPrefix, numbers_below, ℕ, zero, suc, ◌+◌, ◌≡◌, ◌<◌, inl, inr, sym, ap, subst, ◌∙◌, arith, List, [], ◌∷◌, ◌++◌, append_assoc, length, take, Option, Result, Ok, Err, OnErr, OnOk, flat_map-append}
+use Rattle.pfair_replica.proofs.TornKeys.{flat_more, flat_next}
+use Rattle.pfair_feed.proofs.Common.{append-nil, appends-more, Appends, cases_lt, length-append, take-append-le, take_all, TakesPrefix, numbers_below, ℕ, zero, suc, ◌+◌, ◌≡◌, ◌<◌, inl, inr, sym, ap, subst, ◌∙◌, arith, List, [], ◌++◌, append_assoc, length, take, Option, Result, Ok, Err, OnErr, OnOk}
 use Rattle.std.proofs.Math.Seq.{take-append-add}
 
 -- a prefix of the first part
@@ -30,18 +31,41 @@ all_or_cut (Err e) old new text all cut = cut
 
 -- ---- a line for each number
 
-numbers_on : (m n : ℕ) → m < n → (rest : List ℕ) × (numbers_below n ≡ numbers_below m ++ m ∷ rest)
-numbers_on m zero h = absurd (omega arith)
-numbers_on m (suc n) h = elim (cases_lt m n) [
-  | inl less ↦ (let t = numbers_on m n less in (t.0 ++ n ∷ [], ap (λ l. l ++ n ∷ []) t.1 ∙ append_assoc (numbers_below m) (m ∷ t.0) (n ∷ [])))
-  | inr more ↦ (let e : n ≡ m = omega (arith, h, more) in ([], λ i. numbers_below (e i) ++ e i ∷ []))
+-- the text of one number, and those behind it
+flat_on : (f : ℕ → List ℕ) (m n : ℕ) → m < n → (rest : List ℕ) × (flat_map f (numbers_below n) ≡ flat_map f (numbers_below m) ++ (f m ++ rest))
+flat_on f m zero h = absurd (omega arith)
+flat_on f m (suc n) h = elim (cases_lt m n) [
+  | inl less ↦
+      (let t = flat_on f m n less in (
+        t.0 ++ f n,
+        flat_more f n ∙ ap (λ l. l ++ f n) t.1 ∙ append_assoc (flat_map f (numbers_below m)) (f m ++ t.0) (f n) ∙ ap (λ l. flat_map f (numbers_below m) ++ l) (append_assoc (f m) t.0 (f n)),
+      ))
+  | inr more ↦ (let e : n ≡ m = omega (arith, h, more) in ([], grind (arith, flat_more, append-nil, e)))
 ]
 
--- a prefix of the text of one number, behind those of the numbers before
+-- a prefix of one part of a text, behind what stands before it
+cut_in : (old mid new : Option (List ℕ)) (before line rest whole : List ℕ) → Appends old mid before → TakesPrefix mid new line → whole ≡ before ++ (line ++ rest) → TakesPrefix old new whole
+cut_in old mid new before line rest whole first cut is = rw is (prefix_behind old mid new before (line ++ rest) first (prefix_first mid new line rest cut))
+
+-- of the text of one number, behind those of the numbers before
 pub cut_short : (f : ℕ → List ℕ) (m n : ℕ) (old mid new : Option (List ℕ)) (line : List ℕ) → m < n → f m ≡ line → Appends old mid (flat_map f (numbers_below m)) → TakesPrefix mid new line
     → TakesPrefix old new (flat_map f (numbers_below n))
 cut_short f m n old mid new line h is first cut =
-    let t = numbers_on m n h in
-    let whole : flat_map f (numbers_below m) ++ (line ++ flat_map f t.0) ≡ flat_map f (numbers_below n) =
-    ap (λ l. flat_map f (numbers_below m) ++ (l ++ flat_map f t.0)) (sym is) ∙ sym (flat_map-append f (numbers_below m) (m ∷ t.0)) ∙ ap (flat_map f) (sym t.1) in
-    subst (λ (l : List ℕ). TakesPrefix old new l) whole (prefix_behind old mid new (flat_map f (numbers_below m)) (line ++ flat_map f t.0) first (prefix_first mid new line (flat_map f t.0) cut))
+    let t = flat_on f m n h in
+    cut_in old mid new (flat_map f (numbers_below m)) line t.0 (flat_map f (numbers_below n)) first cut (t.1 ∙ ap (λ l. flat_map f (numbers_below m) ++ (l ++ t.0)) is)
+
+-- if that text is again one for each number
+module _ (f g : ℕ → List ℕ) (m i j : ℕ) (same : f m ≡ flat_map g (numbers_below j)) where
+  pub cut_inside : (n : ℕ) (old mid new : Option (List ℕ)) (line : List ℕ) → m < n → i < j → g i ≡ line → Appends old mid (flat_map f (numbers_below m) ++ flat_map g (numbers_below i))
+      → TakesPrefix mid new line → TakesPrefix old new (flat_map f (numbers_below n))
+  cut_inside n old mid new line h l is first cut =
+      let t = flat_on f m n h in
+      let u = flat_on g i j l in
+      let before = flat_map f (numbers_below m) in
+      let here = flat_map g (numbers_below i) in
+      cut_in old mid new (before ++ here) line (u.0 ++ t.0) (flat_map f (numbers_below n)) first cut
+      (t.1 ∙ ap (λ l. before ++ (l ++ t.0)) (same ∙ u.1 ∙ ap (λ l. here ++ (l ++ u.0)) is) ∙ ap (λ l. before ++ l) (append_assoc here (line ++ u.0) t.0 ∙ ap (λ l. here ++ l) (append_assoc line u.0 t.0))
+      ∙ sym (append_assoc before here (line ++ (u.0 ++ t.0))))
+
+  pub all_inside : i ≡ j → flat_map f (numbers_below m) ++ flat_map g (numbers_below i) ≡ flat_map f (numbers_below (m + 1))
+  all_inside e = grind (arith, flat_next, same, e)

@@ -1,9 +1,8 @@
 //! The complaints about refused lines, about logs that are short, and about what a run drops.
-ghost use Rattle.std.specs.Prelude.{◌≡◌, ◌≢◌, ◌≤◌, ℕ, List, length, IfErr, OnErr, OnOk, true};
+ghost use Rattle.std.specs.Prelude.{◌≤◌, ℕ, List, length, OnErr, OnOk};
 ghost use Rattle.std.specs.Io.KnownBytes.{Appends};
 ghost use Rattle.pfair_text.specs.Output.{TakesPrefix};
-ghost use Rattle.pfair_feed.specs.Feeding.{question};
-ghost use Rattle.pfair_feed.specs.Missing.{dropped_of, dropped_text, key_line, missing_text};
+ghost use Rattle.pfair_feed.specs.Missing.{dropped_text, key_line, missing_text};
 
 use crate::follower::Follower;
 use itoa::Buffer;
@@ -73,23 +72,10 @@ pub fn report_dropped<R: Ready, E: Write>(
     ensures cut { OnErr result (TakesPrefix (E.contents complaints.old) (E.contents complaints.new) (dropped_text follower.now)) }
 {
     for processor in 0..follower.dispatcher().settings().processors() {
-        report_dropped_of(follower, complaints, processor)?;
-    }
-    Ok(())
-}
-
-// Writes the lines of one log.
-fn report_dropped_of<R: Ready, E: Write>(
-    follower: &Follower<R>,
-    complaints: &mut E,
-    processor: u8,
-) -> Result<(), WriteFailed>
-    ensures reported { OnOk result (Appends (E.contents complaints.old) (E.contents complaints.new) (dropped_of follower.now processor)) }
-    ensures cut { OnErr result (TakesPrefix (E.contents complaints.old) (E.contents complaints.new) (dropped_of follower.now processor)) }
-{
-    for index in 0..follower.dispatcher().replica().sound_count(processor) {
-        if follower.is_dropped(processor, index + 1) {
-            report_key(complaints, b"dropped ", processor, index + 1)?;
+        for index in 0..follower.dispatcher().replica().sound_count(processor) {
+            if follower.is_dropped(processor, index + 1) {
+                report_key(complaints, b"dropped ", processor, index + 1)?;
+            }
         }
     }
     Ok(())
@@ -110,24 +96,4 @@ fn report_key<E: Write>(
     send(complaints, b",")?;
     send(complaints, Buffer::new().format(number).as_bytes())?;
     send(complaints, b"\n")
-}
-
-// Answers a line that is refused if it is the question, and else reports that it is refused, which ends a strict run.
-pub(crate) fn complain<R: Ready, E: Write>(
-    follower: &Follower<R>,
-    complaints: &mut E,
-    is_strict: bool,
-    fault: ProgramFault,
-    line: &[u8],
-) -> Result<(), ProgramFault>
-    ensures skipped { OnOk result (is_strict ≡ true → line.now ≡ question) }
-    ensures ended { IfErr result (λ e. (e ≡ fault) × (is_strict ≡ true) × (line.now ≢ question)) }
-    ensures answered { line.now ≡ question → TakesPrefix (E.contents complaints.old) (E.contents complaints.new) (missing_text follower.now) }
-{
-    if line == b"?".as_slice() {
-        let _ = report_missing(follower, complaints);
-        return Ok(());
-    }
-    report_refused(complaints, &fault, line);
-    if is_strict { Err(fault) } else { Ok(()) }
 }

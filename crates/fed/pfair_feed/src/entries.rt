@@ -1,13 +1,8 @@
 //! The entries of a script as rows.
-ghost use Rattle.std.specs.Prelude.{◌≡◌, ◌<◌, ◌≤◌, ◌++◌, IfOk, OnOk, length};
-ghost use Rattle.std.specs.List.{AllByRecursion};
-ghost use Rattle.pfair_entry.specs.Notice.{IsLoggable};
-ghost use Rattle.pfair_text.specs.Rows.{IsOpen, lines_text, text_so_far};
-ghost use Rattle.pfair_feed.specs.Entries.{entries_text, log_rows};
+ghost use Rattle.std.specs.Prelude.{◌≡◌, IfOk, OnOk};
+ghost use Rattle.pfair_feed.specs.Entries.{entries_text};
 ghost use Rattle.pfair_feed.specs.RoundTrip.{IsScript};
 
-use csv::Writer;
-use pfair_entry::Entry;
 use pfair_entry_row::add_entry;
 use pfair_table::Script;
 use pfair_text::{finish, new_text};
@@ -27,21 +22,10 @@ pub fn entries_of(alloc: Global, script: &Script) -> Result<Vec<u8>, AllocError>
     prove!(script.capacity() as usize <= Script::LONGEST_LOG);
     let mut writer = new_text(alloc);
     for processor in 0..script.settings().processors() {
-        add_log(&mut writer, processor, script.log(processor))?;
+        let log = script.log(processor);
+        for (index, entry) in log.iter().enumerate() {
+            add_entry(&mut writer, processor, index as u32 + 1, entry)?;
+        }
     }
     finish(writer)
-}
-
-// Adds the rows of the entries of one log.
-fn add_log(writer: &mut Writer<Vec<u8>>, processor: u8, log: &[Entry]) -> Result<(), AllocError>
-    requires open { IsOpen writer.old }
-    requires short { length log.now ≤ Script.LONGEST_LOG }
-    ensures open { OnOk result (IsOpen writer.new) }
-    ensures text { OnOk result (text_so_far writer.new ≡ text_so_far writer.old ++ lines_text (log_rows processor log.now)) }
-    ensures entries { OnOk result (AllByRecursion IsLoggable log.now) }
-{
-    for (index, entry) in log.iter().enumerate() {
-        add_entry(writer, processor, index as u32 + 1, entry)?;
-    }
-    Ok(())
 }

@@ -1,5 +1,5 @@
 //! The follower.
-ghost use Rattle.std.specs.Prelude.{◌≡◌, ◌↔◌, IsTrue, ◌≢◌, ◌⊎◌, ◌<◌, ◌≤◌, [], Err, IfErr, IfOk, IfSome, IsErrOf, OnErr, OnOk, Some, false, length, max, None};
+ghost use Rattle.std.specs.Prelude.{◌≡◌, ◌≢◌, ◌⊎◌, ◌<◌, ◌≤◌, [], Err, IfErr, IfOk, IfSome, IsErrOf, OnErr, OnOk, Some, false, length, max, None};
 ghost use Rattle.std.specs.Io.KnownBytes.{Appends, Keeps};
 ghost use Rattle.pfair_text.specs.Output.{TakesPrefix};
 ghost use Rattle.pfair_text.specs.Rows.{line};
@@ -13,7 +13,7 @@ ghost use Rattle.pfair_table.specs.Refinement.{IsWholePlan, course_of};
 ghost use Rattle.pfair_feed.specs.Missing.{is_past};
 ghost use Rattle.pfair_feed.specs.Rows.{header_of};
 ghost use Rattle.pfair_feed.specs.RoundTrip.{IsBegun};
-ghost use Rattle.pfair_feed.specs.Follow.{HasFollowed, HaveWrittenAlike, IsPlannedOut, IsSameRun, IsStopOf, missing_of, news, IsGrown, IsEndOfPlans};
+ghost use Rattle.pfair_feed.specs.Follow.{HasFollowed, HaveWrittenAlike, IsSameRun, IsStopOf, missing_of, news, IsGrown, IsEndOfPlans};
 ghost use Rattle.pfair_file.specs.declared.program_fault.ProgramFault.TheVariants.{Memory, WriteFailed};
 ghost use Rattle.pfair_feed.specs.declared.output.Output.TheVariants.{Lags};
 ghost use Rattle.pfair_replica.specs.Replica.{has_torn};
@@ -187,10 +187,9 @@ impl<R: Ready> Follower<R> {
         let next = self.dispatcher.next_slot();
         // no slot is forgotten that isn't planned
         prove!(self.dispatcher.forgotten() <= next);
-        match self.output {
-            // lags are counted from slot 0 on
-            Output::Lags => {}
-            _ => self.dispatcher.forget(next),
+        // lags are counted from slot 0 on
+        if self.output != Output::Lags {
+            self.dispatcher.forget(next);
         }
         Ok(taken)
     }
@@ -243,13 +242,6 @@ impl<R: Ready> Follower<R> {
         self.unwritten
     }
 
-    // Whether all slots of the run are planned.
-    pub(crate) fn is_planned(&self) -> bool
-        ensures { IsTrue result ↔ IsPlannedOut self.now }
-    {
-        self.dispatcher.next_slot() >= self.dispatcher.settings().slots()
-    }
-
     // The number of the entry that would settle more of the log of a processor: the one right behind
     // the log's sound beginning, if its last floor is below the number of slots and nothing is held
     // there. `None` if the log settles all slots, if the entry behind its beginning is held but its
@@ -272,11 +264,9 @@ impl<R: Ready> Follower<R> {
     pub(crate) fn is_dropped(&self, proc: u8, number: u32) -> bool
         ensures { result ≡ is_past self.now.dispatch.settings.slots (held self.now.dispatch.replica proc number) }
     {
+        let slots = self.dispatcher.settings().slots();
         match self.dispatcher.replica().get(proc, number) {
-            Some(Flat::One(entry)) => match entry.said() {
-                Some((at, _)) => at >= self.dispatcher.settings().slots(),
-                None => false,
-            },
+            Some(Flat::One(entry)) => entry.said().is_some_and(|(at, _)| at >= slots),
             _ => false,
         }
     }

@@ -9,7 +9,7 @@ ghost use Rattle.pfair_entry.specs.Entry.{Logged};
 ghost use Rattle.pfair_entry_row.specs.Row.{IsEntryAt, entry_row};
 ghost use Rattle.pfair_file.specs.declared.program_fault.ProgramFault.TheVariants.{Memory};
 
-use crate::complaint::complain;
+use crate::complaint::{report_missing, report_refused};
 use crate::follower::Follower;
 use pfair_entry_row::laws::rows_are_short;
 use pfair_entry_row::{LONGEST_ROW, RowFault, read_row};
@@ -65,7 +65,8 @@ pub fn follow<R: Ready, I: Read, W: Write, E: Write>(
             if *byte == b'\n' {
                 feed_line(follower, writer, complaints, is_strict, kept.as_slice())?;
                 kept.clear();
-                if to_last && follower.is_planned() {
+                let dispatcher = follower.dispatcher();
+                if to_last && dispatcher.next_slot() >= dispatcher.settings().slots() {
                     return Ok(());
                 }
             } else if kept.len() <= LONGEST_ROW && kept.push(*byte).is_err() {
@@ -93,16 +94,20 @@ fn feed_line<R: Ready, W: Write, E: Write>(
     ensures lenient { IfErr result (λ e. is_strict ≡ false → is_refusal e ≡ false) }
 {
     rows_are_short();
-    if line.len() > LONGEST_ROW {
-        let fault = ProgramFault::Row(RowFault::NoRow);
-        return complain(follower, complaints, is_strict, fault, line);
-    }
-    match feed(follower, writer, line) {
-        Err(fault) if fault.is_refusal() => {
-            complain(follower, complaints, is_strict, fault, line)
+    let fault = if line.len() > LONGEST_ROW {
+        ProgramFault::Row(RowFault::NoRow)
+    } else {
+        match feed(follower, writer, line) {
+            Err(fault) if fault.is_refusal() => fault,
+            fed => return fed,
         }
-        fed => fed,
+    };
+    if line == b"?".as_slice() {
+        let _ = report_missing(follower, complaints);
+        return Ok(());
     }
+    report_refused(complaints, &fault, line);
+    if is_strict { Err(fault) } else { Ok(()) }
 }
 
 /// Takes the entry whose row a line is, and writes the rows of the slots that it settles, as

@@ -3,7 +3,7 @@ ghost use Rattle.std.specs.Prelude.{◌≡◌, ◌++◌, ◌≢◌, [], IfErr, I
 ghost use Rattle.std.specs.Io.KnownBytes.{Appends};
 ghost use Rattle.pfair_text.specs.Output.{TakesPrefix};
 ghost use Rattle.pfair_text.specs.Rows.{IsOpen, text_so_far};
-ghost use Rattle.pfair_feed.specs.Rows.{IsBookIfAny, IsBookOf, IsWholeBook, KeepsUnwritten, rows_text};
+ghost use Rattle.pfair_feed.specs.Rows.{IsBookIfAny, IsWholeBook, KeepsUnwritten, rows_text};
 ghost use Rattle.pfair_file.specs.declared.program_fault.ProgramFault.TheVariants.{WriteFailed};
 
 use csv::Writer;
@@ -57,30 +57,16 @@ pub(crate) fn add_rows<R: Ready>(
         Output::PlacedTables => add_placed_tables_from(text, dispatcher, from)?,
         Output::Decisions => add_decisions_from(text, dispatcher, from)?,
         Output::Lags => {
-            let mut known = known_book(alloc, dispatcher, from, book)?;
+            let mut known = match book {
+                Some(book) => book,
+                None => first_book(alloc, dispatcher)?,
+            };
             book_slots(&mut known, dispatcher, from)?;
             add_lags_from(text, &mut known, dispatcher)?;
             return Ok(Some(known));
         }
     }
     Ok(None)
-}
-
-// Returns the book, or the one before the run's first slot if there is none: it has the lags of the
-// members that were carried into the run. O(n) for n members.
-fn known_book<R: Ready>(
-    alloc: Global,
-    dispatcher: &Dispatcher<R>,
-    from: u64,
-    book: Option<LagBook>,
-) -> Result<LagBook, AllocError>
-    requires { IsBookIfAny dispatcher.now.origin from dispatcher.now.tables dispatcher.now.decided book }
-    ensures { IfOk result (IsBookOf dispatcher.now.origin from dispatcher.now.tables dispatcher.now.decided) }
-{
-    match book {
-        Some(book) => Ok(book),
-        None => first_book(alloc, dispatcher),
-    }
 }
 
 /// Sends a text, and flushes it, unless it is empty.

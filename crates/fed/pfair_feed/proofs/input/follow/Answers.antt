@@ -50,8 +50,8 @@ returns-then-is_err-clause-stopped g c =
     stopped_in _ _ _ _ _ _ _ _ (take c.in-Ok.count c.read.new.buf) c.loop-byte.kept.items c.loop-byte.byte-index _ _ c.loop-byte.follower (g.W.Write.contents c.loop-byte.writer)
     c.loop-byte-test.true (few_taken c.in-Ok.count c.read.new.buf room) refl refl c.loop-byte.invariant (inl (inr (inl (refl, _, refl, c.if-byte-eq10.false)), refl, Keeps-refl (g.W.Write.contents c.loop-byte.writer))) (λ refused. absurd (cc refused))
 
-pub returns-then-is_planned-clause-fed : goal.returns-then-is_planned-clause-fed
-returns-then-is_planned-clause-fed g c =
+pub returns-then-next_slot-slots-clause-fed : goal.returns-then-next_slot-slots-clause-fed
+returns-then-next_slot-slots-clause-fed g c =
     let piece : List ℕ = take c.in-Ok.count c.read.new.buf in
     let byte : ℕ = get_or piece c.loop-byte.byte-index 0 in
     let now = same_more _ _ _ _ _ _ _ _ _ _ (next_left piece c.loop-byte.byte-index c.loop-byte-test.true) c.loop-byte.invariant in
