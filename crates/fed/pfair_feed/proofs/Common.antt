@@ -8,7 +8,7 @@ pub use Rattle.pfair_entry_row.specs.Laws.{RowsAreLines}
 pub use Rattle.pfair_feed.specs.Entries.{entries_text, log_rows, numbered_from}
 pub use Rattle.pfair_feed.specs.Feeding.{AreFedBytes, AreLines, AreTakenFrom, AreWelcome, HasFailed, HasGoneOn, HasStood, IsCaughtUp, IsFedLine, IsFedTo, IsLeft, IsOneLine, IsStopped, IsTakenFrom, IsWelcome, ended, question}
 pub use Rattle.pfair_feed.specs.Follow.{Follow, HaveWrittenAlike, IsGrown, IsPlannedOut, IsSameRun, IsStopOf, missing_of, news}
-pub use Rattle.pfair_feed.specs.Missing.{dropped_line, dropped_of, is_past, key_line, missing_line, missing_lines}
+pub use Rattle.pfair_feed.specs.Missing.{dropped_line, dropped_of, is_past, key_line, missing_lines}
 pub use Rattle.pfair_feed.specs.RoundTrip.{AreAmong, BringsNothing, HasScheduleOf, HaveTheRows, IsBegun, IsPlaced, IsScript, Placed, placed_from, placed_in, replica_with_room, row_of, rows_of}
 pub use Rattle.pfair_feed.specs.RowLaws.{WholeRows, text_of}
 pub use Rattle.pfair_feed.specs.Rows.{IsBookIfAny, IsBookOf, KeepsUnwritten, book_before, header_of, rows_in}

@@ -1,15 +1,12 @@
 -- What a line that is read brings.
-use Rattle.std.proofs.Common.{◌&&◌, ◌==◌, not, nat_lt}
+use Rattle.std.proofs.Common.{◌&&◌, not, nat_lt}
 use Rattle.pfair_replica.specs.HeldAfter.{held_after}
-use Rattle.pfair_feed.proofs.Common.{Keeps, TakesPrefix, Logged, replica_of, held, Replica, frontier, has_torn, only, with_entry, Follow, IsSameRun, IsStopOf, news, IsGrown, HasFailed, HasStood, IsCaughtUp, IsFedLine, IsTakenFrom, and_parts, eqb-true, ltb-true, Settings, arith, ℕ, ◌≡◌, ◌≢◌, refl, sym, ap, subst, ◌∙◌, List, Option, Ok, true, false, inl, inr, ◌≤◌, Bool, length, min, None, Some, ◌⊎◌, if◌then◌else◌, taken, ProgramFault, WriteFailed, Memory, is_refusal, One, Held, entry_exact, entry_eq}
+use Rattle.pfair_feed.proofs.Common.{Keeps, TakesPrefix, Logged, replica_of, held, Replica, frontier, has_torn, with_entry, Follow, IsSameRun, IsStopOf, news, IsGrown, HasFailed, HasStood, IsCaughtUp, IsFedLine, IsTakenFrom, and_parts, ltb-true, Settings, arith, ℕ, ◌≡◌, ◌≢◌, refl, sym, ap, subst, ◌∙◌, List, Option, Ok, true, false, inl, inr, ◌≤◌, Bool, length, min, None, Some, ◌⊎◌, if◌then◌else◌, taken, ProgramFault, WriteFailed, Memory, is_refusal, One}
 use Rattle.pfair_entry_row.specs.Faults.{IsReadingOf, Reading}
 use Rattle.pfair_entry_row.specs.Row.{entry_row, IsEntryAt}
 use Rattle.pfair_replica.specs.Offered.{has_key}
 use Rattle.pfair_file.specs.declared.program_fault.ProgramFault.TheVariants.{NoSuchProcessor, NumberOutOfRange, Row}
 use Rattle.pfair_feed.proofs.Going.{stays}
-use Rattle.pfair_lattice.specs.declared.join_map.Flat.TheVariants.{Torn}
-use Rattle.pfair_lattice.specs.Held.{held_join}
-use Rattle.pfair_replica.specs.HeldAfter.{join_none}
 use Rattle.pfair_feed.proofs.Plans.{longer}
 use Rattle.pfair_feed.proofs.Planned.{planned}
 
@@ -37,11 +34,8 @@ unchanged f g p n e NumberOutOfRange is stop = stop.2
 unchanged f g p n e (Row fault) is stop = absurd stop
 unchanged f g p n e fault is stop = absurd (cc is)
 
-not_memory : (fault : ProgramFault) → is_refusal fault ≡ true → fault ≢ Memory
-not_memory fault e same = absurd (let h : false ≡ true = ap is_refusal (sym same) ∙ e in cc h)
-
-not_writing : (fault : ProgramFault) → is_refusal fault ≡ true → fault ≢ WriteFailed
-not_writing fault e same = absurd (let h : false ≡ true = ap is_refusal (sym same) ∙ e in cc h)
+not_refused : (fault other : ProgramFault) → is_refusal fault ≡ true → is_refusal other ≡ false → fault ≢ other
+not_refused fault other is is_not same = absurd (let h : false ≡ true = sym is_not ∙ ap is_refusal (sym same) ∙ is in cc h)
 
 -- ---- the row of an entry that is held already
 
@@ -102,8 +96,8 @@ module _ (line : List ℕ) (f g : Follow) (p n : ℕ) (e : Logged) (r : Reading)
       → (fault ≢ WriteFailed → Keeps v w) → (g ≡ f) × IsFedLine line f g v w
   refused_line v w caught refused offered nothing =
       let stays_so : g ≡ f = unchanged f g p n e fault refused stop in
-      let held : replica_of f.dispatch.replica ≡ taken (replica_of f.dispatch.replica) p n e = ap (λ (h : Follow). replica_of h.dispatch.replica) (sym stays_so) ∙ offered (not_memory fault refused) in
-      (stays_so, fed_none line f g v w caught stays_so (nothing (not_writing fault refused)) (taken_so (replica_of f.dispatch.replica) (replica_of f.dispatch.replica) held))
+      let held : replica_of f.dispatch.replica ≡ taken (replica_of f.dispatch.replica) p n e = ap (λ (h : Follow). replica_of h.dispatch.replica) (sym stays_so) ∙ offered (not_refused fault Memory refused refl) in
+      (stays_so, fed_none line f g v w caught stays_so (nothing (not_refused fault WriteFailed refused refl)) (taken_so (replica_of f.dispatch.replica) (replica_of f.dispatch.replica) held))
 
   -- if it is held already, no allocation is asked for
   pub repeat_wants_none : IsCaughtUp f → IsGrown (record f.dispatch { replica = g.dispatch.replica }) g.dispatch

@@ -1,5 +1,5 @@
 -- Lines that have the rows of a script leave the script.
-use Rattle.pfair_feed.proofs.Common.{appends-more, AllByRecursion, and_parts, leb-true, ltb-true, Logged, Below, Replica, empty_replica, run_of, Course, run, Settings, AreTakenFrom, IsTakenFrom, AreAmong, BringsNothing, HasScheduleOf, Among, IsPlaced, IsScript, Placed, placed_in, replica_with_room, row_of, rows_of, HaveTheRows, line, Output, header_of, Appends, replica_of, news, ℕ, ◌+◌, ◌<◌, ◌≤◌, ◌≡◌, inl, inr, refl, sym, ap, subst, ◌∙◌, arith, List, [], ◌∷◌, map, Some, None, ◌++◌, ◌⊎◌, One, RowsAreLines, taken, LoggedRun, capacity_of, contents_of, replica_of_logs, entry_eq, entry_exact, WholeRows, text_of}
+use Rattle.pfair_feed.proofs.Common.{appends-more, AllByRecursion, and_parts, leb-true, ltb-true, Logged, Below, Replica, empty_replica, run_of, Course, run, Settings, AreTakenFrom, IsTakenFrom, AreAmong, BringsNothing, HasScheduleOf, Among, IsPlaced, IsScript, Placed, placed_in, replica_with_room, row_of, rows_of, HaveTheRows, line, Output, header_of, Appends, replica_of, news, ℕ, ◌+◌, ◌<◌, ◌≤◌, ◌≡◌, inl, inr, refl, sym, ap, subst, ◌∙◌, arith, List, [], ◌∷◌, map, Some, None, ◌++◌, ◌⊎◌, One, taken, LoggedRun, capacity_of, contents_of, replica_of_logs, entry_eq, entry_exact, text_of}
 use Rattle.pfair_lattice.specs.Held.{HeldBelow}
 use Rattle.pfair_entry_row.specs.Laws.{EachEntryHasItsRow}
 use Rattle.pfair_table.specs.EventLaws.{EventsLeaveTheLeast, IsBroughtBelow}

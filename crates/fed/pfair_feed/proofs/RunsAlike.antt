@@ -1,5 +1,5 @@
 -- Two runs whose followers hold what agrees have written texts of which one begins the other.
-use Rattle.pfair_feed.proofs.Common.{cases_order, lines_text, replica_of, Replica, empty_replica, frontier, numbers_below, said, Course, IsOf, IsPrefixOf, OneTable, Dispatch, HavePlannedAlike, IsWholePlan, Settings, Origin, Table, decisions, table, Output, Follow, news, HaveWrittenAlike, rows_in, AreTakenFrom, IsBegun, same_Some, ℕ, ◌<◌, ◌≡◌, inl, inr, refl, sym, ap, subst, ◌∙◌, arith, List, [], ◌∷◌, ◌++◌, length, map, Some, slice_get, suc, ◌≤◌, ◌⊎◌, max, lines_text-append, Decided}
+use Rattle.pfair_feed.proofs.Common.{cases_order, lines_text, replica_of, Replica, empty_replica, frontier, numbers_below, said, Course, IsOf, IsPrefixOf, Dispatch, HavePlannedAlike, IsWholePlan, Settings, Origin, Table, decisions, table, Output, Follow, news, HaveWrittenAlike, rows_in, AreTakenFrom, IsBegun, same_Some, ℕ, ◌<◌, ◌≡◌, inl, inr, refl, sym, ap, subst, ◌∙◌, arith, List, [], ◌∷◌, ◌++◌, length, map, Some, slice_get, suc, ◌≤◌, ◌⊎◌, max, lines_text-append, Decided}
 use Rattle.pfair_feed.specs.Laws.{RunsWriteAlike}
 use Rattle.pfair_feed.proofs.Going.{even}
 use Rattle.pfair_feed.proofs.OneWay.{heads}

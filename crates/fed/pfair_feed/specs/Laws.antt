@@ -13,7 +13,7 @@ use Rattle.pfair_feed.specs.RowLaws.{text_of}
 use Rattle.pfair_feed.specs.Rows.{header_of}
 use Rattle.pfair_feed.specs.Entries.{entries_text}
 use Rattle.pfair_feed.specs.Feeding.{AreFedBytes, AreLines, AreTakenFrom}
-use Rattle.pfair_feed.specs.RoundTrip.{AreAmong, HasScheduleOf, HaveTheRows, IsBegun, IsNew, IsPlaced, IsScript, Placed, replica_with_room, row_of, rows_of}
+use Rattle.pfair_feed.specs.RoundTrip.{AreAmong, HasScheduleOf, HaveTheRows, IsBegun, IsPlaced, IsScript, Placed, replica_with_room, row_of, rows_of}
 
 -- The rows of the same entries, in whatever order and however often they come, leave the same.
 abbrev pub OrderIsNothing : Type 0
@@ -54,7 +54,7 @@ EntriesGiveTheirSchedule =
 abbrev pub FedEntriesGiveTheirText : Type 0
 FedEntriesGiveTheirText =
     (run : LoggedRun) (capacity : ℕ) (bytes rest : List ℕ) (lines : List (List ℕ)) (f g : Follow) (before begun after : Option (List ℕ))
-    → IsScript run → capacity_of run.logs ≤ capacity → IsNew run.settings capacity f → f.unwritten ≡ 0 → AreLines bytes lines rest
+    → IsScript run → capacity_of run.logs ≤ capacity → IsBegun None run.settings capacity f → f.unwritten ≡ 0 → AreLines bytes lines rest
     → HaveTheRows run.settings.processors capacity (rows_of run.logs) lines → Appends before begun (line (header_of f.output)) → AreFedBytes bytes f g begun after rest
     → Appends before after (text_of f.output run.settings (replica_of_logs run.logs)) × HasScheduleOf run (replica_of g.dispatch.replica)
 

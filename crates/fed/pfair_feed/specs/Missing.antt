@@ -14,14 +14,10 @@ use Rattle.pfair_feed.specs.Follow.{Follow, missing_of}
 abbrev pub key_line : (word : List ℕ) (processor number : ℕ) → List ℕ
 key_line word processor number = word ++ (decimal processor ++ (codes "," ++ (decimal number ++ 10 ∷ [])))
 
--- the line of a key that is missing
-abbrev pub missing_line : (processor number : ℕ) → List ℕ
-missing_line processor number = key_line (codes "missing ") processor number
-
 -- where a number is missing of a log
 abbrev pub missing_lines : (processor : ℕ) → Option ℕ → List ℕ
 missing_lines processor None = []
-missing_lines processor (Some number) = missing_line processor number
+missing_lines processor (Some number) = key_line (codes "missing ") processor number
 
 -- a line for each log of which an entry would settle more, in order of processors
 abbrev pub missing_text : Follow → List ℕ

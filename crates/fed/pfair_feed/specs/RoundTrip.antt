@@ -93,7 +93,3 @@ pub record HasScheduleOf (run : LoggedRun) (replica : Replica) : Type 0 where
 pub record IsBegun (o : Origin) (settings : Settings) (capacity : ℕ) (f : Follow) : Type 0 where
   pub settings_are : f.dispatch.settings ≡ settings
   pub course_is : course_of f.dispatch ≡ begin_at o settings capacity
-
--- one of a first run
-abbrev pub IsNew : (settings : Settings) (capacity : ℕ) → Follow → Type 0
-IsNew = IsBegun None
