@@ -242,10 +242,8 @@ impl<R: Ready> Follower<R> {
         self.unwritten
     }
 
-    // The number of the entry that would settle more of the log of a processor: the one right behind
-    // the log's sound beginning, if its last floor is below the number of slots and nothing is held
-    // there. `None` if the log settles all slots, if the entry behind its beginning is held but its
-    // floor fell, if the log has no room for one more, and if there is no such processor. One look-up.
+    // The number right behind the sound beginning of a log, if its entry would settle more slots. One
+    // look-up.
     pub(crate) fn missing(&self, proc: u8) -> Option<u32>
         ensures value { result ≡ missing_of self.now.dispatch.settings (replica_of self.now.dispatch.replica) proc }
         ensures key { IfSome result (IsKeyOf self.now.dispatch.replica proc) }
@@ -284,10 +282,7 @@ impl<R: Ready> Follower<R> {
     }
 }
 
-// Plans as many slots as the contents settle.
-//
-// # Errors
-// Those of [`Dispatcher::plan_next`]; the slots that were planned before stand.
+// Plans as many slots as the contents settle. After a fault the slots that were planned before stand.
 fn plan_all<R: Ready>(dispatcher: &mut Dispatcher<R>) -> Result<(), PlanFault>
     ensures grown { IsGrown dispatcher.old dispatcher.new }
     ensures forgotten { dispatcher.new.forgotten ≡ dispatcher.old.forgotten }
