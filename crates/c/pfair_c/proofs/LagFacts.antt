@@ -1,18 +1,8 @@
 -- A book of lags that is notified slot by slot, and its rows.
-use Rattle.std.proofs.Common.{◌≡◌, ◌+◌, ◌-◌, ℕ, zero, suc, ◌<◌, ◌≤◌, ◌++◌, ◌∷◌, [], List, length, map, take, drop, Some, refl, sym, arith, ◌∙◌, ap, append_assoc, slice_get}
-use Rattle.std.proofs.lemmas.List.{length-map, length-append}
-use Rattle.pfair_lag.specs.Book.{Book}
-use Rattle.pfair_table.specs.declared.slot.Decided.{Decided}
-use Rattle.pfair_table.specs.Table.{Table}
-use Rattle.pfair_table.specs.Refinement.{Dispatch}
-use Rattle.pfair_output.proofs.BookFacts.{first_time}
+use Rattle.pfair_c.proofs.Common.{◌≡◌, ◌+◌, ◌-◌, ℕ, zero, suc, ◌<◌, ◌≤◌, ◌++◌, ◌∷◌, [], List, length, map, take, drop, Some, refl, sym, arith, ◌∙◌, ap, append_assoc, slice_get, length-map, length-append, Book, Decided, Table, Dispatch, first_time, none-some, same_Some, rows_of, book_after, book_rows, lags_at, first_left}
 use Rattle.pfair_output.specs.Booked.{slot_booked, all_slots_booked, first_book}
-use Rattle.std.proofs.lemmas.Option.{none-some, same_Some}
 use Rattle.pfair_output.proofs.BookedFacts.{time-all_booked}
-use Rattle.pfair_c.specs.Rows.{rows_of}
-use Rattle.pfair_c.specs.Lags.{book_after, book_rows, lags_at}
 use Rattle.pfair_c.proofs.SlotRows.{one-slot-more}
-use Rattle.pfair_text.proofs.RowFacts.{first_left}
 
 -- ---- what the book is notified of
 

@@ -4,3 +4,4 @@ mod Resumed
 mod SlotRows
 mod TakingFacts
 mod Written
+pub mod Common

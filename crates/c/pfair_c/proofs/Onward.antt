@@ -1,12 +1,11 @@
 -- One plan more.
-use Rattle.std.proofs.Common.{◌≡◌, ◌+◌, ℕ, ◌<◌, length, arith, ◌∙◌, suc, ◌≤◌, max, ap}
-use Rattle.std.proofs.lemmas.List.{length-append}
+use Rattle.pfair_c.proofs.Common.{◌≡◌, ◌+◌, ℕ, ◌<◌, length, arith, ◌∙◌, suc, ◌≤◌, ap, length-append, Dispatch, IsPlannedOn}
+use Rattle.std.proofs.Common.{max}
 use Rattle.std.proofs.Math.Nat.{le-max_right}
 use Rattle.pfair_table.specs.declared.run.Event.TheVariants.{Plan}
 use Rattle.pfair_table.specs.declared.answer.Step.TheVariants.{Planned}
 use Rattle.pfair_table.specs.Events.{happens, Course}
-use Rattle.pfair_table.specs.Refinement.{Dispatch, course_of, IsStepOf}
-use Rattle.pfair_c.specs.Planning.{IsPlannedOn}
+use Rattle.pfair_table.specs.Refinement.{course_of, IsStepOf}
 use Rattle.pfair_table.specs.Table.{Settings}
 
 -- a plan that planned a slot has one table more

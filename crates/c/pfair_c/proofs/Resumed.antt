@@ -1,6 +1,6 @@
 -- What `pfair_resume` answers once a state is read.
-use Rattle.std.proofs.Common.{ℕ, ◌≡◌, ◌≤◌, ◌<◌, ◌⊎◌, length, ◌∙◌, inl, inr, true≢false, false, List, Some, None, ap, arith, sym, subst, refl, Result, Ok, Err}
-use Rattle.std.proofs.lemmas.Option.{same_Some}
+use Rattle.pfair_c.proofs.Common.{ℕ, ◌≡◌, ◌≤◌, ◌<◌, length, ◌∙◌, true≢false, false, List, Some, ap, arith, sym, subst, refl, same_Some, Dispatch, is_kept, LONGEST_FILE, IsResumeAnswer, IsRunnable}
+use Rattle.std.proofs.Common.{◌⊎◌, inl, inr, None, Result, Ok, Err}
 use Rattle.std.specs.Result.{result_ok}
 use Rattle.std.specs.declared.alloc.AllocError.{AllocError}
 use Rattle.pfair_state.specs.Reading.{IsWritable}
@@ -9,17 +9,13 @@ use Rattle.pfair_table.specs.declared.answer.NextRunFault.{NextRunFault}
 use Rattle.pfair_table.specs.declared.answer.NextRunFault.TheVariants.{Torn, Spent, Unfinished, PastLastSlot, CannotCarry, Memory}
 use Rattle.pfair_table.specs.Faults.{next_run_fault_number}
 use Rattle.pfair_table.specs.NextRun.{IsResumeFault}
-use Rattle.pfair_table.specs.Refinement.{Dispatch}
 use Rattle.pfair_table.specs.Table.{Carried}
 use Rattle.pfair_handle.specs.Behind.{Of}
-use Rattle.pfair_handle.specs.Kept.{Kept, is_kept}
-use Rattle.pfair_state.specs.Faults.{read_fault_number}
-use Rattle.pfair_state.specs.declared.fault.ReadFault.{ReadFault}
+use Rattle.pfair_handle.specs.Kept.{Kept}
 use Rattle.pfair_state.specs.declared.fault.ReadFault.TheVariants as fault
-use Rattle.pfair_file.specs.declared.input.TheConstants.{LONGEST_FILE}
-use Rattle.pfair_c.specs.declared.answer.TheConstants.{DONE, FILE_TOO_LONG, MEMORY, OPEN_ALREADY, OUT_OF_RANGE}
+use Rattle.pfair_c.specs.declared.answer.TheConstants.{DONE, MEMORY}
 use Rattle.pfair_c.specs.declared.resume.PfairStateFault.{PfairStateFault}
-use Rattle.pfair_c.specs.State.{IsBegunBy, IsResumeAnswer, IsResumedFrom, IsRunnable, state_fault_row}
+use Rattle.pfair_c.specs.State.{IsBegunBy, IsResumedFrom}
 
 pub none_kept : (k : Kept) → is_kept k ≡ false → k ≡ None
 none_kept None e = refl

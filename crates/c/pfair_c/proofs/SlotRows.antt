@@ -1,12 +1,11 @@
 -- The quanta of several slots, row by row and slot by slot.
-use Rattle.std.proofs.Common.{◌≡◌, ◌+◌, ◌-◌, ℕ, zero, suc, ◌<◌, ◌≤◌, ◌++◌, ◌∷◌, List, length, min, take, drop, set, get_or, slice_get, ap, refl, arith, ◌∙◌, append_assoc, sym, []}
-use Rattle.std.proofs.lemmas.List.{drop-drop, length-append}
+use Rattle.pfair_c.proofs.Common.{◌≡◌, ◌+◌, ◌-◌, ℕ, zero, suc, ◌<◌, ◌≤◌, ◌++◌, ◌∷◌, List, length, min, take, drop, set, get_or, slice_get, ap, refl, arith, ◌∙◌, append_assoc, sym, [], length-append, Table, PfairQuantum, quanta_at, quanta_in, rows_of, slot_of, written_over}
+use Rattle.std.proofs.lemmas.List.{drop-drop}
 use Rattle.pfair_table.specs.declared.slot.Pick.{Pick}
-use Rattle.pfair_table.specs.Table.{Origin, Table}
-use Rattle.pfair_c.specs.declared.quanta.PfairQuantum.{PfairQuantum}
+use Rattle.pfair_table.specs.Table.{Origin}
 use Rattle.std.proofs.Math.Seq.{take-length, take-append_seam, drop-append_seam}
 use Rattle.pfair_table.specs.Places.{places_in}
-use Rattle.pfair_c.specs.Rows.{quantum_row, quanta_at, quanta_in, rows_of, slot_of, written_over}
+use Rattle.pfair_c.specs.Rows.{quantum_row}
 
 -- a slot has a quantum for each row of its table
 pub as-many : (places : List ℕ) (slot k : ℕ) (table : Table) → length (quanta_in places slot k table) ≡ length table

@@ -1,11 +1,11 @@
 -- One entry more of a log is taken.
-use Rattle.std.proofs.Common.{◌≡◌, ◌∙◌, ◌+◌, ℕ, zero, suc, ◌<◌, ◌∷◌, [], List, Bool, true, false, length, take, get_or, ap, sym, refl, subst, true≢false, arith, if◌then◌else◌, slice_get}
+use Rattle.pfair_c.proofs.Common.{◌≡◌, ◌∙◌, ◌+◌, ℕ, zero, suc, ◌<◌, ◌∷◌, [], List, false, length, take, get_or, ap, sym, refl, subst, true≢false, arith, slice_get, none-some, get_or_from_slice_get, Replica, all_taken, untaken, AreOfLog}
+use Rattle.std.proofs.Common.{Bool, true, if◌then◌else◌}
 use Rattle.pfair_lattice.specs.declared.join_map.Flat.TheVariants.{One, Torn as TornContent}
 use Rattle.std.specs.declared.option.Option.TheVariants.{None, Some}
 use Rattle.pfair_lattice.specs.Held.{Held}
-use Rattle.std.proofs.lemmas.Option.{none-some, get_or_from_slice_get}
 use Rattle.pfair_entry.specs.Entry.{Logged}
-use Rattle.pfair_replica.specs.Replica.{Replica, with_entry}
+use Rattle.pfair_replica.specs.Replica.{with_entry}
 use Rattle.pfair_replica.specs.ReplicaRows.{ReplicaRows}
 use Rattle.pfair_replica.specs.Offered.{has_key, taken}
 use Rattle.pfair_replica.specs.Faults.{IsTakenAs}
@@ -14,7 +14,7 @@ use Rattle.pfair_replica.specs.declared.answer.Taken.TheVariants.{New, Known, To
 use Rattle.pfair_c.specs.Entries.{logged_of, IsMeant}
 use Rattle.pfair_c.specs.declared.entry.PfairEntry.{PfairEntry}
 use Rattle.pfair_c.specs.declared.take.PfairTakenLog.{PfairTakenLog}
-use Rattle.pfair_c.specs.Taking.{met, one_more, Taking, one_taken, all_taken, untaken, AreOfLog, IsRefusal, IsRefusedAt}
+use Rattle.pfair_c.specs.Taking.{met, one_more, Taking, one_taken, IsRefusal, IsRefusedAt}
 use Rattle.pfair_entry.specs.Exact.{entry_exact}
 
 -- ---- keys are those of the shape, which stays

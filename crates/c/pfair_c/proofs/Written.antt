@@ -1,10 +1,8 @@
 -- One row more is written over the first of those that were there.
-use Rattle.std.proofs.Common.{◌≡◌, ◌∙◌, ◌+◌, ℕ, zero, suc, ◌<◌, ◌≤◌, List, [], ◌∷◌, ◌++◌, Some, map, refl, take, drop, set, slice_get, length, get_or, ap, arith, sym}
-use Rattle.std.proofs.lemmas.Option.{get_or_from_slice_get}
+use Rattle.pfair_c.proofs.Common.{◌≡◌, ◌∙◌, ◌+◌, ℕ, zero, suc, ◌<◌, ◌≤◌, List, [], ◌∷◌, ◌++◌, Some, map, refl, take, drop, set, slice_get, length, get_or, ap, arith, sym, get_or_from_slice_get, windows_of, written_over, first_left}
 use Rattle.pfair_weight.specs.Share.{Share}
 use Rattle.pfair_c.specs.declared.window.PfairWindow.{PfairWindow}
-use Rattle.pfair_c.specs.Rows.{window_row, windows_of, written_over}
-use Rattle.pfair_text.proofs.RowFacts.{first_left}
+use Rattle.pfair_c.specs.Rows.{window_row}
 
 pub one-more-at : {A B : Type 0} (f : A → B) (xs : List A) (rows : List B) (i : ℕ) (d : A)
     → i < length xs → length xs ≤ length rows

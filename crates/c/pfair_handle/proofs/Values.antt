@@ -1,20 +1,12 @@
 -- The machine values of a `Loose`. Assumes `Logic`.
-use Rattle.std.proofs.Common.{◌≡◌, ℕ, List, [], ◌∷◌, ◌++◌, refl, subst}
-use Rattle.pfair_handle.proofs.Common.{impl, tnil, dnil, Val, vptr, vstruct, vcons, vnil, of_list, has_ty, WT, never, fst∗, Logic, sem, Item, Goal, Seq, Step, step, ‵, ◌$◌, move, drop, fsplit, fjoin, fpick, fpack, feq_i, feq_l, RattleType, Valss, Ptr, block_ptr, null_ptr, ptr_val, in_a_block, nothing, Al, handle_tells}
+use Rattle.std.proofs.Common.{ℕ}
+use Rattle.pfair_handle.proofs.Common.{impl, tnil, dnil, Val, vptr, vstruct, vcons, vnil, of_list, has_ty, WT, never, fst∗, Logic, sem, Item, Goal, Seq, Step, step, ‵, ◌$◌, move, drop, fsplit, fjoin, fpick, fpack, feq_i, feq_l, RattleType, Valss, Ptr, block_ptr, null_ptr, ptr_val, in_a_block, nothing, Al, handle_tells, ◌≡◌, List, [], ◌∷◌, ◌++◌, refl, subst, bare, RawPtr, layout, within, shape, Good, box_owns, and_tt}
 use mathlib.Core.Bool.{true, ◌&&◌}
 use lib.Dec.{T}
 use seplogic.Ra.Ura.{Ura}
-use mir.Raw.{raw as bare}
-use denote.Builtin.{RawPtr}
 use denote.Memory.{lone}
-use denote.Param.{layout}
 use denote.Param.Laws.{Laws}
-use denote.Struct.Struct.{within}
-use denote.Struct.Owning.{shape}
 use Rattle.core.specs.declared.alloc.Allocator.{Ghosts}
-use Rattle.core.proofs.cell.Inside.{Good}
-use Rattle.std_alloc.specs.Box.Ownership.{box_owns}
-use Rattle.std_alloc.proofs.ResultValues.{and_tt}
 use Rattle.pfair_handle.specs.contracts.owner.Loose as loose
 
 abbrev pub both : Val → Val → Val

@@ -1,8 +1,5 @@
-use Rattle.std.proofs.Common.{◌+◌, ◌-◌, List, ℕ, length, arith, refl, sym}
-use Rattle.std.proofs.lemmas.List.{length-map}
-use Rattle.pfair_c.specs.Rows.{decisions_at, decision_row, rows_of, slot_of}
+use Rattle.pfair_c.proofs.Common.{◌+◌, ◌-◌, List, ℕ, length, arith, refl, sym, length-map, decisions_at, decision_row, rows_of, slot_of, Decided}
 use Rattle.pfair_c.specs.declared.decisions.PfairDecision.{PfairDecision}
-use Rattle.pfair_table.specs.declared.slot.Decided.{Decided}
 use Rattle.pfair_c.proofs.SlotRows.{counted-within, slot-counted, written-further}
 use Rattle.pfair_c.proofs.decisions.write_decisions.Goals as goal
 

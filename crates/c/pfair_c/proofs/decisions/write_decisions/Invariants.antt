@@ -1,5 +1,4 @@
-use Rattle.std.proofs.Common.{◌≡◌, ◌-◌, ◌≤◌, length, min}
-use Rattle.pfair_c.specs.Rows.{decisions_at, rows_of, written_over}
+use Rattle.pfair_c.proofs.Common.{◌≡◌, ◌-◌, ◌≤◌, length, min, decisions_at, rows_of, written_over}
 use Rattle.pfair_c.proofs.decisions.write_decisions.Given as goal
 
 abbrev pub invariant-loop-slot : goal.invariant-loop-slot

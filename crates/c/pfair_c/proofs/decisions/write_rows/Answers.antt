@@ -1,5 +1,4 @@
-use Rattle.std.proofs.Common.{add-one}
-use Rattle.pfair_c.specs.Rows.{decision_row}
+use Rattle.pfair_c.proofs.Common.{add-one, decision_row}
 use Rattle.pfair_c.proofs.Written.{one-more}
 use Rattle.pfair_c.proofs.decisions.write_rows.Goals as goal
 

@@ -1,5 +1,4 @@
-use Rattle.std.proofs.Common.{◌≡◌, ◌++◌, map, take, drop}
-use Rattle.pfair_c.specs.Rows.{decision_row}
+use Rattle.pfair_c.proofs.Common.{◌≡◌, ◌++◌, map, take, drop, decision_row}
 use Rattle.pfair_c.proofs.decisions.write_rows.Given as goal
 
 abbrev pub invariant-loop-row : goal.invariant-loop-row

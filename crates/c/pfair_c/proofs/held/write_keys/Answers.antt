@@ -1,5 +1,4 @@
-use Rattle.std.proofs.Common.{add-one}
-use Rattle.pfair_c.specs.Rows.{key_row}
+use Rattle.pfair_c.proofs.Common.{add-one, key_row}
 use Rattle.pfair_c.proofs.Written.{one-more-at}
 use Rattle.pfair_c.proofs.held.write_keys.Goals as goal
 

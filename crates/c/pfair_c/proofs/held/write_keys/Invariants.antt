@@ -1,5 +1,4 @@
-use Rattle.std.proofs.Common.{◌≡◌, ◌++◌, map, take, drop}
-use Rattle.pfair_c.specs.Rows.{key_row}
+use Rattle.pfair_c.proofs.Common.{◌≡◌, ◌++◌, map, take, drop, key_row}
 use Rattle.pfair_c.proofs.held.write_keys.Given as goal
 
 abbrev pub invariant-loop-place : goal.invariant-loop-place

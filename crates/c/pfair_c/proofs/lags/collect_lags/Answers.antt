@@ -1,11 +1,5 @@
-use Rattle.std.proofs.Common.{◌+◌, ◌-◌, ◌<◌, List, length, ap, arith, rules, sym, ◌∙◌}
-use Rattle.std.proofs.lemmas.List.{length-map}
-use Rattle.pfair_lag.specs.Book.{Book}
-use Rattle.pfair_output.proofs.BookFacts.{first_time}
-use Rattle.pfair_table.specs.Refinement.{Dispatch}
+use Rattle.pfair_c.proofs.Common.{◌+◌, ◌-◌, ◌<◌, List, length, ap, arith, rules, sym, ◌∙◌, length-map, Book, first_time, Dispatch, book_rows, lag_row, lags_at, rows_of}
 use Rattle.pfair_c.specs.declared.lags.PfairLag.{PfairLag}
-use Rattle.pfair_c.specs.Lags.{book_rows, lag_row, lags_at}
-use Rattle.pfair_c.specs.Rows.{rows_of}
 use Rattle.pfair_c.proofs.LagFacts.{as-many-more, book_time, booked_first, next_booked, one-more-slot, pushed}
 use Rattle.pfair_c.proofs.SlotRows.{counted-within}
 use Rattle.pfair_c.proofs.lags.collect_lags.Goals as goal

@@ -1,6 +1,4 @@
-use Rattle.std.proofs.Common.{◌≡◌, ◌-◌, ◌≤◌, length, min}
-use Rattle.pfair_c.specs.Rows.{rows_of}
-use Rattle.pfair_c.specs.Lags.{book_after, lags_at}
+use Rattle.pfair_c.proofs.Common.{◌≡◌, ◌-◌, ◌≤◌, length, min, rows_of, book_after, lags_at}
 use Rattle.pfair_c.proofs.lags.collect_lags.Given as goal
 
 abbrev pub invariant-loop-slot : goal.invariant-loop-slot

@@ -1,5 +1,4 @@
-use Rattle.std.proofs.Common.{◌<◌, length, arith}
-use Rattle.pfair_c.specs.Lags.{lag_row}
+use Rattle.pfair_c.proofs.Common.{◌<◌, length, arith, lag_row}
 use Rattle.pfair_c.proofs.LagFacts.{one-appended}
 use Rattle.pfair_c.proofs.lags.push_lags.Goals as goal
 

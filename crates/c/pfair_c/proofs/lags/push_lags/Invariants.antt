@@ -1,5 +1,4 @@
-use Rattle.std.proofs.Common.{◌≡◌, ◌++◌, map, take}
-use Rattle.pfair_c.specs.Lags.{lag_row}
+use Rattle.pfair_c.proofs.Common.{◌≡◌, ◌++◌, map, take, lag_row}
 use Rattle.pfair_c.proofs.lags.push_lags.Given as goal
 
 abbrev pub invariant-loop-place : goal.invariant-loop-place

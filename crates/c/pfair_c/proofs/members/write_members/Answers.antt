@@ -1,5 +1,4 @@
-use Rattle.std.proofs.Common.{◌<◌, length, arith}
-use Rattle.pfair_c.specs.Members.{member_row}
+use Rattle.pfair_c.proofs.Common.{◌<◌, length, arith, member_row}
 use Rattle.pfair_c.proofs.Written.{one-found-more}
 use Rattle.pfair_c.proofs.members.write_members.Goals as goal
 

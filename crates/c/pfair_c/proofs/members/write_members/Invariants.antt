@@ -1,5 +1,4 @@
-use Rattle.std.proofs.Common.{◌≡◌, ◌++◌, map, take, drop}
-use Rattle.pfair_c.specs.Members.{member_row}
+use Rattle.pfair_c.proofs.Common.{◌≡◌, ◌++◌, map, take, drop, member_row}
 use Rattle.pfair_c.proofs.members.write_members.Given as goal
 
 abbrev pub invariant-loop-place : goal.invariant-loop-place

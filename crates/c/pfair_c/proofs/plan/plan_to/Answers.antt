@@ -1,4 +1,4 @@
-use Rattle.std.proofs.Common.{rules}
+use Rattle.pfair_c.proofs.Common.{rules}
 use Rattle.pfair_c.proofs.Onward.{one-more-plan}
 use Rattle.pfair_c.proofs.plan.plan_to.Goals as goal
 

@@ -1,5 +1,4 @@
-use Rattle.std.proofs.Common.{◌-◌, length}
-use Rattle.pfair_c.specs.Planning.{IsPlannedOn}
+use Rattle.pfair_c.proofs.Common.{◌-◌, length, IsPlannedOn}
 use Rattle.pfair_c.proofs.plan.plan_to.Given as goal
 
 abbrev pub invariant-slots : goal.invariant-slots

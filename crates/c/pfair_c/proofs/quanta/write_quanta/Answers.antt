@@ -1,7 +1,4 @@
-use Rattle.std.proofs.Common.{◌∙◌, List, ℕ, arith, sym, length}
-use Rattle.pfair_c.specs.Rows.{quanta_at, slot_of}
-use Rattle.pfair_c.specs.declared.quanta.PfairQuantum.{PfairQuantum}
-use Rattle.pfair_table.specs.Table.{Table}
+use Rattle.pfair_c.proofs.Common.{◌∙◌, List, ℕ, arith, sym, length, quanta_at, slot_of, PfairQuantum, Table}
 use Rattle.pfair_c.proofs.SlotRows.{as-many-at, slot-counted, written-further}
 use Rattle.pfair_c.proofs.quanta.write_quanta.Goals as goal
 

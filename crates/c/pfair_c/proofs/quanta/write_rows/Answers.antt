@@ -1,4 +1,4 @@
-use Rattle.std.proofs.Common.{rules, arith, add-one}
+use Rattle.pfair_c.proofs.Common.{rules, arith, add-one}
 use Rattle.pfair_c.proofs.SlotRows.{one-quantum-more, all-written}
 use Rattle.pfair_c.proofs.quanta.write_rows.Goals as goal
 

@@ -1,5 +1,4 @@
-use Rattle.std.proofs.Common.{◌≡◌, ◌++◌, take, drop}
-use Rattle.pfair_c.specs.Rows.{quanta_in}
+use Rattle.pfair_c.proofs.Common.{◌≡◌, ◌++◌, take, drop, quanta_in}
 use Rattle.pfair_c.proofs.quanta.write_rows.Given as goal
 
 abbrev pub invariant-loop-row : goal.invariant-loop-row

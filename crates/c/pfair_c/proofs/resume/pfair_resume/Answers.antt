@@ -1,7 +1,4 @@
-use Rattle.std.proofs.Common.{◌≡◌, ◌∙◌, sym, subst, refl, arith, rules, false, ℕ, ◌≤◌, length}
-use Rattle.pfair_file.specs.declared.input.TheConstants.{LONGEST_FILE}
-use Rattle.pfair_handle.specs.Kept.{is_kept}
-use Rattle.pfair_c.specs.State.{IsResumeAnswer, IsRunnable}
+use Rattle.pfair_c.proofs.Common.{◌≡◌, ◌∙◌, sym, subst, refl, arith, rules, false, ℕ, ◌≤◌, length, LONGEST_FILE, is_kept, IsResumeAnswer, IsRunnable}
 use Rattle.pfair_c.proofs.Resumed.{put_resumed, not_resumed}
 use Rattle.pfair_c.proofs.resume.pfair_resume.Goals as goal
 

@@ -1,5 +1,4 @@
-use Rattle.std.proofs.Common.{add-one}
-use Rattle.pfair_c.specs.Rows.{pick_row}
+use Rattle.pfair_c.proofs.Common.{add-one, pick_row}
 use Rattle.pfair_c.proofs.Written.{one-more}
 use Rattle.pfair_c.proofs.table.write_table.Goals as goal
 

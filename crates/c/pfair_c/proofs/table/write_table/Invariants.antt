@@ -1,5 +1,4 @@
-use Rattle.std.proofs.Common.{◌≡◌, ◌++◌, map, take, drop}
-use Rattle.pfair_c.specs.Rows.{pick_row}
+use Rattle.pfair_c.proofs.Common.{◌≡◌, ◌++◌, map, take, drop, pick_row}
 use Rattle.pfair_c.proofs.table.write_table.Given as goal
 
 abbrev pub invariant-loop-place : goal.invariant-loop-place

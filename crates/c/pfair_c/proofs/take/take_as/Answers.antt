@@ -1,4 +1,4 @@
-use Rattle.std.proofs.Common.{◌≡◌, refl, arith}
+use Rattle.pfair_c.proofs.Common.{◌≡◌, refl, arith}
 use Rattle.pfair_c.proofs.take.take_as.Goals as goal
 
 pub returns-in-Err-clause-answer : goal.returns-in-Err-clause-answer

@@ -1,6 +1,4 @@
-use Rattle.std.proofs.Common.{rules, ◌≡◌, ◌<◌, ◌+◌, length, arith}
-use Rattle.pfair_replica.specs.ReplicaRows.{replica_of}
-use Rattle.pfair_replica.specs.Replica.{Replica}
+use Rattle.pfair_c.proofs.Common.{rules, ◌≡◌, ◌<◌, ◌+◌, length, arith, replica_of, Replica}
 use Rattle.pfair_c.proofs.TakingFacts.{next-taking, next-of-log, same-key, counted-more, refused-at}
 use Rattle.pfair_c.proofs.take.take_log.Goals as goal
 

@@ -1,6 +1,4 @@
-use Rattle.std.proofs.Common.{◌≡◌, ◌+◌, take}
-use Rattle.pfair_replica.specs.ReplicaRows.{replica_of}
-use Rattle.pfair_c.specs.Taking.{AreOfLog, all_taken, untaken}
+use Rattle.pfair_c.proofs.Common.{◌≡◌, ◌+◌, take, replica_of, AreOfLog, all_taken, untaken}
 use Rattle.pfair_c.proofs.take.take_log.Given as goal
 
 -- the first entries are taken and counted, and stand under the first numbers

@@ -1,4 +1,4 @@
-use Rattle.std.proofs.Common.{arith}
+use Rattle.pfair_c.proofs.Common.{arith}
 use Rattle.pfair_c.proofs.TakingFacts.{met-is}
 use Rattle.pfair_c.proofs.take.take_one.Goals as goal
 

@@ -1,4 +1,4 @@
-use Rattle.std.proofs.Common.{◌≡◌, rules, arith, add-one}
+use Rattle.pfair_c.proofs.Common.{◌≡◌, rules, arith, add-one}
 use Rattle.pfair_c.proofs.Written.{one-window-more, all-windows}
 use Rattle.pfair_c.proofs.window.pfair_windows.Goals as goal
 

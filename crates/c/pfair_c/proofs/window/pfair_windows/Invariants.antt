@@ -1,5 +1,4 @@
-use Rattle.std.proofs.Common.{◌≡◌, ◌++◌, drop}
-use Rattle.pfair_c.specs.Rows.{windows_of}
+use Rattle.pfair_c.proofs.Common.{◌≡◌, ◌++◌, drop, windows_of}
 use Rattle.pfair_c.proofs.window.pfair_windows.Given as goal
 
 abbrev pub invariant-loop-place : goal.invariant-loop-place

@@ -1,4 +1,4 @@
-use Rattle.std.proofs.Common.{◌∙◌, sym, true≢false}
+use Rattle.pfair_handle.proofs.Common.{◌∙◌, sym, true≢false}
 use Rattle.pfair_handle.proofs.Handle.le.Goals as goal
 
 pub returns-clause-below : goal.returns-clause-below

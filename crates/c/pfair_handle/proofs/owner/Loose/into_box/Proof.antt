@@ -1,17 +1,10 @@
 -- `into_box` makes the box again.
-use Rattle.std.proofs.Common.{◌≡◌, List, [], ◌∷◌, ◌++◌, refl, sym, ap, subst}
-use Rattle.pfair_handle.proofs.Common.{a_type, dcons, dnil, Val, vptr, SProp, ent, id⊢, ftrue, flft, WpFn, ‵, raw, ◌⊛◌, some, later, at_ret, ◌$◌, ◌∵◌, !, qed, by, move, keep, drop, split, split3, join, fsplit, fjoin, pick, suffices, use1, await, rewrite, feq_i, stop, fld, of_opd, no_more, and_then, first, blocks, exec, returns, enter, alloc_all, pass_all, free_all, look_at, get, get_in, sets, lands_last, env, sub, whole, fact, tables, no, RattleType, owns, types_at, plain, block_ptr, nothing, only, triple_of, Stays, stay_dropped, walk_of, Goes-blank, box_out, box_in}
-use mir.MapTy.{inst_fn}
+use Rattle.pfair_handle.proofs.Common.{a_type, dcons, dnil, Val, vptr, SProp, ent, id⊢, ftrue, flft, WpFn, ‵, raw, ◌⊛◌, some, later, at_ret, ◌$◌, ◌∵◌, !, qed, by, move, keep, drop, split, split3, join, fsplit, fjoin, pick, suffices, use1, await, rewrite, feq_i, stop, fld, of_opd, no_more, and_then, first, blocks, exec, returns, enter, alloc_all, pass_all, free_all, look_at, get, get_in, sets, lands_last, env, sub, whole, fact, tables, no, RattleType, owns, types_at, plain, block_ptr, nothing, only, triple_of, Stays, stay_dropped, walk_of, Goes-blank, box_out, box_in, ◌≡◌, List, [], ◌∷◌, ◌++◌, refl, sym, ap, subst, inst_fn, param, layout, bounded, param_laws, fm, Good, proved_at, leaves}
 use contract.BorrowLft.{◌⊑◌}
-use denote.Param.{param, layout, bounded}
-use denote.Param.Laws.{param_laws}
 use denote.Triple.Clauses.{Lasts, lasts}
 use denote.Triple.Call.{calls_at_last}
 use Rattle.core.proofs.alloc.Shapes.{after}
-use Rattle.core.proofs.atomic.Steps.{fm}
-use Rattle.core.proofs.cell.Inside.{Good}
 use Rattle.std_alloc.proofs.BoxSteps.Form as box
-use Rattle.std.proofs.raw_atomic.Walks.{proved_at, leaves}
 use Rattle.pfair_handle.proofs.Values.{both, Loose, loose_good, loose_out}
 use Rattle.std_alloc.specs.contracts.boxed.Box.from_raw as callee
 use Rattle.std_alloc.proofs.boxed.Box.from_raw.Met.{met}

@@ -1,17 +1,8 @@
 -- `of` takes the box apart.
-use Rattle.std.proofs.Common.{◌≡◌, List, [], ◌∷◌, ◌++◌, refl, sym, ap, ◌∙◌, subst}
-use Rattle.pfair_handle.proofs.Common.{a_type, dcons, dnil, Val, vptr, vstruct, of_list, SProp, ent, emp, never, id⊢, fst∗, ftrue, fsep, flft, WpFn, sem, ‵, raw, ◌⊛◌, some, later, ◌$◌, ◌∵◌, !, qed, by, move, keep, drop, split, split3, join, fsplit, fjoin, fpick, pick, suffices, use0, use1, await, rewrite, feq_l, stop, fld, of_opd, no_more, and_then, returns, enter, alloc_all, pass_all, free_all, look_at, get, get_in, sets, lands_as, agg, sub, whole, fact, fact_i, tables, no, RattleType, owns, types_at, plain, Ptr, block_ptr, null_ptr, ptr_val, in_a_block, nothing, only, heard, triple_of, Stays, stay_dropped, walk_of, Goes-blank, handle_tells, box_out, box_in}
-use mir.Raw.{raw as bare}
-use mir.MapTy.{inst_fn}
-use denote.Builtin.{RawPtr}
-use denote.Param.{param, layout, bounded}
-use denote.Param.Laws.{param_laws}
+use Rattle.pfair_handle.proofs.Common.{a_type, dcons, dnil, Val, vptr, vstruct, of_list, SProp, ent, emp, never, id⊢, fst∗, ftrue, fsep, flft, WpFn, sem, ‵, raw, ◌⊛◌, some, later, ◌$◌, ◌∵◌, !, qed, by, move, keep, drop, split, split3, join, fsplit, fjoin, fpick, pick, suffices, use0, use1, await, rewrite, feq_l, stop, fld, of_opd, no_more, and_then, returns, enter, alloc_all, pass_all, free_all, look_at, get, get_in, sets, lands_as, agg, sub, whole, fact, fact_i, tables, no, RattleType, owns, types_at, plain, Ptr, block_ptr, null_ptr, ptr_val, in_a_block, nothing, only, heard, triple_of, Stays, stay_dropped, walk_of, Goes-blank, handle_tells, box_out, box_in, ◌≡◌, List, [], ◌∷◌, ◌++◌, refl, sym, ap, ◌∙◌, subst, bare, inst_fn, RawPtr, param, layout, bounded, param_laws, fm, box_owns, proved_at, leaves}
 use denote.Struct.Tuple.{Tuple}
 use denote.Triple.Call.{calls_at}
-use Rattle.core.proofs.atomic.Steps.{fm}
-use Rattle.std_alloc.specs.Box.Ownership.{box_owns}
 use Rattle.std_alloc.proofs.BoxSteps.Form as box
-use Rattle.std.proofs.raw_atomic.Walks.{proved_at, leaves}
 use Rattle.pfair_handle.proofs.Values.{both, loose_good, loose_in}
 use Rattle.std_alloc.specs.contracts.boxed.Box.into_raw_with_allocator as callee
 use Rattle.std_alloc.proofs.boxed.Box.into_raw_with_allocator.Met.{met}

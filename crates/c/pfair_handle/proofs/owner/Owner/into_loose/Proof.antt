@@ -1,13 +1,10 @@
 -- `into_loose` moves two fields, and what they own goes with them.
 use mathlib.Core.Path.{refl, sym, subst}
 use mathlib.Core.List.{List, [], ◌∷◌, ◌++◌}
-use Rattle.pfair_handle.proofs.Common.{Val, ent, id⊢, ftrue, fsep, WpFn, fact, tables, Item, ‵, raw, ◌⊛◌, ◌$◌, ◌∵◌, !, qed, by, move, drop, use1, join, split, fsplit, fjoin, suffices, done, rewrite, whole, sub, agg, stop, fld, no_more, and_then, of_opd, returns, enter, alloc_all, pass_all, free_all, look_at, get, get_in, sets, yes, heard, nothing, type_at, says, Stays, stay_dropped, walk_of, ends_at, Goes-dropped, box_out, box_in}
+use Rattle.pfair_handle.proofs.Common.{Val, ent, id⊢, ftrue, fsep, WpFn, fact, tables, Item, ‵, raw, ◌⊛◌, ◌$◌, ◌∵◌, !, qed, by, move, drop, use1, join, split, fsplit, fjoin, suffices, done, rewrite, whole, sub, agg, stop, fld, no_more, and_then, of_opd, returns, enter, alloc_all, pass_all, free_all, look_at, get, get_in, sets, yes, heard, nothing, type_at, says, Stays, stay_dropped, walk_of, ends_at, Goes-dropped, box_out, box_in, Kept, is_kept, proved_at, D, B, word, box_typed}
 use Rattle.std.specs.Prelude.{◌≡◌, true}
-use Rattle.pfair_handle.specs.Kept.{Kept, is_kept}
 use Rattle.pfair_handle.proofs.Found.{some_of}
 use Rattle.pfair_handle.specs.contracts.owner.Owner.{the_row as From-row}
-use Rattle.std.proofs.raw_atomic.Walks.{proved_at}
-use Rattle.std_alloc.proofs.BoxSteps.Form.{D, B, word, box_typed}
 use Rattle.pfair_handle.proofs.AsBox.{E, FromOwner as From}
 use Rattle.pfair_handle.specs.contracts.owner.Owner.into_loose as F
 use Rattle.pfair_handle.specs.contracts.owner.Owner.into_loose.Key.{name as #self}

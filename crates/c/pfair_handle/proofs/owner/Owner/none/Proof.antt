@@ -1,12 +1,8 @@
 -- `none` owns nothing but its handle of the heap.
-use Rattle.std.proofs.Common.{List, [], ◌∷◌, ◌++◌, refl, sym, subst, lit<, w64}
-use Rattle.pfair_handle.proofs.Common.{Val, vint, ent, emp, ftrue, fsep, WpFn, Item, ‵, raw, ◌⊛◌, ◌$◌, ◌∵◌, !, qed, by, move, drop, join, split, fsplit, fjoin, fpack, feq_i, suffices, done, lit, no_more, and_then, returns, enter, agg, alloc_all, pass_all, free_all, look_at, get, sets, tables, yes, RattleType, Valss, null_ptr, ptr_val, nothing, says, Stays, stay_dropped, walk_of, ends_at, Goes-dropped, handle_tells}
-use denote.Struct.Struct.{within}
-use denote.Struct.Owning.{shape, to}
-use Rattle.std.proofs.raw_atomic.Walks.{proved_at}
-use Rattle.std.specs.declared.option.Option.TheVariants.{None}
+use Rattle.std.proofs.Common.{lit<, w64}
+use Rattle.pfair_handle.proofs.Common.{Val, vint, ent, emp, ftrue, fsep, WpFn, Item, ‵, raw, ◌⊛◌, ◌$◌, ◌∵◌, !, qed, by, move, drop, join, split, fsplit, fjoin, fpack, feq_i, suffices, done, lit, no_more, and_then, returns, enter, agg, alloc_all, pass_all, free_all, look_at, get, sets, tables, yes, RattleType, Valss, null_ptr, ptr_val, nothing, says, Stays, stay_dropped, walk_of, ends_at, Goes-dropped, handle_tells, List, [], ◌∷◌, ◌++◌, refl, sym, subst, within, shape, proved_at, None, and_tt}
+use denote.Struct.Owning.{to}
 use Rattle.std.specs.contracts.alloc.Global as Heap
-use Rattle.std_alloc.proofs.ResultValues.{and_tt}
 use Rattle.pfair_handle.proofs.AsBox.{E, FromHeap as From}
 use Rattle.pfair_handle.proofs.Values.{both}
 use Rattle.pfair_handle.specs.contracts.owner.Owner as Owner
