@@ -53,7 +53,7 @@ pub fn replay<R: Read, W: Write, G: Gate + Sync>(
         (R.remaining reader.old) (R.remaining reader.new) (W.contents writer.old) (W.contents writer.new) }
 {
     let rows = first_run(rt, alloc, reader, gate, ReplayRows::new(alloc)?)?;
-    let text = rows.finish()?;
+    let text = finish(rows.writer)?;
     Ok(send(writer, text.as_slice())?)
 }
 
@@ -103,29 +103,21 @@ fn first_run<R: Read, G: Gate + Sync, K: Sink + Send>(
     Ok(run_dispatchers_into::<HeapReady, G, K>(rt, alloc, &script, gate, sink)?)
 }
 
-/// Makes the rows of each table, and keeps no table.
+// Makes the rows of each table, and keeps no table.
 #[derive(Drop)]
-pub(crate) struct ReplayRows {
+struct ReplayRows {
     writer: Writer<Vec<u8>>,
 }
 
 impl ReplayRows {
-    /// The header.
-    pub(crate) fn new(alloc: Global) -> Result<ReplayRows, AllocError>
+    // The header.
+    fn new(alloc: Global) -> Result<ReplayRows, AllocError>
         ensures open { IfOk result (λ rows. IsOpen rows.writer) }
         ensures text { IfOk result (λ rows. text_so_far rows.writer ≡ replay_text []) }
     {
         let mut writer = new_text(alloc);
         add_replay_header(&mut writer)?;
         Ok(ReplayRows { writer })
-    }
-
-    /// The text.
-    pub(crate) fn finish(self) -> Result<Vec<u8>, AllocError>
-        requires { IsOpen self.writer }
-        ensures { IfOk result (λ text. text.items ≡ text_so_far self.writer) }
-    {
-        finish(self.writer)
     }
 }
 
