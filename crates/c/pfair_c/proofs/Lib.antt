@@ -1,7 +1,7 @@
+mod Common
 mod LagFacts
 mod Onward
 mod Resumed
 mod SlotRows
 mod TakingFacts
 mod Written
-pub mod Common
