@@ -143,8 +143,7 @@ pub(crate) fn run_into<R: Ready, G: Gate, K: Sink>(
 ) -> Result<K, RunFault>
     requires own { IsDeskOf desk.old board.now }
     requires room { desk.old.next_number + length log.now ≤ board.now.capacity + 1 }
-    requires processors { settings.processors ≡ board.now.processors }
-    requires empty { K.has sink desk.old.processor [] }
+    requires begins { (settings.processors ≡ board.now.processors) × K.has sink desk.old.processor [] }
     ensures grown { GrownDesk desk.old desk.new }
     ensures log { OnOk result (HasPublished desk.old desk.new log.now) }
     ensures plan { IfOk result (λ sink. K.has sink desk.old.processor (plan None settings (replica_of desk.new.replica))) }
