@@ -1,4 +1,6 @@
 //! Decisions as rows: slot, processor, number, task, outcome, value.
+#![tactic(auto, using(crate::proofs::PlainFields::plain_fields))]
+
 ghost use Rattle.std.specs.Prelude.{◌≡◌, ◌≤◌, ◌++◌, drop, map, OnOk, IsTrue};
 ghost use Rattle.pfair_text.specs.Rows.{IsOpen, is_plain, line, lines_text, text_so_far};
 ghost use Rattle.pfair_output.specs.Slots.{slots_from};

@@ -1,4 +1,6 @@
 //! Lags as rows: time, task, numerator, period; and the book of lags with which a run begins.
+#![tactic(auto, using(crate::proofs::PlainFields::plain_fields))]
+
 ghost use Rattle.std.specs.Prelude.{◌≡◌, ◌≤◌, ◌<◌, ◌-◌, ◌++◌, OnOk, List, Some, drop, slice_get, take, IfOk};
 ghost use Rattle.pfair_text.specs.Rows.{IsOpen, line, lines_text, text_so_far};
 ghost use Rattle.pfair_table.specs.declared.slot.Decided.{Decided};

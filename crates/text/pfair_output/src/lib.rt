@@ -1,5 +1,5 @@
 //! What the commands write of a run: its tables, its decisions and its lags, as rows of text.
-#![tactic(auto, using(crate::proofs::PlainFields::plain_fields))]
+#![tactic(auto)]
 
 mod decisions;
 mod lags;

@@ -1,6 +1,6 @@
 //! The state in which a run begins, as rows: written down, so that a process that ends can begin
 //! where it was, and that two machines can compare what they have.
-#![tactic(auto, using(crate::proofs::PlainFields::plain_fields))]
+#![tactic(auto)]
 
 mod fault;
 pub mod laws;

@@ -1,4 +1,6 @@
 //! The rows of a state.
+#![tactic(auto, using(crate::proofs::PlainFields::plain_fields))]
+
 ghost use Rattle.std.specs.Prelude.{◌≡◌, ◌<◌, ◌^◌, ◌++◌, min, length, IfOk, IfSome, IsTrue, OnOk};
 ghost use Rattle.std.specs.List.{AllByRecursion, flat_map};
 ghost use Rattle.pfair_text.specs.Rows.{IsOpen, is_plain, lines_text, text_so_far};
