@@ -1,5 +1,5 @@
 -- Parts of sound beginnings, and what stays of one when something comes into its row.
-use Rattle.pfair_replica.proofs.Common.{common_steps, cases_eq, append-nil, length_push, Flat, One, Torn, Held, HeldBelow, Logged, Beginning, goes_on, run_from, last_floor, IsRun, beginning_in, IsPart, IsRunBefore, IsLeftAt, ℕ, zero, suc, ◌+◌, ◌-◌, ◌<◌, ◌≤◌, ◌≡◌, refl, sym, ap, ◌∙◌, subst, arith, inl, inr, ⊎_elim, List, [], ◌∷◌, ◌++◌, length, Some, None, ◌⊎◌, ◌≢◌}
+use Rattle.pfair_replica.proofs.Common.{common_steps, cases_eq, append-nil, length_push, Flat, One, Torn, Held, HeldBelow, Logged, Beginning, run_from, last_floor, IsRun, beginning_in, IsPart, IsRunBefore, IsLeftAt, ℕ, zero, suc, ◌+◌, ◌-◌, ◌<◌, ◌≤◌, ◌≡◌, refl, sym, ap, ◌∙◌, subst, arith, inl, inr, ⊎_elim, List, [], ◌∷◌, ◌++◌, length, Some, None, ◌⊎◌, ◌≢◌}
 use Rattle.pfair_replica.proofs.Runs.{run_is_run, run_ends, run_more, run_begins, last_more}
 
 -- ---- runs
@@ -17,25 +17,32 @@ module _ (row : ℕ → Held Logged) where
       let more = shorter_run es j (suc n) e.floor (omega arith) run.2 in (e ∷ more.0, (run.0, run.1, more.1), ap suc more.2)
 
   -- a part with the entry that goes on it
-  pub part_more : (part : Beginning) (e : Logged) → IsPart row part → goes_on (row (part.count + 1)) part.mark ≡ Some e → IsPart row (record { count = part.count + 1; mark = e.floor })
-  part_more part e p on =
+  pub part_more : (part : Beginning) (e : Logged) → IsPart row part → row (part.count + 1) ≡ Some (One e) → part.mark ≤ e.floor → IsPart row (record { count = part.count + 1; mark = e.floor })
+  part_more part e p held on =
       let count = p.count in
+      let mark = p.mark in
       record {
         entries = p.entries ++ e ∷ [];
-        run = run_more row p.entries 1 0 (part.count + 1) e p.run (omega (arith, count)) (ap (goes_on (row (part.count + 1))) p.mark ∙ on);
+        run = run_more row p.entries 1 0 (part.count + 1) e p.run (omega (arith, count)) held (omega (arith, mark, on));
         count = length_push p.entries e ∙ ap (λ n. n + 1) count;
         mark = last_more p.entries 0 e;
       }
 
-  -- a part that fills the row, or on which no entry goes, is the whole
-  pub part_whole : (capacity : ℕ) (part : Beginning) → IsPart row part → part.count ≤ capacity → (capacity ≤ part.count) ⊎ (goes_on (row (part.count + 1)) part.mark ≡ None) → part ≡ beginning_in capacity row
-  part_whole capacity part p room ends =
-      let count = p.count in
-      let left = capacity - part.count in
-      let rest : run_from row left (part.count + 1) (last_floor 0 p.entries) ≡ [] = grind (arith, run_ends) in
-      let whole : p.entries ≡ run_from row capacity 1 0 =
-      sym (append-nil p.entries) ∙ ap (λ es. p.entries ++ es) (sym rest) ∙ run_begins row p.entries 1 0 left capacity (part.count + 1) p.run (omega (arith, count, room)) (omega (arith, count)) in
-      λ i. record { count = (sym p.count ∙ ap length whole) i; mark = (sym p.mark ∙ ap (last_floor 0) whole) i }
+  module _ (capacity : ℕ) (part : Beginning) (p : IsPart row part) (room : part.count ≤ capacity) where
+    whole_if : run_from row (capacity - part.count) (part.count + 1) (last_floor 0 p.entries) ≡ [] → part ≡ beginning_in capacity row
+    whole_if rest =
+        let count = p.count in
+        let whole : p.entries ≡ run_from row capacity 1 0 =
+        sym (append-nil p.entries) ∙ ap (λ es. p.entries ++ es) (sym rest) ∙ run_begins row p.entries 1 0 (capacity - part.count) capacity (part.count + 1) p.run (omega (arith, count, room)) (omega (arith, count)) in
+        λ i. record { count = (sym p.count ∙ ap length whole) i; mark = (sym p.mark ∙ ap (last_floor 0) whole) i }
+
+    -- a part that fills the row is the whole
+    pub part_full : capacity ≤ part.count → part ≡ beginning_in capacity row
+    part_full full = grind (arith, whole_if)
+
+    -- a part on which no entry goes is the whole
+    pub part_stops : ((e : Logged) → row (part.count + 1) ≡ Some (One e) → part.mark ≤ e.floor → ⊥) → part ≡ beginning_in capacity row
+    part_stops none = let mark = p.mark in whole_if (run_ends row (capacity - part.count) (part.count + 1) (last_floor 0 p.entries) (λ e held on. none e held (omega (arith, mark, on))))
 
   -- a run's entries are held
   pub run_entry : (es : List Logged) (n floor m : ℕ) → IsRun row n floor es → n ≤ m → m < n + length es → (e : Logged) × (row m ≡ Some (One e))

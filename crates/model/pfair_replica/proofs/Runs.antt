@@ -1,5 +1,5 @@
 -- The laws of the join; and runs: that a sound beginning is the longest one, and how runs go on.
-use Rattle.pfair_replica.proofs.Common.{leb-true, le-leb, none-some, cond_some, One, Held, below_itself, below_trans, below_antisym, join_first, join_second, join_least, join_comm, join_assoc, join_idem, Logged, entry_eq, entry_exact, goes_on, run_from, last_floor, IsLeastJoin, IsRun, IsLongestRun, ℕ, zero, suc, ◌+◌, ◌-◌, ◌≤◌, ◌≡◌, refl, ap, ◌∙◌, arith, List, [], ◌∷◌, ◌++◌, length, Some, None}
+use Rattle.pfair_replica.proofs.Common.{leb-true, le-leb, none-some, cond_some, One, Held, below_itself, below_trans, below_antisym, join_first, join_second, join_least, join_comm, join_assoc, join_idem, Logged, entry_eq, entry_exact, goes_on, run_from, last_floor, IsLeastJoin, IsRun, IsLongestRun, ℕ, zero, suc, ◌+◌, ◌-◌, ◌≤◌, ◌≡◌, refl, ap, ◌∙◌, arith, List, [], ◌∷◌, ◌++◌, length, Some}
 
 pub least_join : IsLeastJoin
 least_join = record {
@@ -29,13 +29,13 @@ module _ (row : ℕ → Held Logged) where
   run_room (suc left) n floor = grind (arith, run_room left (suc n))
 
   -- if no entry goes on, the run ends
-  pub run_ends : (left n floor : ℕ) → goes_on (row n) floor ≡ None → run_from row left n floor ≡ []
-  run_ends left n floor none = grind arith
+  pub run_ends : (left n floor : ℕ) → ((e : Logged) → row n ≡ Some (One e) → floor ≤ e.floor → ⊥) → run_from row left n floor ≡ []
+  run_ends left n floor none = grind (arith, going)
 
   -- one entry more
-  pub run_more : (es : List Logged) (n floor m : ℕ) (e : Logged) → IsRun row n floor es → m ≡ n + length es → goes_on (row m) (last_floor floor es) ≡ Some e → IsRun row n floor (es ++ e ∷ [])
-  run_more [] n floor m e run at on = let is = going (row m) floor e on in (ap row (let here : n ≡ m = omega arith in here) ∙ is.0, is.1, tt)
-  run_more (d ∷ es) n floor m e run at on = (run.0, run.1, run_more es (suc n) d.floor m e run.2 (omega (arith, at)) on)
+  pub run_more : (es : List Logged) (n floor m : ℕ) (e : Logged) → IsRun row n floor es → m ≡ n + length es → row m ≡ Some (One e) → last_floor floor es ≤ e.floor → IsRun row n floor (es ++ e ∷ [])
+  run_more [] n floor m e run at held on = (ap row (let here : n ≡ m = omega arith in here) ∙ held, on, tt)
+  run_more (d ∷ es) n floor m e run at held on = (run.0, run.1, run_more es (suc n) d.floor m e run.2 (omega (arith, at)) held on)
 
   -- a run that has room begins the longest one, which goes on from where it ends
   pub run_begins : (es : List Logged) (n floor left total m : ℕ) → IsRun row n floor es → total ≡ length es + left → m ≡ n + length es → es ++ run_from row left m (last_floor floor es) ≡ run_from row total n floor

@@ -7,9 +7,9 @@ ghost use Rattle.pfair_lattice.specs.Held.{held_join, HeldBelow};
 ghost use Rattle.pfair_lattice.specs.declared.join_map.Flat.TheVariants.{One};
 ghost use Rattle.pfair_entry.specs.Entry.{Logged, IsEntry};
 ghost use Rattle.pfair_entry.specs.Same.{entry_eq};
-ghost use Rattle.pfair_replica.specs.Replica.{only, goes_on};
+ghost use Rattle.pfair_replica.specs.Replica.{only};
 ghost use Rattle.pfair_replica.specs.ReplicaRows.{held_in, IsFull, AreEmptyRows};
-ghost use Rattle.pfair_replica.specs.Counters.{beginning_in, least_mark, total_count, IsPart, IsRunBefore, IsLeftAt, IsFirstTornIn, IsEarlier, IsTornAt, AreCounters, WereBefore, WereApart, ComesFirst};
+ghost use Rattle.pfair_replica.specs.Counters.{beginning_in, least_mark, total_count, IsPart, IsLeftAt, IsFirstTornIn, IsEarlier, IsTornAt, AreCounters, WereBefore, WereApart};
 
 use pfair_entry::Entry;
 use pfair_lattice::{Flat, Join, JoinMap};
@@ -218,54 +218,39 @@ fn all_of(beginnings: &[Beginning]) -> (u64, u64)
     (least, total)
 }
 
-// The entry that goes on a run with this last floor.
-fn going_on(rows: &Rows, processor: u8, number: u32, floor: u64) -> Option<Entry>
-    ensures { result ≡ goes_on (held_in rows.now processor number) floor }
-{
-    match held_at(rows, processor, number) {
-        Some(Flat::One(entry)) if floor <= entry.floor() => Some(entry),
-        _ => None,
-    }
-}
-
 // The whole sound beginning of a row, from a part of it on.
+#[tactic(auto, using(crate::proofs::Beginnings::part_more))]
 fn carried_on(rows: &Rows, capacity: u32, processor: u8, part: Beginning) -> Beginning
     requires part { IsPart (held_in rows.now processor) part }
     requires room { part.count ≤ capacity }
     ensures { result ≡ beginning_in capacity (held_in rows.now processor) }
 {
-    let mut mark = part.mark;
-    for count in part.count..capacity {
-        match going_on(rows, processor, count + 1, mark) {
-            Some(entry) => mark = entry.floor(),
-            None => return Beginning { count, mark },
+    let mut whole = part;
+    'entries: while whole.count < capacity {
+        match held_at(rows, processor, whole.count + 1) {
+            Some(Flat::One(entry)) if whole.mark <= entry.floor() => {
+                whole = Beginning {
+                    count: whole.count + 1,
+                    mark: entry.floor(),
+                };
+            }
+            _ => break,
         }
     }
-    Beginning {
-        count: capacity,
-        mark,
-    }
+    whole
 }
 
-// The part of a sound beginning that is left after something came at one key.
+// The part of a sound beginning that is left after something came at one key: all of it, or what
+// comes before the key if that is torn in it.
+#[tactic(auto, using(crate::proofs::Beginnings::part_to_entry, crate::proofs::Beginnings::part_to_none))]
 fn part_left(rows: &Rows, processor: u8, number: u32, before: Beginning) -> Beginning
     requires { IsLeftAt (held_in rows.now processor) number before }
     ensures part { IsPart (held_in rows.now processor) result }
     ensures shorter { result.count ≤ before.count }
 {
-    if number <= before.count && is_torn(rows, processor, number) {
-        part_before(rows, processor, number)
-    } else {
-        before
+    if number > before.count || !is_torn(rows, processor, number) {
+        return before;
     }
-}
-
-// The part of a sound beginning before an entry in it.
-fn part_before(rows: &Rows, processor: u8, number: u32) -> Beginning
-    requires { IsRunBefore (held_in rows.now processor) number }
-    ensures part { IsPart (held_in rows.now processor) result }
-    ensures count { result.count + 1 ≡ number }
-{
     let count = number - 1;
     let mark = match held_at(rows, processor, count) {
         Some(Flat::One(entry)) => entry.floor(),
@@ -300,16 +285,9 @@ fn earlier(first: Option<EntryKey>, other: Option<EntryKey>) -> Option<EntryKey>
 {
     match first {
         Some(key) => match other {
-            Some(next) if !comes_first(key, next) => other,
+            Some(next) if next < key => other,
             _ => first,
         },
         None => other,
     }
-}
-
-// Whether a key is the other or comes before it.
-fn comes_first(first: EntryKey, key: EntryKey) -> bool
-    ensures { IsTrue result ↔ ComesFirst first key.0 key.1 }
-{
-    first.0 < key.0 || (first.0 == key.0 && first.1 <= key.1)
 }
