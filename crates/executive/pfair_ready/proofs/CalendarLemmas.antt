@@ -1,5 +1,5 @@
 -- The lists of a calendar's near slots, and what moves out of them.
-use Rattle.std.proofs.Common.{slice_set, ◌-◌}
+use Rattle.std.proofs.Common.{slice_set}
 use Rattle.pfair_ready.proofs.Common.{cases_order, leb-true, leb-false, same_Some, slice_get_past, slice_get-get_or, Calendar, Date, in_bucket, under, HasTurn, IsAmong, IsNear, IsNoted, Keeps, Moves, IsHeap, KeepsHeap, heap_items, later_cmp, Reverse, Turn, ◌≡◌, ℕ, zero, suc, ◌+◌, ◌<◌, ◌≤◌, ◌⊎◌, inl, inr, List, [], ◌∷◌, Vec, Global, length, refl, sym, ap, subst, ◌∙◌, arith, Contains, slice_get, slice_index_or, ◌%◌}
 use Rattle.std.proofs.Math.Nat.{div-add-mod}
 use Rattle.pfair_ready.proofs.TurnLemmas.{keeps_both, kept_turn}

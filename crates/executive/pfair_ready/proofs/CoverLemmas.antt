@@ -1,6 +1,7 @@
 -- What waits is in the calendar, or has a turn.
 use Rattle.std.proofs.Common.{true≢false}
-use Rattle.pfair_ready.proofs.Common.{is_eq, eq_by_cmp, Equal-is, tied_itself, get-empty, get-insert, get-remove, same_map, none-some, same_Some, Key, Calendar, NameValue, name_cmp, Queue, HasTurn, IsCovered, IsNoted, Keeps, Moves, AreTurns, IsHeap, IsPermutation, KeepsTurns, Turn, heap_items, later_cmp, turn_of, ◌≡◌, ℕ, ◌≤◌, ◌⊎◌, inl, inr, Bool, true, false, cond, List, ◌∷◌, refl, sym, ap, subst, ◌∙◌, arith, Option, Some, None, is_some, IsTaskName}
+use Rattle.pfair_weight.specs.Options.{nothing}
+use Rattle.pfair_ready.proofs.Common.{is_eq, eq_by_cmp, Equal-is, tied_itself, get-empty, get-insert, get-remove, same_map, none-some, same_Some, Key, Calendar, NameValue, name_cmp, Queue, HasTurn, IsCovered, IsNoted, Keeps, Moves, AreTurns, IsHeap, IsPermutation, KeepsTurns, Turn, heap_items, later_cmp, turn_of, ◌≡◌, ℕ, ◌≤◌, ◌⊎◌, inl, inr, Bool, true, false, cond, List, ◌∷◌, refl, sym, ap, subst, ◌∙◌, arith, Option, Some, None, IsTaskName}
 use Rattle.std.specs.FinMap as finmap
 use Rattle.pfair_ready.proofs.HeapLemmas.{top_or_stays}
 use Rattle.pfair_ready.proofs.TurnLemmas.{kept_turn}
@@ -81,16 +82,13 @@ still_there held s q v at =
 pub covered_less : (now : ℕ) (held : Queue) (s : NameValue) (dates : Calendar) (turns : List Turn) → IsCovered now held dates turns → IsCovered now (finmap.remove held s) dates turns
 covered_less now held s dates turns c = grind (arith, still_there)
 
-none_at : {A : Type 0} (o : Option A) → is_some o ≡ false → o ≡ None
-none_at o e = grind (arith, true≢false)
-
 -- a key that was put where nothing waited, and taken out again
 pub put_back : (held : Queue) (s : NameValue) (v : ℕ × Key) → finmap.contains_key held s ≡ false → finmap.remove (finmap.insert held s v) s ≡ held
 put_back held s v vacant = same_map names_total names_exact _ _ (λ q.
     get-remove names_total (finmap.insert held s v) s q ∙ ap (λ o. cond (eq_by_cmp name_cmp q s) None o) (get-insert names_total held s v q) ∙ at q (eq_by_cmp name_cmp q s) refl)
   where
     at : (q : NameValue) (own : Bool) → eq_by_cmp name_cmp q s ≡ own → cond own None (cond own (Some v) (finmap.get held q)) ≡ finmap.get held q
-    at q true e = sym (ap (λ (n : NameValue). finmap.get held n) (names_exact q s ((Equal-is (name_cmp q s)).0 e)) ∙ none_at (finmap.get held s) vacant)
+    at q true e = sym (ap (λ (n : NameValue). finmap.get held n) (names_exact q s ((Equal-is (name_cmp q s)).0 e)) ∙ nothing (finmap.get held s) vacant)
     at q false e = refl
 
 -- a turn less, of a key that isn't due

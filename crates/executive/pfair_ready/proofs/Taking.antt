@@ -4,6 +4,7 @@ use Rattle.pfair_ready.proofs.Common.{AllByRecursion, Less, is_lt, is_eq, Equal-
 use Rattle.std.specs.FinMap as finmap
 use Rattle.std.proofs.lemmas.List.Sorted.{IsPermutation-sym, length_permutation}
 use Rattle.pfair_order.proofs.InOrder.{each_trivial}
+use Rattle.pfair_order.proofs.RankLemmas.{all_map}
 use Rattle.pfair_ready.proofs.CoverLemmas.{covered_less, covered_popped, still_there}
 use Rattle.pfair_ready.proofs.TurnLemmas.{due_of, own_turn, popped_turns, same_order, top_number}
 use Rattle.pfair_ready.proofs.Released.{IsReleased, each_released, released_remove, without_none, without_push}
@@ -20,10 +21,6 @@ pub record IsTaking (slot m room : ℕ) (start held : Queue) (dates : Calendar) 
 
 none_in_empty : {A : Type 0} (xs : List A) (x : A) → length xs ≡ 0 → Contains xs x → ⊥
 none_in_empty xs x e c = let within = c.1 in omega arith
-
-weaker : {A : Type 0} (P Q : A → Type 0) → ((x : A) → P x → Q x) → (xs : List A) → AllByRecursion P xs → AllByRecursion Q xs
-weaker P Q f [] h = tt
-weaker P Q f (x ∷ xs) h = (f x h.0, weaker P Q f xs h.1)
 
 no_elements : {A : Type 0} (xs : List A) → AllByRecursion (λ _. ⊥) xs → xs ≡ []
 no_elements [] h = refl
@@ -58,7 +55,7 @@ module _ (slot m room : ℕ) (start held : Queue) (dates : Calendar) (turns : Li
   pub first_taken : (length first < m → length turns ≡ 0) → first ≡ first_by_rank pd2_cmp m (released slot start)
   first_taken empty =
       by_rank_of_split keys_total (released slot start) first (released slot held) t.split m t.few
-      (λ less. no_elements (released slot held) (weaker (IsReleased slot held) (λ _. ⊥) (no_released (empty less)) (released slot held) (each_released slot held)))
+      (λ less. no_elements (released slot held) (all_map (IsReleased slot held) (λ _. ⊥) (released slot held) (no_released (empty less)) (each_released slot held)))
 
   module _ (top : Turn) (turns' : List Turn) (p : IsPermutation turns (top ∷ turns')) (greatest : PopsGreatest turn_cmp turns top turns') where
     -- a turn of a key stands for its name
@@ -108,7 +105,7 @@ module _ (slot m room : ℕ) (start held : Queue) (dates : Calendar) (turns : Li
           split =
               split_more keys_total (released slot start) first (released slot held) (released slot rest) key t.split
               (IsPermutation-sym (key ∷ released slot rest) (released slot held) moved)
-              (weaker (IsReleased slot rest) (λ k. pd2_cmp key k ≡ Less) (after_top key own named is) (released slot rest) (each_released slot rest));
+              (all_map (IsReleased slot rest) (λ k. pd2_cmp key k ≡ Less) (released slot rest) (after_top key own named is) (each_released slot rest));
           left = ap (λ x. finmap.remove x (name_of top.name.0)) t.left ∙ ap (finmap.remove (without first start)) (sym own) ∙ sym (without_push first key start);
           covered = covered_popped slot rest dates turns turns' top p (popped_turns top p greatest t.covered.sound) (λ q r k hint got _ called same.
               let kept = still_there held (name_of top.name.0) q (r, k) got in

@@ -1,6 +1,7 @@
 -- Parts of sound beginnings, and what stays of one when something comes into its row.
 use Rattle.pfair_replica.proofs.Common.{common_steps, cases_eq, append-nil, length_push, Flat, One, Torn, Held, HeldBelow, Logged, Beginning, run_from, last_floor, IsRun, beginning_in, IsPart, IsRunBefore, IsLeftAt, ℕ, zero, suc, ◌+◌, ◌-◌, ◌<◌, ◌≤◌, ◌≡◌, refl, sym, ap, ◌∙◌, subst, arith, inl, inr, ⊎_elim, List, [], ◌∷◌, ◌++◌, length, Some, None, ◌⊎◌, ◌≢◌}
 use Rattle.pfair_replica.proofs.Runs.{run_is_run, run_ends, run_more, run_begins, last_more}
+use Rattle.pfair_replica.proofs.SoundEntries.{kept_run}
 
 -- ---- runs
 
@@ -79,19 +80,15 @@ module _ (row : ℕ → Held Logged) where
 -- ---- a row that differs at one number
 
 module _ (old now : ℕ → Held Logged) where
-  moved_run : (es : List Logged) (n floor : ℕ) → ((m : ℕ) → n ≤ m → m < n + length es → now m ≡ old m) → IsRun old n floor es → IsRun now n floor es
-  moved_run [] n floor same run = tt
-  moved_run (e ∷ es) n floor same run = (same n (omega arith) (omega arith) ∙ run.0, run.1, moved_run es (suc n) e.floor (λ m low high. same m (omega arith) (omega arith)) run.2)
-
   -- a part that ends before that number, or of which none is changed, stays a part
   pub moved_part : (part : Beginning) → ((m : ℕ) → 1 ≤ m → m ≤ part.count → now m ≡ old m) → IsPart old part → IsPart now part
-  moved_part part same p = grind (arith, moved_run)
+  moved_part part same p = grind (arith, kept_run)
 
   pub moved_before : (capacity number : ℕ) → 1 ≤ number → number ≤ length (run_from old capacity 1 0) → ((m : ℕ) → 1 ≤ m → m < number → now m ≡ old m) → now 0 ≡ None → IsRunBefore now number
   moved_before capacity number first within same nothing =
       let short = shorter_run old (run_from old capacity 1 0) (number - 1) 1 0 (omega (arith, within)) (run_is_run old capacity 1 0) in
       let count = short.2 in
-      grind (arith, moved_run)
+      grind (arith, kept_run)
 
 -- what is left of a sound beginning after something came at one number, and nothing was taken away
 pub left_at : (capacity number : ℕ) (old now : ℕ → Held Logged) → 1 ≤ number → now 0 ≡ None → ((m : ℕ) → m ≢ number → now m ≡ old m) → HeldBelow (old number) (now number)

@@ -1,5 +1,5 @@
 -- The entries of sound beginnings, read by their numbers, and kept by a replica that holds more.
-use Rattle.pfair_replica.proofs.Common.{Flat, One, Held, Logged, Replica, Below, Untorn, sound_beginning, IsRun, IsReadByNumber, BeginningsGrow, ℕ, zero, suc, ◌+◌, ◌<◌, ◌≡◌, refl, ap, ◌∙◌, arith, inl, inr, List, [], ◌∷◌, length, Some, slice_get}
+use Rattle.pfair_replica.proofs.Common.{◌≤◌, Flat, One, Held, Logged, Replica, Below, Untorn, sound_beginning, IsRun, IsReadByNumber, BeginningsGrow, ℕ, zero, suc, ◌+◌, ◌<◌, ◌≡◌, refl, ap, ◌∙◌, arith, inl, inr, List, [], ◌∷◌, length, Some, slice_get}
 use Rattle.pfair_replica.proofs.Runs.{run_is_run, run_room, longest_run}
 
 entry_in : (row : ℕ → Held Logged) (es : List Logged) (n floor i m : ℕ) (e : Logged) → m ≡ n + i → IsRun row n floor es → slice_get es i ≡ Some e → row m ≡ Some (One e)
@@ -32,11 +32,12 @@ entry_is x k i e h held =
 pub held_within : (x y : Replica) → Below x y → Untorn y → (k n : ℕ) (c : Flat Logged) → x.at k n ≡ Some c → y.at k n ≡ Some c
 held_within x y below untorn k n c e = elim (below k n c e) [ inl h ↦ h | inr h ↦ absurd (untorn k n h) ]
 
-kept_run : (row now : ℕ → Held Logged) → ((m : ℕ) (e : Logged) → row m ≡ Some (One e) → now m ≡ Some (One e)) → (es : List Logged) (n floor : ℕ) → IsRun row n floor es → IsRun now n floor es
-kept_run row now kept [] n floor run = tt
-kept_run row now kept (e ∷ es) n floor run = (kept n e run.0, run.1, kept_run row now kept es (suc n) e.floor run.2)
+-- a run whose entries are kept stays one
+pub kept_run : (row now : ℕ → Held Logged) (es : List Logged) (n floor : ℕ) → ((m : ℕ) (e : Logged) → n ≤ m → m < n + length es → row m ≡ Some (One e) → now m ≡ Some (One e)) → IsRun row n floor es → IsRun now n floor es
+kept_run row now [] n floor kept run = tt
+kept_run row now (e ∷ es) n floor kept run = (kept n e (omega arith) (omega arith) run.0, run.1, kept_run row now es (suc n) e.floor (λ m f low high. kept m f (omega arith) (omega arith)) run.2)
 
 pub beginnings_grow : BeginningsGrow
 beginnings_grow x y r below untorn k =
     (longest_run y r k).1 (sound_beginning x k)
-    (kept_run (x.at k) (y.at k) (λ m e. held_within x y below untorn k m (One e)) (sound_beginning x k) 1 0 (run_is_run (x.at k) x.capacity 1 0))
+    (kept_run (x.at k) (y.at k) (sound_beginning x k) 1 0 (λ m e low high. held_within x y below untorn k m (One e)) (run_is_run (x.at k) x.capacity 1 0))

@@ -63,7 +63,7 @@ says row f p n e cut sayable is = grind (arith, parts-entry_row)
 
 -- ---- different contents have different rows
 
-truth_injective : (a b : Bool) → truth a ≡ truth b → a ≡ b
+pub truth_injective : (a b : Bool) → truth a ≡ truth b → a ≡ b
 truth_injective true true e = refl
 truth_injective false false e = refl
 truth_injective _ _ e = absurd (cc)

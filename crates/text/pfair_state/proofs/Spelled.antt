@@ -14,6 +14,7 @@ use Rattle.pfair_entry_row.specs.Row.{dash, HasNone}
 use Rattle.pfair_entry_row.proofs.Commas.{HaveNoCommas, parts-join}
 use Rattle.pfair_entry_row.proofs.Lines.{at_each, joined, truth_is_plain}
 use Rattle.pfair_entry_row.proofs.Names.{no_comma-plain}
+use Rattle.pfair_entry_row.proofs.RowFields.{truth_injective}
 use Rattle.pfair_state.specs.declared.rows.Row.TheVariants.{Member}
 
 -- ---- what is right has no fault
@@ -83,11 +84,6 @@ dash_is_no_number n h is = (let none = no_hyphen n h in let same = ap (list_any 
 
 -- fields that are read are what was written
 pub ruleset whole_fields = (decimal_injective, whole, dash_is_no_number, no_weight_fault)
-
-truth_injective : (a b : Bool) → truth a ≡ truth b → a ≡ b
-truth_injective true true is = refl
-truth_injective false false is = refl
-truth_injective _ _ is = absurd (cc)
 
 -- numbers and a truth of equal texts are equal
 pub same_member : (a b : MemberRow) → a.name ≡ b.name → a.weight ≡ b.weight → truth a.early ≡ truth b.early → decimal a.joined ≡ decimal b.joined → decimal a.next ≡ decimal b.next → a.freed_at ≡ b.freed_at
