@@ -6,4 +6,4 @@ pub mod Names
 mod Numbers
 mod OneWay
 mod Refused
-mod RowFields
+pub mod RowFields
