@@ -1,6 +1,6 @@
 -- Processors in use as bits, and the rows that take the least ones that are not.
 use Rattle.std.proofs.Common.{w64}
-use Rattle.pfair_table.proofs.Common.{AllByRecursion, append_assoc, drop_more, eqb-true, eq-eqb, cases_lt, is_used, free_place, all_kept, filled, ℕ, ◌+◌, ◌-◌, ◌*◌, ◌^◌, ◌%◌, ◌<◌, ◌≤◌, ◌≡◌, refl, sym, ap, ◌∙◌, arith, inl, inr, bit_or, Bool, true, false, List, [], ◌∷◌, ◌++◌, length, drop, get_or, subst, Option, Some, None, ◌||◌, ◌==◌, if◌then◌else◌, AreInUse}
+use Rattle.pfair_table.proofs.Common.{AllByRecursion, append_assoc, drop_more, eqb-true, eq-eqb, cases_lt, is_used, free_place, all_kept, filled, ℕ, ◌+◌, ◌-◌, ◌*◌, ◌^◌, ◌%◌, ◌<◌, ◌≤◌, ◌≡◌, refl, ap, ◌∙◌, arith, inl, inr, bit_or, Bool, true, false, List, [], ◌∷◌, ◌++◌, length, drop, get_or, subst, Option, Some, None, ◌||◌, if◌then◌else◌, AreInUse}
 use Rattle.std.specs.Int.{bit_at, trailing_ones}
 use Rattle.std.proofs.lemmas.Nat.Bits.{bit_at-trailing_ones, bit_at_set_same, bit_at_set_other, bit_at_ones, bit_at-zero}
 use Rattle.pfair_table.proofs.FreePlaces.{pigeons, free_is}

@@ -1,6 +1,6 @@
 -- The first keys of the ready structure are the first eligible subtasks of the members.
 use Rattle.std.proofs.Common.{T, filter}
-use Rattle.pfair_table.proofs.Common.{AllByRecursion, le-leb, true≢false, and_parts, and_from, not-true, name_cmp, Key, name_eq, name_itself, Among, among_filter, filter_among, among_map, map_among, among_all, all_among, among_contains, contains_among, none-some, same_Some, nat_list_eq_equiv, NamesApart, MAX_INDEX, apart_nil, apart_cons, apart_head, apart_tail, apart_filter, apart_map, first_by_rank, Queue, released, without, Member, is_departing, eligible_from, next_key, member_named, eligible, is_eligible, queued, IsQueue, IsQueueWithout, MayRun, ℕ, ◌<◌, ◌≡◌, refl, sym, ap, ◌∙◌, subst, inl, inr, Bool, true, false, cond, List, [], ◌∷◌, Option, Some, None, arith, IsTrue, not, nat_le, if◌then◌else◌, eq_by_cmp, nat_list_cmp_total, Name, tied_names, first_names}
+use Rattle.pfair_table.proofs.Common.{AllByRecursion, le-leb, true≢false, and_parts, and_from, not-true, name_cmp, Key, name_eq, name_itself, Among, among_filter, filter_among, among_map, map_among, among_all, all_among, among_contains, contains_among, none-some, same_Some, nat_list_eq_equiv, NamesApart, MAX_INDEX, apart_nil, apart_cons, apart_head, apart_tail, apart_filter, apart_map, first_by_rank, Queue, released, without, Member, is_departing, eligible_from, next_key, member_named, eligible, is_eligible, queued, IsQueue, IsQueueWithout, MayRun, ℕ, ◌<◌, ◌≡◌, refl, sym, ap, ◌∙◌, subst, inl, inr, Bool, true, false, List, [], ◌∷◌, Option, Some, arith, IsTrue, not, nat_le, eq_by_cmp, nat_list_cmp_total, Name, tied_names, first_names}
 use Rattle.std.specs.Ordering.{is_lt}
 use Rattle.std.specs.FinMap as finmap
 use Rattle.std.specs.FinMap.{get-entries, entries_sorted, entries}

@@ -1,5 +1,5 @@
 -- The loop over the keys that have a quantum.
-use Rattle.pfair_table.proofs.Common.{ForSome, option_map, map-append, length-map, take_more, take-append-drop, same_Some, or_parts, Key, name_eq, name_exact, name_itself, Among, among_right, among_all, AllByRecursion, nat_list_eq_equiv, NamesApart, MAX_INDEX, apart_head, apart_tail, Queue, Member, member_named, ran, with_quantum, quantum_of, running, seatless, Roster, Pick, Table, names_task, pick, index_of, all_ran, queued, IsQueueWithout, IsNotifiedOf, MayRun, has_key_of, keys_of, ℕ, ◌+◌, ◌<◌, ◌≡◌, refl, sym, ap, ◌∙◌, subst, inl, Bool, true, false, List, [], ◌∷◌, ◌++◌, length, get_or, drop, take, Option, Some, None, arith, ◌||◌, not, map, if◌then◌else◌, Name, Seated, Quantum}
+use Rattle.pfair_table.proofs.Common.{ForSome, option_map, map-append, length-map, take_more, take-append-drop, same_Some, or_parts, Key, name_eq, name_exact, name_itself, Among, among_right, among_all, AllByRecursion, nat_list_eq_equiv, NamesApart, MAX_INDEX, apart_head, apart_tail, Queue, Member, member_named, ran, with_quantum, quantum_of, running, seatless, Roster, Pick, Table, names_task, pick, index_of, all_ran, queued, IsQueueWithout, IsNotifiedOf, MayRun, has_key_of, keys_of, ℕ, ◌+◌, ◌<◌, ◌≡◌, refl, sym, ap, ◌∙◌, subst, inl, Bool, true, false, List, [], ◌∷◌, ◌++◌, length, get_or, drop, take, Some, None, arith, ◌||◌, not, map, if◌then◌else◌, Name, Seated, Quantum}
 use Rattle.std.specs.FinMap as finmap
 use Rattle.std.proofs.Math.ListN.{get_or-map}
 use Rattle.pfair_table.proofs.QueueKept.{found_other, found_changed, absent_removed, notified_next, drop_item}

@@ -1,5 +1,5 @@
 -- The dispatcher's invariant through plans.
-use Rattle.pfair_table.proofs.Common.{le-ltb, map-append, none-some, ReplicaRows, replica_of, Replica, IsReplica, has_torn, frontier, empty_replica, numbers_below, said, IsQueue, IsOrigin, Queue, Roster, Decided, Course, is_plannable, with_next_slot, PlannedSlots, with_next, Settings, Origin, Table, members_before, history, table, decisions, plan, plan_decisions, IsOf, Dispatch, IsPlanOf, IsInStep, IsKept, IsNextStep, IsWholePlan, course_of, untorn_by_test, ℕ, zero, suc, min, ◌≤◌, ◌<◌, ◌≡◌, refl, sym, ap, ◌∙◌, arith, Bool, false, List, [], ◌∷◌, ◌++◌, length, map, None, ◌≢◌, ◌&&◌, not, nat_lt, IsTrue, if◌then◌else◌, Step, Done}
+use Rattle.pfair_table.proofs.Common.{le-ltb, map-append, none-some, ReplicaRows, replica_of, Replica, IsReplica, has_torn, frontier, empty_replica, numbers_below, said, IsQueue, IsOrigin, Queue, Roster, Decided, Course, is_plannable, with_next_slot, PlannedSlots, with_next, Settings, Origin, Table, members_before, history, table, decisions, plan, plan_decisions, IsOf, Dispatch, IsPlanOf, IsInStep, IsKept, IsNextStep, IsWholePlan, course_of, untorn_by_test, ℕ, zero, suc, min, ◌≤◌, ◌<◌, ◌≡◌, refl, sym, ap, ◌∙◌, arith, Bool, false, List, [], ◌∷◌, ◌++◌, length, map, None, ◌≢◌, IsTrue, if◌then◌else◌, Step, Done}
 use Rattle.pfair_table.proofs.Members.{named_before}
 use Rattle.pfair_table.specs.declared.answer.Step.TheVariants.{Planned, Waiting}
 use Rattle.pfair_table.proofs.Steps.{plan_of_held, step_of_held, plan_next_slot}

@@ -1,6 +1,6 @@
 -- The next index of a member is one more than its quanta in the tables; and adding one for each row keeps it so.
 use Rattle.std.proofs.Common.{count_by}
-use Rattle.pfair_table.proofs.Common.{AllByRecursion, length-append, drop_all, drop-append-le, map-id, nat_list_eq_equiv, among_all, map_same, name_eq, Announcement, name_exact, said, Said, Machine, is_named, newcomer, is_freed, boundary, with_freeing, with_delay, ran, with_quantum, announcements, Member, Settings, Origin, Table, History, machine, names_task, quanta, next_index, counted, counted_one, members_at, all_ran, Story, history, world, table, Pick, NamesApart, apart_head, apart_nil, apart_tail, each_filter, each_map, by_boundary, by_effect, each_change, RunsAreCounted, ℕ, zero, suc, ◌+◌, ◌≤◌, ◌≡◌, refl, sym, ap, subst, ◌∙◌, arith, None, Bool, true, false, cond, List, ◌∷◌, ◌++◌, length, drop, ◌||◌, map, not, if◌then◌else◌, [], all_by_recursion_push, sum_by_push, map-map, Share, Name}
+use Rattle.pfair_table.proofs.Common.{AllByRecursion, length-append, drop_all, drop-append-le, map-id, nat_list_eq_equiv, among_all, map_same, name_eq, Announcement, name_exact, said, Said, Machine, is_named, newcomer, is_freed, boundary, with_freeing, with_delay, ran, with_quantum, announcements, Member, Settings, Origin, Table, History, machine, names_task, quanta, next_index, counted, counted_one, members_at, all_ran, Story, history, world, table, Pick, NamesApart, apart_head, apart_nil, apart_tail, each_filter, each_map, by_boundary, by_effect, each_change, RunsAreCounted, ℕ, zero, suc, ◌+◌, ◌≤◌, ◌≡◌, refl, sym, ap, subst, ◌∙◌, arith, None, Bool, false, cond, List, ◌∷◌, ◌++◌, length, drop, ◌||◌, map, not, if◌then◌else◌, [], all_by_recursion_push, sum_by_push, map-map, Share, Name}
 use Rattle.pfair_table.proofs.TableLaws.{ordered_from}
 
 -- ---- what holds of each member

@@ -1,5 +1,5 @@
 -- What a finished run leaves can be taken over by a next run, and finished runs that agree leave the same.
-use Rattle.pfair_table.proofs.Common.{IsNextStep, AllByRecursion, ReplicaRows, replica_of, Replica, IsReplica, has_torn, said, same_said, Queue, carried, CanBeCarried, Roster, Machine, Member, Decided, AreLeftAt, IsCarried, CanBeFollowed, IsFinished, IsNextRunFault, IsResumeFault, LeaveAlike, end_of, left_by, members_left, table_before, places_before, places_in, IsFit, ArePlacesOf, last_or, Dispatch, IsKept, members_after, Settings, Origin, Carried, Table, machine, slot_of, history, ℕ, ◌+◌, ◌≤◌, ◌<◌, ◌≡◌, sym, ap, subst, ◌∙◌, arith, Bool, false, List, length, map, Result, Ok, Err, IfErr, OnOk, IsErrAnd, Step, Done, LAST_SLOT}
+use Rattle.pfair_table.proofs.Common.{IsNextStep, AllByRecursion, ReplicaRows, replica_of, Replica, IsReplica, has_torn, said, same_said, Queue, carried, CanBeCarried, Roster, Machine, Member, Decided, AreLeftAt, IsCarried, CanBeFollowed, IsFinished, IsNextRunFault, IsResumeFault, LeaveAlike, end_of, left_by, members_left, table_before, places_before, places_in, IsFit, ArePlacesOf, last_or, Dispatch, IsKept, members_after, Settings, Origin, Carried, Table, machine, slot_of, history, ℕ, ◌+◌, ◌≤◌, ◌<◌, ◌≡◌, sym, ap, subst, ◌∙◌, arith, Bool, false, List, length, map, Result, IfErr, OnOk, IsErrAnd, Step, Done, LAST_SLOT}
 use Rattle.pfair_table.specs.declared.answer.NextRunFault.{NextRunFault}
 use Rattle.pfair_table.specs.declared.answer.NextRunFault.TheVariants.{Memory}
 use Rattle.pfair_table.proofs.Alike.{untorn_right}

@@ -1,6 +1,6 @@
 -- The queue of the members' next subtasks, through boundaries and quanta.
 use Rattle.std.proofs.Common.{find}
-use Rattle.pfair_table.proofs.Common.{true≢false, or_parts, drop_more, NamesApart, apart_head, apart_tail, AllByRecursion, name_cmp, Key, name_eq, Said, Announcement, name_exact, name_itself, none-some, same_Some, slice_get_within, get_or_from_slice_get, Queue, Machine, is_named, member_named, change, effect, present, is_freed, all_decided, boundary, announcements, Member, is_departing, eligible_from, next_key, queued, IsQueue, IsQueueBesides, IsQueueBut, IsNotifiedOf, is_of_some, is_said, by_effect, apart_present, apart_effect, ℕ, ◌+◌, ◌<◌, ◌≡◌, refl, sym, ap, ◌∙◌, subst, Bool, true, false, cond, List, [], ◌∷◌, ◌++◌, length, get_or, drop, Option, Some, None, arith, ◌||◌, not, is_some, slice_get, if◌then◌else◌, eq_by_cmp, nat_list_cmp_total, tied_names, Name, Decision}
+use Rattle.pfair_table.proofs.Common.{true≢false, or_parts, drop_more, NamesApart, apart_head, apart_tail, AllByRecursion, name_cmp, Key, name_eq, Said, Announcement, name_exact, name_itself, none-some, same_Some, slice_get_within, get_or_from_slice_get, Queue, Machine, is_named, member_named, change, effect, present, is_freed, all_decided, boundary, announcements, Member, is_departing, eligible_from, next_key, queued, IsQueue, IsQueueBesides, IsQueueBut, IsNotifiedOf, is_of_some, is_said, by_effect, apart_present, apart_effect, ℕ, ◌+◌, ◌<◌, ◌≡◌, refl, sym, ap, ◌∙◌, subst, Bool, true, false, cond, List, [], ◌∷◌, ◌++◌, length, get_or, drop, Option, Some, None, arith, ◌||◌, not, is_some, slice_get, if◌then◌else◌, nat_list_cmp_total, tied_names, Name, Decision}
 use Rattle.std.specs.FinMap as finmap
 use Rattle.std.specs.FinMap.{get-empty, get-insert, get-remove, same_map}
 use Rattle.pfair_ready.proofs.Names.{names_exact}

@@ -1,5 +1,5 @@
 -- What holds before a slot holds before the next.
-use Rattle.pfair_table.proofs.Common.{AllByRecursion, Announcement, Said, Queue, NamesApart, Machine, boundary, announcements, Member, Roster, Pick, Settings, Origin, Table, machine, members_before, slot_of, history, world, table, all_ran, IsQueue, IsSteady, IsOrigin, MAX_INDEX, apart_boundary, each, each_map, Replica, said, ℕ, zero, suc, ◌+◌, ◌≤◌, ◌<◌, ◌≡◌, sym, subst, arith, Bool, true, false, List, Some, None, if◌then◌else◌, LAST_SLOT, IsLeftAt}
+use Rattle.pfair_table.proofs.Common.{AllByRecursion, Announcement, Said, Queue, NamesApart, Machine, boundary, announcements, Member, Roster, Pick, Settings, Origin, Table, machine, members_before, slot_of, history, world, table, all_ran, IsQueue, IsSteady, IsOrigin, MAX_INDEX, apart_boundary, each, each_map, Replica, said, ℕ, zero, suc, ◌+◌, ◌≤◌, ◌<◌, ◌≡◌, sym, subst, arith, List, Some, None, LAST_SLOT, IsLeftAt}
 use Rattle.pfair_admission.proofs.CarriedAgain.{next_fits}
 use Rattle.pfair_table.proofs.TableLaws.{ordered_from}
 use Rattle.pfair_table.proofs.Members.{label, named_before, named_ran}

@@ -1,5 +1,5 @@
 -- What a run can begin with, and what settings a run has that does.
-use Rattle.pfair_table.proofs.Common.{or_parts, AllByRecursion, nat_list_eq_equiv, length-append, name_eq, apart_nil, apart_push, Machine, Member, Pick, AreLeftAt, IsCarried, IsSettings, IsState, with_row, AllDiffer, ArePlacesOf, IsFit, is_used, Carried, Settings, Table, names_task, ℕ, ◌≡◌, ◌≢◌, ◌≤◌, ◌<◌, ◌==◌, ◌&&◌, ◌||◌, ◌∙◌, refl, sym, subst, arith, Bool, true, false, not, nat_lt, List, ◌∷◌, ◌++◌, length, [], all_by_recursion_push}
+use Rattle.pfair_table.proofs.Common.{or_parts, AllByRecursion, nat_list_eq_equiv, length-append, name_eq, apart_nil, apart_push, Machine, Member, Pick, AreLeftAt, IsCarried, IsSettings, IsState, with_row, AllDiffer, ArePlacesOf, IsFit, is_used, Carried, Settings, Table, names_task, ℕ, ◌≡◌, ◌≢◌, ◌≤◌, ◌<◌, ◌∙◌, refl, sym, subst, arith, false, List, ◌∷◌, ◌++◌, length, [], all_by_recursion_push}
 use Rattle.pfair_table.specs.declared.settings.TheConstants.Settings.{MAX_PROCESSORS, MAX_FRAME}
 
 pub none_left : (t : ℕ) (machine : Machine) → AreLeftAt t machine []

@@ -1,4 +1,4 @@
-use Rattle.pfair_table.proofs.Common.{carried, IsFirstLeft, Member, Roster, end_of, Dispatch, machine, slot_of, ◌+◌, ◌≤◌, ◌∙◌, sym, ap, subst, map, arith, List, LAST_SLOT}
+use Rattle.pfair_table.proofs.Common.{carried, IsFirstLeft, Member, Roster, end_of, Dispatch, machine, slot_of, ◌+◌, ◌≤◌, ◌∙◌, ap, subst, map, arith, List, LAST_SLOT}
 use Rattle.pfair_table.proofs.Keeping.{step_now}
 use Rattle.pfair_table.proofs.NextRuns.{able_seen, fault_seen, followed_seen, finished_seen, left_seen, memory_seen}
 use Rattle.pfair_table.proofs.dispatcher.Dispatcher.next_run.Goals as goal
