@@ -5,7 +5,7 @@ ghost use Rattle.std.specs.Prelude.{◌≡◌, IfOk, Ok, false, ◌⊎◌, ℕ, 
 ghost use Rattle.clap.specs.Words.{AddsSubcommand, new_app, rule_of, app_of, first_of, found_of, is_simple_and_free, rows_of, with_rule};
 ghost use Rattle.pfair_words.specs.Line as line;
 ghost use Rattle.clap.specs.Walk.{one_of};
-ghost use Rattle.pfair_words.specs.Parse.{IsFlag, IsNumber, IsNumberIfAny, IsParsed, IsTextIfAny, texts};
+ghost use Rattle.pfair_words.specs.Parse.{IsFlag, IsNumber, IsParsed, IsTextIfAny, texts};
 ghost use Rattle.pfair_file.specs.declared.program_fault.ProgramFault.TheVariants.{CommandLine, Memory};
 
 use clap::error::ErrorKind;
@@ -168,13 +168,6 @@ pub(crate) fn text_if_any(
     }
 }
 
-/// The number under a name, if there is one.
-pub(crate) fn number_if_any(words: &ArgMatches<'_>, name: &str) -> Option<u64>
-    ensures { IsNumberIfAny (rows_of (found_of words.now)) name.now result }
-{
-    words.get_one::<u64>(name)
-}
-
 /// The number under a name.
 ///
 /// # Errors
@@ -184,7 +177,7 @@ pub(crate) fn number(words: &ArgMatches<'_>, name: &str) -> Result<u64, ProgramF
         (IsNumber (rows_of (found_of words.now)) name.now)
         (λ e. (e ≡ CommandLine) × ((n : ℕ) → ¬ IsNumber (rows_of (found_of words.now)) name.now n)) }
 {
-    number_if_any(words, name).ok_or(ProgramFault::CommandLine)
+    words.get_one::<u64>(name).ok_or(ProgramFault::CommandLine)
 }
 
 /// Whether a flag is set.

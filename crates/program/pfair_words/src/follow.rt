@@ -1,4 +1,6 @@
 //! The words of `pfair_follow`, and its command line, one level of commands.
+#![tactic(auto, using(crate::proofs::Rows::by_rows))]
+
 ghost use Rattle.std.specs.Prelude.{◌≡◌, ◌⊎◌, MatchResult, IfOk, false};
 ghost use Rattle.clap.specs.Words.{found_of, rows_of, subcommand_rows_of, new_app, rule_of};
 ghost use Rattle.pfair_words.specs.Parse.{texts};
@@ -10,8 +12,8 @@ ghost use Rattle.pfair_words.specs.FollowLine as line;
 mod help;
 
 use crate::command::{
-    AFFINITY_HELP, Parsed, Texts, command, file_name, flag, is_set, number, number_if_any,
-    over_file, parse, program, text_if_any, with,
+    AFFINITY_HELP, Parsed, Texts, command, file_name, flag, is_set, number, over_file, parse,
+    program, text_if_any, with,
 };
 use clap::builder::ValueParser;
 use clap::{Arg, ArgMatches, Command};
@@ -148,8 +150,8 @@ fn read_start(alloc: Global, words: &ArgMatches<'_>) -> Result<Start, ProgramFau
         Some(file) => Ok(Start::Later(Resumed {
             file,
             slots: number(words, "slots")?,
-            processors: number_if_any(words, "processors"),
-            frame: number_if_any(words, "frame"),
+            processors: words.get_one::<u64>("processors"),
+            frame: words.get_one::<u64>("frame"),
         })),
         None => Ok(Start::First(read_settings(words)?)),
     }
