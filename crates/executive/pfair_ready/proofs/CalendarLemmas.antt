@@ -26,11 +26,7 @@ at_set (x ∷ near) (suc i) b h = at_set near i b (omega (arith, h))
 
 -- a near date is in its list if that has it
 pub near_there : (turned : ℕ) (near : Buckets) (i : ℕ) (b : Vec Date Global) (d : Date) → i ≡ d.release % 64 → i < length near → turned < d.release → d.release ≤ turned + 64 → Contains b.items d → IsNear turned (slice_set near i b) d
-near_there turned near i b d here inside after within there = record {
-  after = after;
-  within = within;
-  there = subst (λ s. Contains (in_bucket (slice_get (slice_set near i b) s)) d) here (subst (λ (l : List Date). Contains l d) (sym (at_set near i b inside)) there);
-}
+near_there turned near i b d here inside after within there = grind (arith, slice_set, at_set)
 
 -- an empty one stays empty if another is emptied
 none_set : (near : Buckets) (i j : ℕ) (b : Vec Date Global) → b.items ≡ [] → in_bucket (slice_get near j) ≡ [] → in_bucket (slice_get (slice_set near i b) j) ≡ []

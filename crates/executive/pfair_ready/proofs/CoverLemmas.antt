@@ -1,5 +1,4 @@
 -- What waits is in the calendar, or has a turn.
-use Rattle.std.proofs.Common.{true≢false}
 use Rattle.pfair_weight.specs.Options.{nothing}
 use Rattle.pfair_ready.proofs.Common.{is_eq, eq_by_cmp, Equal-is, tied_itself, get-empty, get-insert, get-remove, same_map, none-some, same_Some, Key, Calendar, NameValue, name_cmp, Queue, HasTurn, IsCovered, IsNoted, Keeps, Moves, AreTurns, IsHeap, IsPermutation, KeepsTurns, Turn, heap_items, later_cmp, turn_of, ◌≡◌, ℕ, ◌≤◌, ◌⊎◌, inl, inr, Bool, true, false, cond, List, ◌∷◌, refl, sym, ap, subst, ◌∙◌, arith, Option, Some, None, IsTaskName}
 use Rattle.std.specs.FinMap as finmap
@@ -12,14 +11,7 @@ HasDate dates r k = (hint : ℕ) × IsNoted dates (record { release = r; hint = 
 
 -- nothing waits
 pub covered_none : (held : Queue) (dates : Calendar) (turns : List Turn) → held ≡ finmap.empty → dates.turned ≡ 0 → IsHeap later_cmp (heap_items dates.far) → AreTurns turns → IsCovered 0 held dates turns
-covered_none held dates turns none turned order sound =
-    record {
-      named = λ q r k at. absurd (none-some (r, k) (sym (ap (λ (h : Queue). finmap.get h q) none ∙ get-empty name_cmp q) ∙ at));
-      turned = omega (arith, turned);
-      order = order;
-      sound = sound;
-      covered = λ q r k at. absurd (none-some (r, k) (sym (ap (λ (h : Queue). finmap.get h q) none ∙ get-empty name_cmp q) ∙ at));
-    }
+covered_none held dates turns none turned order sound = grind (arith, none-some, get-empty)
 
 -- dates and turns that have lost nothing
 pub covered_kept : (now : ℕ) (held : Queue) (dates dates' : Calendar) (turns turns' : List Turn) → Keeps dates dates'
@@ -53,10 +45,7 @@ one_or b x y o e = grind (arith, same_Some)
 pub covered_more : (now r : ℕ) (k : Key) (held : Queue) (dates : Calendar) (turns : List Turn) → HasDate dates r k ⊎ ((r ≤ now) × HasTurn turns k) → IsCovered now held dates turns → IsCovered now (finmap.insert held k.name (r, k)) dates turns
 covered_more now r k held dates turns here c =
     record {
-      named = λ q r' k' at. elim (one_or (eq_by_cmp name_cmp q k.name) (r, k) (r', k') (finmap.get held q) (sym (get-insert names_total held k.name (r, k) q) ∙ at)) [
-        | inl own ↦ sym (ap (λ (x : ℕ × Key). x.1.name) own.1) ∙ sym (names_exact q k.name ((Equal-is (name_cmp q k.name)).0 own.0))
-        | inr other ↦ c.named q r' k' other
-      ];
+      named = λ q r' k' at. grind (arith, one_or, eq_by_cmp, get-insert, names_total, names_exact);
       turned = c.turned;
       order = c.order;
       sound = c.sound;
@@ -72,11 +61,7 @@ kept_entry b o x e = grind (arith, none-some)
 
 -- what waits under a name after another's key was taken out
 pub still_there : (held : Queue) (s q : NameValue) (v : ℕ × Key) → finmap.get (finmap.remove held s) q ≡ Some v → (q ≡ s → ⊥) × (finmap.get held q ≡ Some v)
-still_there held s q v at =
-    let kept = kept_entry (eq_by_cmp name_cmp q s) (finmap.get held q) v (sym (get-remove names_total held s q) ∙ at) in (
-      λ same. true≢false (sym (ap is_eq (tied_itself names_total s)) ∙ ap (λ n. is_eq (name_cmp n s)) (sym same) ∙ kept.0),
-      kept.1,
-    )
+still_there held s q v at = grind (arith, kept_entry, eq_by_cmp, get-remove, names_total, is_eq, tied_itself)
 
 -- a key less
 pub covered_less : (now : ℕ) (held : Queue) (s : NameValue) (dates : Calendar) (turns : List Turn) → IsCovered now held dates turns → IsCovered now (finmap.remove held s) dates turns

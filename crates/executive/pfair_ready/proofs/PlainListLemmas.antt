@@ -58,9 +58,7 @@ contained held ws seen name o b view same found is = grind (arith, get_held)
 
 -- one more with a new name
 pub queue_of_push : (ws : List PlainEntry) (w : PlainEntry) → first_named w.key.name ws ≡ None → queue_of (ws ++ w ∷ []) ≡ finmap.insert (queue_of ws) w.key.name (w.release, w.key)
-queue_of_push ws w none =
-    ap (λ es. finmap.from_entries {R = name_cmp} es) (map-append entry ws (w ∷ []))
-    ∙ from_entries_push names_total names_exact (map entry ws) w.key.name (w.release, w.key) (find_entry ws w.key.name ∙ none)
+queue_of_push ws w none = grind (arith, map-append, from_entries_push, names_total, names_exact, find_entry)
 
 abbrev shown : PlainEntry → ℕ × Key
 shown w = (w.release, w.key)

@@ -1,6 +1,6 @@
 -- The turns of a heap, and their order.
 use Rattle.std.proofs.Common.{nat_eq}
-use Rattle.pfair_ready.proofs.Common.{IsPermutation, Key, Less, Equal, Greater, NameValue, PopsGreatest, is_due, is_turn_of, name_cmp, nat_cmp, ordering_then, pd2_cmp, tie_group_of, AreTurns, HasTurn, KeepsTurns, Turn, turn_cmp, turn_of, ◌≡◌, ℕ, ◌≤◌, true, ◌&&◌, List, ◌∷◌, refl, sym, ap, ◌∙◌, arith, Some, Ordering, All-permutation, IsTaskName, IsNumber, name_of, is_number, name_back}
+use Rattle.pfair_ready.proofs.Common.{IsPermutation, Key, Less, Equal, Greater, NameValue, PopsGreatest, is_due, is_turn_of, name_cmp, nat_cmp, ordering_then, pd2_cmp, AreTurns, HasTurn, KeepsTurns, Turn, turn_cmp, turn_of, ◌≡◌, ℕ, ◌≤◌, true, ◌&&◌, List, ◌∷◌, refl, ◌∙◌, arith, Some, Ordering, All-permutation, IsTaskName, IsNumber, name_of, is_number, name_back}
 use Rattle.std.proofs.lemmas.Bool.Decides.{nat_tests}
 use Rattle.std.proofs.lemmas.List.Elements.{All-tail}
 use Rattle.pfair_weight.specs.Number.{number_of}
@@ -19,18 +19,14 @@ number_cmp a b p q = numbers_order (number_of a) (number_of b) (is_number a p) (
 pub same_order : (k l : Key) (h i : ℕ) → IsTaskName k.name → IsTaskName l.name → (k.name ≡ l.name → ⊥) → pd2_cmp k l ≡ turn_cmp (turn_of l h) (turn_of k i)
 same_order k l h i p q apart =
     let other : name_cmp k.name l.name ≡ Equal → ⊥ = λ e. apart (names_exact k.name l.name e) in
-    ap (λ r. ordering_then (nat_cmp k.d l.d) (ordering_then (nat_cmp l.b k.b) (ordering_then (nat_cmp (tie_group_of l) (tie_group_of k)) r)))
-    (decided (name_cmp k.name l.name) (nat_cmp k.group l.group) other ∙ sym (number_cmp k.name l.name p q))
+    grind (arith, ordering_then, nat_cmp, number_cmp)
 
 same_parts : (a b c d e f : ℕ) → (nat_eq a b && (nat_eq c d && nat_eq e f)) ≡ true → (a ≡ b) × (c ≡ d) × (e ≡ f)
 same_parts a b c d e f same = (grind (arith, nat_tests), grind (arith, nat_tests), grind (arith, nat_tests))
 
 -- a turn that is a key's is the one that the key makes
 pub own_turn : (t : Turn) (k : Key) → IsNumber t.name.0 → k.name ≡ name_of t.name.0 → is_turn_of k t ≡ true → t ≡ turn_of k t.hint
-own_turn t k n named is =
-    let same = same_parts k.d t.d.0 k.b t.b (tie_group_of k) t.group is in
-    let number : t.name.0 ≡ number_of k.name = sym (ap number_of named ∙ n.same) in
-    λ i. record { d = record { 0 = sym same.0 i }; b = sym same.1 i; group = sym same.2 i; hint = t.hint; name = record { 0 = number i } }
+own_turn t k n named is = grind (arith, same_parts)
 
 pub due_of : (k : Key) (hint slot r : ℕ) → r ≤ slot → is_due (turn_of k hint) slot (Some (r, k)) ≡ true
 due_of k hint slot r within = grind (arith, nat_tests)

@@ -81,9 +81,7 @@ module _ {K : Type 0} {R : K → K → Ordering} (o : IsTotalOrder R) where
               let here = of_rank_within r inside in
               let next = take-suc given r here.0 inside ∙ ap (λ k. take r given ++ k ∷ []) (get_or_from_slice_get given r here.0 here.0 here.2) in
               ap (λ l. l ++ of_rank R keys r) so_far ∙ ap (λ l. take r given ++ l) here.1 ∙ sym next
-          | inr past ↦
-              ap (λ l. l ++ of_rank R keys r) so_far ∙ ap (λ l. take r given ++ l) (of_rank_past r past (all (omega arith)))
-              ∙ append-nil (take r given) ∙ take_all r given past ∙ sym (take_all (suc r) given (omega arith))
+          | inr past ↦ grind (arith, of_rank_past, append-nil, take_all)
         ]
 
     -- the front is the first m by rank, if it is not more than m, and less than m only if nothing is left

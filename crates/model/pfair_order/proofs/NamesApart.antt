@@ -1,10 +1,10 @@
 -- Keys of different names stand once, and so do the names of the first.
 use Rattle.std.proofs.Common.{AllPairs}
-use Rattle.pfair_order.proofs.Common.{count_by, slice_get, is_eq, true≢false, false_from_ne_true, bytes_decides, slice_get_within, slice_get-get_or, same_Some, Equal-is, Key, pd2_cmp, rank, first_by_rank, AreFirst, EachOnce, ◌≡◌, ◌≢◌, ℕ, ◌+◌, ◌<◌, ◌≤◌, true, false, cond, List, [], ◌∷◌, length, refl, sym, ap, ◌∙◌, arith, get_or, Some, sum_by-cons}
+use Rattle.pfair_order.proofs.Common.{count_by, slice_get, is_eq, true≢false, false_from_ne_true, bytes_decides, slice_get_within, slice_get-get_or, same_Some, Equal-is, Key, pd2_cmp, first_by_rank, AreFirst, EachOnce, ◌≡◌, ◌≢◌, ℕ, ◌+◌, ◌<◌, ◌≤◌, true, false, cond, List, [], ◌∷◌, length, refl, sym, ap, ◌∙◌, arith, get_or, Some, sum_by-cons}
 use Rattle.pfair_weight.specs.Name.{name_eq, NamesApart}
 use Rattle.pfair_weight.proofs.NamesApart.{apart_head, apart_tail, pairs_from_apart, apart_from_pairs}
 use Rattle.pfair_order.proofs.KeyLaws.{keys_total, keys_exact}
-use Rattle.pfair_order.proofs.RankLemmas.{each_place, at_each, none_counted, place_of}
+use Rattle.pfair_order.proofs.RankLemmas.{each_place, at_each, none_counted}
 use Rattle.pfair_order.proofs.InOrder.{by_rank_first}
 
 -- the names at two places differ
@@ -42,14 +42,4 @@ first_names m keys apart =
     let first : List Key = first_by_rank pd2_cmp m keys in
     apart_from_pairs (λ (k : Key). k.name) first (λ i j d earlier within same.
     let a : AreFirst pd2_cmp m keys first = by_rank_first keys_total m keys (once_from_names keys apart) in
-    let here = a.at_rank i (get_or first i d) (slice_get-get_or first i d (omega arith)) in
-    let later = a.at_rank j (get_or first j d) (slice_get-get_or first j d within) in
-    let from = place_of keys (get_or first i d) here.0 in
-    let from' = place_of keys (get_or first j d) later.0 in
-    let place : from.0 ≡ from'.0 = same_place keys (pairs_from_apart (λ (k : Key). k.name) keys apart) from.0 from'.0 (get_or first i d) (get_or first j d) from.1 from'.1 same in
-    let one : get_or first i d ≡ get_or first j d =
-    same_Some (get_or first i d) (get_or first j d) (sym from.1 ∙ ap (slice_get keys) place ∙ from'.1) in
-    let ranks : rank pd2_cmp keys (get_or first i d) ≡ rank pd2_cmp keys (get_or first j d) = ap (rank pd2_cmp keys) one in
-    let low : rank pd2_cmp keys (get_or first i d) ≡ i = here.1 in
-    let high : rank pd2_cmp keys (get_or first j d) ≡ j = later.1 in
-    omega arith)
+    grind (arith, slice_get-get_or, same_place, pairs_from_apart, same_Some))

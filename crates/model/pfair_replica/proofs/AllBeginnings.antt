@@ -27,9 +27,7 @@ all_made g xs is zero le = refl
 all_made g xs is (suc n) le =
     let x = some_at xs n (omega (arith, le)) in
     let here = get_or_from_slice_get xs n x.0 x.0 x.1 ∙ is n x.0 x.1 in
-    take-suc xs n x.0 (omega (arith, le))
-    ∙ (λ i. all_made g xs is n (omega (arith, le)) i ++ here i ∷ [])
-    ∙ sym (map-append g (numbers_below n) (n ∷ []))
+    grind (arith, all_made g xs is n, take-suc, map-append)
 
 module _ (x : Replica) (bs : List Beginning) (so_many : length bs ≡ x.processors) (are : (k : ℕ) (b : Beginning) → slice_get bs k ≡ Some b → b ≡ beginning_in x.capacity (x.at k)) where
   abbrev of_row : ℕ → Beginning

@@ -87,7 +87,6 @@ module _ (old now : ℕ → Held Logged) where
   pub moved_before : (capacity number : ℕ) → 1 ≤ number → number ≤ length (run_from old capacity 1 0) → ((m : ℕ) → 1 ≤ m → m < number → now m ≡ old m) → now 0 ≡ None → IsRunBefore now number
   moved_before capacity number first within same nothing =
       let short = shorter_run old (run_from old capacity 1 0) (number - 1) 1 0 (omega (arith, within)) (run_is_run old capacity 1 0) in
-      let count = short.2 in
       grind (arith, kept_run)
 
 -- what is left of a sound beginning after something came at one number, and nothing was taken away

@@ -61,10 +61,7 @@ rows_outgrown m m' a b same f g (k, more) = by (get nat_cmp a k) (get nat_cmp b 
     by : (u v : Option Row) → get nat_cmp a k ≡ u → get nat_cmp b k ≡ v → OptionOutgrows (MapOutgrows nat_cmp (λ _ _. ⊥)) u v → (k : ℕ) × (n : ℕ) × (held_in a k n ≡ None) × (held_in b k n ≢ None)
     by None None p q h = absurd h
     by (Some u) None p q h = absurd h
-    by None (Some v) p q h = absurd (⊎_elim
-        (λ low. subst (λ (r : Option Row). IsSomeAnd r (IsOrdered nat_cmp)) p (f.there k low))
-        (λ high. (let none = g.beyond k (omega (arith, high, same)) in let both : None ≡ Some v = sym none ∙ q in cc))
-        (cases_lt k m))
+    by None (Some v) p q h = grind (arith, nat_cmp, cases_lt)
     by (Some u) (Some v) p q (n, h) =
         (let cell = cell_outgrown (get nat_cmp u n) (get nat_cmp v n) h in
         (k, n, at_row a k (Some u) p n ∙ cell.0, λ none. cell.1 (sym (at_row b k (Some v) q n) ∙ none)))

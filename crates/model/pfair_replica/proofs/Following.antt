@@ -12,8 +12,7 @@ use Rattle.pfair_replica.proofs.FirstTorn.{earlier_first}
 set_at : (xs : List Beginning) (p k : ℕ) (y b : Beginning) → p < length xs → slice_get (set xs p y) k ≡ Some b → ((k ≡ p) × (b ≡ y)) ⊎ ((k ≢ p) × (slice_get xs k ≡ Some b))
 set_at xs p k y b room e =
     let here = get_or_from_slice_get (set xs p y) k b b e in
-    let within : k < length xs = (let h = slice_get_within (set xs p y) k b e in let same = length-set xs p y in omega (arith, h, same)) in
-    grind (arith, get_or-set_at, slice_get-get_or, get_or-set_other, cases_eq)
+    grind (arith, slice_get_within, set, length-set, get_or-set_at, slice_get-get_or, get_or-set_other, cases_eq)
 
 -- the beginnings of a list of rows
 abbrev Beginnings : ℕ → Contents → List Beginning → Type 0

@@ -20,8 +20,7 @@ module _ (f : ℕ → ℕ) (a : ℕ) where
       let next = least_next m in
       elim (cases_lt (f m) (fold min a (map f (numbers_below m)))) [
         | inl lower ↦ inr (m, omega arith, omega (arith, next, lower))
-        | inr higher ↦ (let same : fold min a (map f (numbers_below (suc m))) ≡ fold min a (map f (numbers_below m)) = omega (arith, next, higher) in
-            ⊎_elim (λ first. inl (same ∙ first)) (λ k. inr (k.0, (let low = k.1 in omega (arith, low)), same ∙ k.2)) (one_of_them m))
+        | inr higher ↦ grind (arith, one_of_them m, fold)
       ]
 
 pub least_mark : IsLeastMark

@@ -14,9 +14,7 @@ module _ (x : Replica) where
   torn_from : (k n : ℕ) → Contains (torn_keys x) (entry_key k n) → x.at k n ≡ Some Torn
   torn_from k n h =
       let row = among_flat (torn_in x) (numbers_below x.processors) (entry_key k n) (contains_among (torn_keys x) (entry_key k n) h) in
-      let key = among_map (entry_key row.0) (filter (λ i. is_torn (x.at row.0 i)) (numbers_to x.capacity)) (entry_key k n) row.2 in
-      let torn = torn_true (x.at row.0 key.0) (among_filter (λ i. is_torn (x.at row.0 i)) (numbers_to x.capacity) key.0 key.1).1 in
-      (λ i. x.at ((ap (λ (e : EntryKey). e.0) key.2) i) ((ap (λ (e : EntryKey). e.1) key.2) i)) ∙ torn
+      grind (arith, among_map, torn_true, among_filter)
 
   torn_to_list : IsReplica x → (k n : ℕ) → x.at k n ≡ Some Torn → Contains (torn_keys x) (entry_key k n)
   torn_to_list r k n torn =
@@ -39,12 +37,7 @@ module _ (x : Replica) where
   fallen_from : (k n : ℕ) → Contains (fallen_keys x) (entry_key k n) → (n ≡ length (sound_beginning x k) + 1) × ((e : Logged) × (x.at k n ≡ Some (One e)) × (e.floor < mark x k))
   fallen_from k n h =
       let row = among_flat (fallen_in x) (numbers_below x.processors) (entry_key k n) (contains_among (fallen_keys x) (entry_key k n) h) in
-      let one = fallen_one row.0 (length (sound_beginning x row.0) + 1) (mark x row.0) (x.at row.0 (length (sound_beginning x row.0) + 1)) (entry_key k n) row.2 in
-      let processor : row.0 ≡ k = sym (ap (λ (e : EntryKey). e.0) one.0) in
-      let number : length (sound_beginning x row.0) + 1 ≡ n = sym (ap (λ (e : EntryKey). e.1) one.0) in
-      let lower : (e : Logged) × (x.at row.0 n ≡ Some (One e)) × (e.floor < mark x row.0) =
-      subst (λ (i : ℕ). (e : Logged) × (x.at row.0 i ≡ Some (One e)) × (e.floor < mark x row.0)) number one.1 in
-      subst (λ (j : ℕ). (n ≡ length (sound_beginning x j) + 1) × ((e : Logged) × (x.at j n ≡ Some (One e)) × (e.floor < mark x j))) processor (sym number, lower)
+      grind (arith, fallen_one)
 
   fallen_to_list : IsReplica x → (k n : ℕ) → (n ≡ length (sound_beginning x k) + 1) × ((e : Logged) × (x.at k n ≡ Some (One e)) × (e.floor < mark x k)) → Contains (fallen_keys x) (entry_key k n)
   fallen_to_list r k n h =

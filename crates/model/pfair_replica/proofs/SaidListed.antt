@@ -31,12 +31,7 @@ module _ (x : Replica) (t : ℕ) where
   members_from : (s : Said) → Contains (said x t) s → IsSaidAt x t s
   members_from s h =
       let row = among_flat (λ k. said_in t k 1 (sound_beginning x k)) (numbers_below x.processors) s (contains_among (said x t) s h) in
-      let from = said_from t row.0 1 (sound_beginning x row.0) s row.2 in
-      let at = from.1 in
-      let low = among_below x.processors row.0 row.1 in
-      let processor = from.0 in
-      let number = at.2 in
-      (omega (arith, low, processor), (at.0, at.1, omega (arith, number), ap (λ k. slice_get (sound_beginning x k) at.0) processor ∙ at.3, at.4))
+      grind (arith, said_from, among_below)
 
   members_to : (s : Said) → IsSaidAt x t s → Contains (said x t) s
   members_to s (low, (i, e, number, at, says)) =

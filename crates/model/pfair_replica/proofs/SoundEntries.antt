@@ -25,8 +25,7 @@ entry_there x k i h = (let e = some_at (sound_beginning x k) i h in (e.0, e.1, r
 pub entry_is : (x : Replica) (k i : ℕ) (e : Logged) → i < length (sound_beginning x k) → x.at k (i + 1) ≡ Some (One e) → slice_get (sound_beginning x k) i ≡ Some e
 entry_is x k i e h held =
     let there = entry_there x k i h in
-    let same : there.0 ≡ e = cc in
-    there.1 ∙ ap Some same
+    grind arith
 
 -- what is below something that has nothing torn is there too, unchanged
 pub held_within : (x y : Replica) → Below x y → Untorn y → (k n : ℕ) (c : Flat Logged) → x.at k n ≡ Some c → y.at k n ≡ Some c

@@ -115,8 +115,7 @@ pub torn_listed : (x : Replica) (k b : ℕ) → b < x.capacity → x.at k (b + 1
 torn_listed x k b low torn none =
     let test : list_any (λ n. is_torn (x.at k (suc n))) (numbers_below x.capacity) ≡ false = sym (more_filter (entry_key k) (λ n. is_torn (x.at k n)) (numbers_below x.capacity)) ∙ ap is_more none in
     let here = any_false (λ n. is_torn (x.at k (suc n))) (numbers_below x.capacity) test b (below_among x.capacity b low) in
-    let at : x.at k (suc b) ≡ Some Torn = subst (λ (n : ℕ). x.at k n ≡ Some Torn) (let next : b + 1 ≡ suc b = omega arith in next) torn in
-    true≢false (sym (ap is_torn at) ∙ here)
+    grind arith
 
 pub test_by_untorn : (x : Replica) → Untorn x → has_torn x ≡ false
 test_by_untorn x untorn = grind (arith, none_any, not_torn)
