@@ -1,5 +1,5 @@
 -- Where cascades end, and how long a subtask holds its task's weight.
-use Rattle.pfair_optimal.proofs.Common.{cases_lt, Share, IsWeight, IsHeavy, lt_of_mul, div_ceil_le, le_div_ceil, release_of, deadline_of, b_bit_of, group_deadline_of, cascade_end, share_of, busy_bound_of, ◌≡◌, ℕ, ◌+◌, ◌-◌, ◌*◌, ◌<◌, ◌≤◌, arith, ap, refl, sym, ◌∙◌, inl, inr, ◌↔◌, div_ceil, group_deadline_heavy}
+use Rattle.pfair_optimal.proofs.Common.{cases_lt, Share, IsWeight, IsHeavy, lt_of_mul, div_ceil_le, le_div_ceil, release_of, deadline_of, b_bit_of, group_deadline_of, cascade_end, share_of, busy_bound_of, ◌≡◌, ℕ, ◌+◌, ◌-◌, ◌*◌, ◌<◌, ◌≤◌, arith, ap, refl, sym, ◌∙◌, inl, inr, ◌↔◌, div_ceil, group_deadline_heavy, one_less}
 use Rattle.pfair_weight.specs.GroupFacts.{group_deadline_light}
 use Rattle.pfair_optimal.proofs.Ends.{grow, opening, closing, next_opening, pinned, opening_next, b_bit_between}
 use Rattle.pfair_optimal.proofs.Fluids.{first_share}
@@ -46,16 +46,11 @@ wrapped w i h bit =
 -- the idle slots before a cascade's end
 inner : (a i q e c p : ℕ) → a + i ≡ c → q + e ≡ p → 0 < p → a * e < i * q + e → i * q < a * e → div_ceil (c * q) p ≡ a
 inner a i q e c p closes idle some low high =
-    let cq : c * q ≡ (a + i) * q = ap (λ (n : ℕ). n * q) (sym closes) in
-    let ap_is : a * p ≡ a * (q + e) = ap (λ (n : ℕ). a * n) (sym idle) in
-    let at_most : div_ceil (c * q) p ≤ a = div_ceil_le (c * q) p a some (omega arith) in
-    elim (cases_lt (div_ceil (c * q) p) a) [
-      | inr least ↦ omega arith
-      | inl fewer ↦ absurd (
-          let reach : c * q ≤ (a - 1) * p = le_div_ceil (c * q) p (a - 1) some (omega arith) in
-          let one : (a - 1) * p + p ≡ a * p = let e : a - 1 + 1 ≡ a = omega arith in let spread : (a - 1) * p + p ≡ (a - 1 + 1) * p = omega arith in spread ∙ ap (λ (n : ℕ). n * p) e in
-          omega arith)
-    ]
+    let slots : c * q ≡ (a + i) * q = ap (λ (n : ℕ). n * q) (sym closes) in
+    let whole : a * p ≡ a * (q + e) = ap (λ (n : ℕ). a * n) (sym idle) in
+    let most = div_ceil_le (c * q) p a some (omega arith) in
+    let step : 0 < a → (a - 1) * p + p ≡ a * p = one_less a p in
+    grind (arith, le_div_ceil (c * q) p (a - 1) some)
 
 -- the cascade has ended by n - i slots after the deadline exactly if n idle slots are a whole number of costs more
 cascade_ends : (w : Share) (i a q n : ℕ) → IsWeight w.cost w.period → Wrapped w i a q → (cascade_end w (closing w i) ≤ a + n) ↔ (a * w.cost ≤ n * q)

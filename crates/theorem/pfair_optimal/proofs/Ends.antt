@@ -1,5 +1,5 @@
 -- The ends of windows, by products.
-use Rattle.pfair_optimal.proofs.Common.{le_refl, div-lt_iff_lt-mul, Share, lt_of_mul, mul_le_of_div, b_bit_of, ◌≡◌, ℕ, ◌+◌, ◌-◌, ◌*◌, ◌/◌, ◌<◌, ◌≤◌, arith, div_ceil, mul-le}
+use Rattle.pfair_optimal.proofs.Common.{le_refl, div-lt_iff_lt-mul, Share, mul_le_of_div, b_bit_of, ◌≡◌, ℕ, ◌+◌, ◌-◌, ◌*◌, ◌/◌, ◌<◌, ◌≤◌, arith, div_ceil, mul-le, windows_overlap}
 use Rattle.std.proofs.lemmas.Grind.{div_ceil_times}
 
 -- a product that grows with its first factor
@@ -38,10 +38,6 @@ pinned w i p = grind (arith, quotient_low, quotient_high, div_ceil_times)
 pub opening_next : (w : Share) (i : ℕ) → opening w (i + 1) ≡ next_opening w i
 opening_next w i = grind arith
 
--- the next window opens where this one closes, or one slot before
-pub next_near : (w : Share) (i : ℕ) → 0 < w.cost → (next_opening w i ≤ closing w i) × (closing w i ≤ next_opening w i + 1)
-next_near w i p = grind (arith, pinned, lt_of_mul)
-
--- so its b-bit is what lies between them
-pub b_bit_between : (w : Share) (i : ℕ) → 0 < w.cost → next_opening w i + b_bit_of w i ≡ closing w i
-b_bit_between w i p = let near = next_near w i p in omega (arith, near.0)
+-- the next window opens where this one closes less the b-bit
+pub b_bit_between : (w : Share) (i : ℕ) → next_opening w i + b_bit_of w i ≡ closing w i
+b_bit_between w i = grind (arith, windows_overlap w i 0, opening_next w i)

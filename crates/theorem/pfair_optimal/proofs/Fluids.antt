@@ -1,6 +1,6 @@
 -- Shares of slots in the fluid schedule.
-use Rattle.pfair_optimal.proofs.Common.{cases_lt, Share, IsWeight, one_less, release_of, deadline_of, b_bit_of, fluid_of, share_of, total_before, ◌≡◌, ℕ, zero, suc, ◌+◌, ◌-◌, ◌*◌, ◌<◌, ◌≤◌, min, arith, ap, sym, inl, inr, ◌↔◌, release_rises}
-use Rattle.pfair_optimal.proofs.Ends.{grow, opening, closing, pinned, opening_next, next_near, b_bit_between}
+use Rattle.pfair_optimal.proofs.Common.{cases_lt, Share, IsWeight, one_less, release_of, deadline_of, b_bit_of, fluid_of, share_of, total_before, ◌≡◌, ℕ, zero, suc, ◌+◌, ◌-◌, ◌*◌, ◌<◌, ◌≤◌, min, arith, ap, sym, inl, inr, ◌↔◌, release_rises, b_bit_at_most_one}
+use Rattle.pfair_optimal.proofs.Ends.{grow, opening, closing, pinned, opening_next, b_bit_between}
 
 -- nothing before the release
 pub fluid_none : (w : Share) (i theta t : ℕ) → IsWeight w.cost w.period → t ≤ release_of w i theta → fluid_of w i theta t ≡ 0
@@ -66,7 +66,7 @@ shares_meet w i theta v later u h first bit close opens_at =
 
 -- windows of subtasks that aren't neighbours don't meet
 pub not_neighbours : (w : Share) (i j theta later : ℕ) → IsWeight w.cost w.period → 1 ≤ i → i + 1 < j → theta ≤ later → deadline_of w i theta ≤ release_of w j later
-not_neighbours w i j theta later h first less after = grind (arith, release_rises, opening_next, next_near)
+not_neighbours w i j theta later h first less after = grind (arith, release_rises, opening_next, b_bit_between, b_bit_at_most_one)
 
 -- two subtasks of one task get at most the cost of a slot
 pub shares_fit : (w : Share) (i j theta later v : ℕ) → IsWeight w.cost w.period → 1 ≤ i → i < j → theta ≤ later → share_of w i theta v + share_of w j later v ≤ w.cost
@@ -83,7 +83,7 @@ shares_fit w i j theta later v h first less after =
             elim (cases_lt (i + 1) j) [
               | inl far ↦ absurd (let apart = not_neighbours w i j theta later h first far after in omega (arith, a, b))
               | inr near ↦
-                  grind (arith, opening_next, next_near, shares_meet)
+                  grind (arith, opening_next, b_bit_between, b_bit_at_most_one, shares_meet)
             ]
       ]
     ]

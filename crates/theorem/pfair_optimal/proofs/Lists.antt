@@ -41,6 +41,9 @@ module _ {A : Type 0} (same : A → A → Bool) (exact : (a b : A) → (same a b
   any_some p [] h = absurd (false≢true h)
   any_some p (y ∷ ys) h = grind (arith, among_here, among_more, any_some p ys)
 
+  pub any_same : (p : A → Bool) (xs ys : List A) → ((x : A) → p x ≡ true → (is_among same xs x ≡ true) ↔ (is_among same ys x ≡ true)) → list_any p xs ≡ list_any p ys
+  any_same p xs ys alike = grind (arith, any_some p xs, any_some p ys, any_from)
+
   -- none twice
   pub twice_filter : (p : A → Bool) (xs : List A) → NoneTwice same xs → NoneTwice same (filter p xs)
   twice_filter p [] h = tt

@@ -1,8 +1,8 @@
 -- The subtasks that a missed one hangs on. Back from the miss, slot by slot: if one of them waits, all rows of the slot come in;
 -- if none does, those rows come in whose next subtask is one of them and is released by the slot.
 use Rattle.std.proofs.Common.{◌||◌, ◌==◌, nat_le}
-use Rattle.pfair_optimal.proofs.Common.{false_from_ne_true, true≢false, false≢true, and_parts, and_from, leb-true, le-leb, cases_lt, cases_Bool, Subtask, is_among, NoneTwice, same_subtask, next_of, previous_of, Schedule, release, deadline, is_row, has_run, IsRun, IsMiss, IsFirstMiss, GoesFirst, ◌≡◌, ℕ, zero, suc, ◌+◌, ◌-◌, ◌<◌, ◌≤◌, Bool, true, false, cond, not, ◌&&◌, List, [], ◌∷◌, ◌++◌, length, arith, ap, refl, sym, ◌∙◌, subst, inl, inr, ⊎_elim, ◌⊎◌, filter, list_any, ⊎_map}
-use Rattle.pfair_optimal.proofs.Lists.{among_here, among_cases, among_left, among_right, among_append, among_filter, filter_among, any_from, any_some, twice_filter, twice_append}
+use Rattle.pfair_optimal.proofs.Common.{true≢false, false≢true, and_parts, and_from, leb-true, le-leb, cases_lt, cases_Bool, Subtask, is_among, NoneTwice, same_subtask, next_of, previous_of, Schedule, release, deadline, is_row, has_run, IsRun, IsMiss, IsFirstMiss, GoesFirst, ◌≡◌, ℕ, zero, suc, ◌+◌, ◌-◌, ◌<◌, ◌≤◌, Bool, true, false, cond, not, ◌&&◌, List, [], ◌∷◌, ◌++◌, length, arith, ap, refl, sym, ◌∙◌, subst, inl, inr, ⊎_elim, ◌⊎◌, filter, list_any, ⊎_map}
+use Rattle.pfair_optimal.proofs.Lists.{among_here, among_cases, among_left, among_right, among_append, among_filter, filter_among, any_from, any_same, any_some, twice_filter, twice_append}
 use Rattle.pfair_optimal.proofs.Past.{subtask_exact, next_previous, ran_at, ran_by, ran_more, not_ran_less, row_not_before, next_not_run}
 use Rattle.pfair_optimal.proofs.RunWindows.{release_joined, release_before, next_deadline}
 
@@ -146,22 +146,16 @@ module _ (x : Schedule) (is : IsRun x) (td : ℕ) (missed : Subtask) (m : IsFirs
   pub full_some : (v : ℕ) → is_full x td missed v ≡ true → (z : Subtask) × In (reasons x td missed) z × Waits x z v
   full_some v h = let t = any_some same_subtask subtask_exact (waits x v) (reasons x td missed) h in (t.0, t.1, waits_true x v t.0 t.2)
 
-  full_later : (v : ℕ) → v < td → is_full x td missed v ≡ true → list_any (waits x v) (later x td missed (suc v)) ≡ true
-  full_later v before h =
-      let t = full_some v h in
-      any_from same_subtask subtask_exact (waits x v) (later x td missed (suc v)) t.0 (reason_later t.0 v before t.1 t.2.not_run) (waits_from x v t.0 t.2)
-
-  hole_later : (v : ℕ) → v < td → is_full x td missed v ≡ false → list_any (waits x v) (later x td missed (suc v)) ≡ false
-  hole_later v before h = false_from_ne_true (list_any (waits x v) (later x td missed (suc v))) (λ some.
-      let t = any_some same_subtask subtask_exact (waits x v) (later x td missed (suc v)) some in
-      true≢false (sym (full_from v t.0 (later_reason (suc v) t.0 before t.1) (waits_true x v t.0 t.2)) ∙ h))
+  full_later : (v : ℕ) → v < td → list_any (waits x v) (later x td missed (suc v)) ≡ is_full x td missed v
+  full_later v before = any_same same_subtask subtask_exact (waits x v) (later x td missed (suc v)) (reasons x td missed)
+      (λ z w. (later_reason (suc v) z before, λ h. reason_later z v before h (waits_true x v z w).not_run))
 
   -- the picks of a full slot are all its rows
   pub picks_full : (v : ℕ) → v < td → is_full x td missed v ≡ true → picks x td missed v ≡ x.table v
-  picks_full v before h = ap (λ b. cond b (x.table v) (filter (is_wanted x (later x td missed (suc v)) v) (x.table v))) (full_later v before h)
+  picks_full v before h = ap (λ b. cond b (x.table v) (filter (is_wanted x (later x td missed (suc v)) v) (x.table v))) (full_later v before ∙ h)
 
   picks_hole : (v : ℕ) → v < td → is_full x td missed v ≡ false → picks x td missed v ≡ filter (is_wanted x (later x td missed (suc v)) v) (x.table v)
-  picks_hole v before h = ap (λ b. cond b (x.table v) (filter (is_wanted x (later x td missed (suc v)) v) (x.table v))) (hole_later v before h)
+  picks_hole v before h = ap (λ b. cond b (x.table v) (filter (is_wanted x (later x td missed (suc v)) v) (x.table v))) (full_later v before ∙ h)
 
   -- those of a hole are the rows whose next subtasks are among the reasons, and released by then
   pub hole_pick : (v : ℕ) (w : Subtask) → v < td → is_full x td missed v ≡ false → In (picks x td missed v) w → In (reasons x td missed) (next_of w) × (release x (next_of w) ≤ v)

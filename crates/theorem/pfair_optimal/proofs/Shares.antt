@@ -1,5 +1,5 @@
 -- The shares that one task's subtasks have of a slot.
-use Rattle.pfair_optimal.proofs.Common.{true≢false, cases_lt, cases_eq, lt_of_not-le, release_of, share_of, Task, Subtask, is_among, NoneTwice, same_task, same_subtask, Schedule, release, deadline, busy_bound, IsRun, IsFirstMiss, ◌≡◌, ℕ, suc, ◌+◌, ◌-◌, ◌<◌, ◌≤◌, true, false, cond, [], ◌∷◌, arith, ap, refl, sym, ◌∙◌, subst, inl, inr, ⊎_elim, ◌⊎◌}
+use Rattle.pfair_optimal.proofs.Common.{true≢false, cases_lt, cases_eq, lt_of_not-le, release_of, share_of, Task, Subtask, is_among, NoneTwice, same_task, same_subtask, Schedule, release, deadline, busy_bound, IsRun, IsFirstMiss, ◌≡◌, ℕ, suc, ◌+◌, ◌-◌, ◌<◌, ◌≤◌, true, false, cond, [], ◌∷◌, arith, ap, refl, sym, ◌∙◌, subst, inl, inr, ⊎_elim, ◌⊎◌, List}
 use Rattle.pfair_optimal.proofs.Fluids.{share_in_window, shares_fit, shares_meet, no_three_shares}
 use Rattle.pfair_optimal.proofs.BusyBounds.{busy_opens}
 use Rattle.pfair_optimal.proofs.Lists.{among_here, among_more}
@@ -50,27 +50,26 @@ module _ (x : Schedule) (is : IsRun x) (td : ℕ) (missed : Subtask) (m : IsFirs
       let is_it : t.0 ≡ subtask_of a t.0.index = λ i. record { task = mine.0 i; index = t.0.index } in
       (t.0.index, subst (λ z. In (reasons x td missed) z) is_it t.1, subst (λ z. 0 < share x z v) is_it mine.1)
 
-  -- all shares of a task in a slot are those of one subtask, or of two
-  shares_one : (a : Task) (v i : ℕ) → ((j : ℕ) → In (reasons x td missed) (subtask_of a j) → 0 < share x (subtask_of a j) v → j ≡ i) → shares x td missed a v ≤ share x (subtask_of a i) v
-  shares_one a v i only =
-      let one = total_among same_subtask subtask_exact (own_share x a v) (reasons x td missed) (subtask_of a i ∷ []) reasons_twice (λ z h some.
+  -- all shares of a task in a slot are those of the subtasks that have one
+  shares_listed : (a : Task) (v : ℕ) (zs : List Subtask) → ((j : ℕ) → In (reasons x td missed) (subtask_of a j) → 0 < share x (subtask_of a j) v → In zs (subtask_of a j)) → shares x td missed a v ≤ total (own_share x a v) zs
+  shares_listed a v zs only = total_among same_subtask subtask_exact (own_share x a v) (reasons x td missed) zs reasons_twice (λ z h some.
       (let mine = own x a v z some in
       let is_it : z ≡ subtask_of a z.index = λ k. record { task = mine.0 k; index = z.index } in
-      let index = only z.index (subst (λ y. In (reasons x td missed) y) is_it h) (subst (λ y. 0 < share x y v) is_it mine.1) in
-      subst (λ y. is_among same_subtask (subtask_of a i ∷ []) y ≡ true) (sym (is_it ∙ ap (subtask_of a) index)) (among_here same_subtask subtask_exact [] (subtask_of a i)))) in
+      subst (In zs) (sym is_it) (only z.index (subst (In (reasons x td missed)) is_it h) (subst (λ y. 0 < share x y v) is_it mine.1))))
+
+  shares_one : (a : Task) (v i : ℕ) → ((j : ℕ) → In (reasons x td missed) (subtask_of a j) → 0 < share x (subtask_of a j) v → j ≡ i) → shares x td missed a v ≤ share x (subtask_of a i) v
+  shares_one a v i only =
+      let one = shares_listed a v (subtask_of a i ∷ []) (λ j h s. subst (λ k. In (subtask_of a i ∷ []) (subtask_of a k)) (sym (only j h s)) (among_here same_subtask subtask_exact [] (subtask_of a i))) in
       let le = own_le x a v (subtask_of a i) in
       omega arith
 
   shares_two : (a : Task) (v i j : ℕ) → ((k : ℕ) → In (reasons x td missed) (subtask_of a k) → 0 < share x (subtask_of a k) v → (k ≡ i) ⊎ (k ≡ j))
       → shares x td missed a v ≤ share x (subtask_of a i) v + share x (subtask_of a j) v
   shares_two a v i j only =
-      let two = total_among same_subtask subtask_exact (own_share x a v) (reasons x td missed) (subtask_of a i ∷ subtask_of a j ∷ []) reasons_twice (λ z h some.
-      (let mine = own x a v z some in
-      let is_it : z ≡ subtask_of a z.index = λ k. record { task = mine.0 k; index = z.index } in
-      ⊎_elim
-      (λ index. subst (λ y. is_among same_subtask (subtask_of a i ∷ subtask_of a j ∷ []) y ≡ true) (sym (is_it ∙ ap (subtask_of a) index)) (among_here same_subtask subtask_exact (subtask_of a j ∷ []) (subtask_of a i)))
-      (λ index. subst (λ y. is_among same_subtask (subtask_of a i ∷ subtask_of a j ∷ []) y ≡ true) (sym (is_it ∙ ap (subtask_of a) index)) (among_more same_subtask subtask_exact (subtask_of a i) (subtask_of a j ∷ []) (subtask_of a j) (among_here same_subtask subtask_exact [] (subtask_of a j))))
-      (only z.index (subst (λ y. In (reasons x td missed) y) is_it h) (subst (λ y. 0 < share x y v) is_it mine.1)))) in
+      let zs : List Subtask = subtask_of a i ∷ subtask_of a j ∷ [] in
+      let here = among_here same_subtask subtask_exact (subtask_of a j ∷ []) (subtask_of a i) in
+      let next = among_more same_subtask subtask_exact (subtask_of a i) (subtask_of a j ∷ []) (subtask_of a j) (among_here same_subtask subtask_exact [] (subtask_of a j)) in
+      let two = shares_listed a v zs (λ k h s. ⊎_elim (λ e. subst (λ n. In zs (subtask_of a n)) (sym e) here) (λ e. subst (λ n. In zs (subtask_of a n)) (sym e) next) (only k h s)) in
       let le = own_le x a v (subtask_of a i) in
       let other = own_le x a v (subtask_of a j) in
       omega arith
@@ -94,32 +93,16 @@ module _ (x : Schedule) (is : IsRun x) (td : ℕ) (missed : Subtask) (m : IsFirs
         | inl some ↦ (let t = shares_some a v some in with_one t.0 (reason_index x is td missed m (subtask_of a t.0) t.1) t.2)
       ]
     where
-      at_or_after : (i : ℕ) → 1 ≤ i → 0 < share x (subtask_of a i) v → ((j : ℕ) → In (reasons x td missed) (subtask_of a j) → 0 < share x (subtask_of a j) v → i ≤ j) → shares x td missed a v ≤ (x.weight a).cost
-      at_or_after i first one least =
-          let two = shares_two a v i (i + 1) (λ k h s.
-          (let up = near a v i k first one s in
-          let low = least k h s in
-          elim (cases_eq k i) [ inl e ↦ inl e | inr ne ↦ inr (omega (arith, up, low, ne)) ])) in
-          let fit = two_fit a v i (i + 1) first (omega arith) in
-          omega arith
+      both : (i : ℕ) → 1 ≤ i → ((k : ℕ) → In (reasons x td missed) (subtask_of a k) → 0 < share x (subtask_of a k) v → (k ≡ i) ⊎ (k ≡ i + 1)) → shares x td missed a v ≤ (x.weight a).cost
+      both i first only = (let two = shares_two a v i (i + 1) only in let fit = two_fit a v i (i + 1) first (omega arith) in omega arith)
 
       with_one : (i : ℕ) → 1 ≤ i → 0 < share x (subtask_of a i) v → shares x td missed a v ≤ (x.weight a).cost
       with_one i first one =
           elim (cases_lt 1 i) [
-            | inr is_one ↦ at_or_after i first one (λ j h s. let low = reason_index x is td missed m (subtask_of a j) h in omega (arith, low))
+            | inr is_one ↦ both i first (λ k h s. grind (arith, reason_index, near))
             | inl more ↦ elim (cases_lt 0 (share x (subtask_of a (i - 1)) v)) [
-              | inr none ↦ at_or_after i first one (λ j h s.
-                  elim (cases_lt j i) [
-                    | inr from ↦ from
-                    | inl before ↦ absurd (
-                        grind (arith, reason_index, near))
-                  ])
-              | inl also ↦ at_or_after (i - 1) (omega arith) also (λ j h s.
-                  elim (cases_lt j (i - 1)) [
-                    | inr from ↦ from
-                    | inl before ↦ absurd (
-                        grind (arith, reason_index, near))
-                  ])
+              | inr none ↦ both i first (λ k h s. grind (arith, reason_index, near))
+              | inl also ↦ both (i - 1) (omega arith) (λ k h s. grind (arith, reason_index, near))
             ]
           ]
 
