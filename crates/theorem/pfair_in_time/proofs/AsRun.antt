@@ -1,42 +1,22 @@
 -- The executive as a run: who is which task, and with which offsets in the end.
 use Rattle.std.proofs.Common.{◌≡◌, ℕ, zero, suc, ◌<◌, ◌≤◌, Bool, true, false, cond, List, [], ◌∷◌, Option, Some, None, arith, ap, refl, sym, ◌∙◌, subst, inl, inr, ⊎_elim, ◌⊎◌, not, ◌&&◌, map, ◌↔◌}
-use Rattle.pfair_in_time.proofs.Common.{find, list_any, true≢false, false≢true, cases_lt, cases_eq, cases_Bool, or_left, or_right, same_Some, Share, NamesApart, release_of, apart_head, apart_tail, name_itself, name_eq, Key, Among, among_map, map_among, among_all, Member, theta, is_departing, next_key, member_named, Settings, eligible, Story, world, named_world}
+use Rattle.pfair_in_time.proofs.Common.{find, list_any, true≢false, cases_lt, cases_eq, cases_Bool, or_left, or_right, Share, NamesApart, release_of, apart_head, apart_tail, name_itself, name_eq, Key, Among, among_map, map_among, among_all, Member, theta, is_departing, next_key, member_named, Settings, eligible, Story, world, named_world, any_among, index_of, apart_map}
 use Rattle.pfair_order.proofs.NamesApart.{first_names}
 use Rattle.pfair_optimal.specs.Schedule.{Task, Subtask, Schedule, is_among, NoneTwice, same_task, same_subtask, is_row, has_run}
-use Rattle.pfair_optimal.proofs.Lists.{among_here, among_more, among_cases}
 use Rattle.pfair_optimal.proofs.Past.{task_exact, subtask_exact, ran_at}
-use Rattle.pfair_in_time.proofs.Boundaries.{named_is}
-use Rattle.pfair_in_time.proofs.Worlds.{runs, on, on_next, keys_at, keys_apart, same_member, chosen_member, runs_chosen, chosen_runs, next_new, here, came_from, HaveWeights}
+use Rattle.pfair_in_time.proofs.Worlds.{runs, on, on_next, keys_at, keys_apart, same_member, chosen_member, runs_chosen, chosen_runs, next_new, here, came_from, HaveWeights, any_from_among}
 use Rattle.pfair_in_time.proofs.Lines.{IsLine, line_of}
+use Rattle.std.proofs.lemmas.Bool.{false_from_ne_true}
+use Rattle.pfair_table.proofs.FirstSubtasks.{found_own}
 
 -- ---- among a list, by a test or not
 
 module _ {A : Type 0} (same : A → A → Bool) (exact : (a b : A) → (same a b ≡ true) ↔ (a ≡ b)) where
   pub test_among : (xs : List A) (x : A) → Among xs x → is_among same xs x ≡ true
-  test_among [] x h = absurd h
-  test_among (y ∷ ys) x (inl e) = subst (λ (z : A). is_among same (y ∷ ys) z ≡ true) (sym e) (among_here same exact ys y)
-  test_among (y ∷ ys) x (inr h) = among_more same exact y ys x (test_among ys x h)
+  test_among xs x h = any_from_among (same x) xs x h ((exact x x).1 refl)
 
   pub among_test : (xs : List A) (x : A) → is_among same xs x ≡ true → Among xs x
-  among_test [] x h = absurd (false≢true h)
-  among_test (y ∷ ys) x h = ⊎_elim (λ e. inl e) (λ r. inr (among_test ys x r)) (among_cases same exact y ys x h)
-
-pub found_some : {A : Type 0} (p : A → Bool) (xs : List A) (x : A) → find p xs ≡ Some x → Among xs x × (p x ≡ true)
-found_some p [] x e = absurd (cc)
-found_some p (y ∷ ys) x e = by (p y) refl e (λ r. found_some p ys x r)
-  where
-    by : (b : Bool) → p y ≡ b → cond b (Some y) (find p ys) ≡ Some x → (find p ys ≡ Some x → Among ys x × (p x ≡ true)) → Among (y ∷ ys) x × (p x ≡ true)
-    by true t e rest = let same = same_Some y x e in (inl (sym same), sym (ap p same) ∙ t)
-    by false t e rest = let r = rest e in (inr r.0, r.1)
-
-pub found_none : {A : Type 0} (p : A → Bool) (xs : List A) (x : A) → find p xs ≡ None → Among xs x → p x ≡ true → ⊥
-found_none p [] x e h t = h
-found_none p (y ∷ ys) x e h t = by (p y) refl e h (λ r i. found_none p ys x r i t)
-  where
-    by : (b : Bool) → p y ≡ b → cond b (Some y) (find p ys) ≡ None → Among (y ∷ ys) x → (find p ys ≡ None → Among ys x → ⊥) → ⊥
-    by true q e h rest = cc
-    by false q e (inl i) rest = true≢false (sym t ∙ ap p i ∙ q)
-    by false q e (inr i) rest = rest e i
+  among_test xs x h = let p = any_among (same x) xs h in subst (λ y. Among xs y) (sym ((exact x p.0).0 p.2)) p.1
 
 -- ---- tasks
 
@@ -48,6 +28,20 @@ subtask_of m = record { task = task_of m; index = m.next }
 
 abbrev pub is_task : Task → Member → Bool
 is_task a m = same_task (task_of m) a
+
+-- the member that is a task, if one is
+pub find_task : (a : Task) (ms : List Member) → ((m : Member) × (find (is_task a) ms ≡ Some m) × Among ms m × (task_of m ≡ a)) ⊎ ((find (is_task a) ms ≡ None) × ((m : Member) → Among ms m → task_of m ≡ a → ⊥))
+find_task a [] = inr (refl, λ m h e. h)
+find_task a (m ∷ ms) = elim (cases_Bool (is_task a m)) [
+  | inl is ↦ inl (m, ap (λ b. cond b (Some m) (find (is_task a) ms)) is, inl refl, (task_exact (task_of m) a).0 is)
+  | inr not_it ↦ elim (find_task a ms) [
+    | inl p ↦ inl (p.0, ap (λ b. cond b (Some m) (find (is_task a) ms)) not_it ∙ p.1, inr p.2, p.3)
+    | inr none ↦ inr (
+      ap (λ b. cond b (Some m) (find (is_task a) ms)) not_it ∙ none.0,
+      λ n h e. ⊎_elim (λ here. true≢false (sym ((task_exact (task_of m) a).1 (sym (ap task_of here) ∙ e)) ∙ not_it)) (λ rest. none.1 n rest e) h,
+    )
+  ]
+]
 
 -- the task as it is in the last slot below n that has it
 abbrev pub or_else : Option Member → Option Member → Option Member
@@ -66,12 +60,12 @@ abbrev pub offset_in : Task → Option Member → ℕ → ℕ
 offset_in a None i = a.joined
 offset_in a (Some m) i = theta m i
 
-abbrev pub row_in : Option Member → Subtask
-row_in None = record { task = record { name = []; joined = 0 }; index = 0 }
-row_in (Some m) = subtask_of m
+abbrev pub joined_in : Option Member → ℕ
+joined_in None = 0
+joined_in (Some m) = m.joined
 
 abbrev pub row_of : List Member → Key → Subtask
-row_of members k = row_in (member_named members k.name)
+row_of members k = record { task = record { name = k.name; joined = joined_in (member_named members k.name) }; index = index_of (member_named members k.name) }
 
 abbrev pub is_running : Task → Member → Bool
 is_running a m = is_task a m && not (is_departing m)
@@ -90,12 +84,12 @@ as_run s x n = record {
 -- ---- rows
 
 row_is : (s : Settings) (x : Story) (t : ℕ) (m : Member) → Among (world None s x t) m → row_of (world None s x t) (next_key m) ≡ subtask_of m
-row_is s x t m h = ap row_in (named_is (world None s x t) m.name m (named_world s x t) h (name_itself m.name))
+row_is s x t m h = ap (λ (o : Option Member). record { task = record { name = m.name; joined = joined_in o }; index = index_of o }) (found_own (world None s x t) (named_world s x t) m h)
 
 pub row_member : (s : Settings) (x : Story) (n t : ℕ) (z : Subtask) → is_row (as_run s x n) t z ≡ true → (m : Member) × Among (world None s x t) m × (runs s x t m ≡ true) × (z ≡ subtask_of m)
 row_member s x n t z row =
     let p = among_map (row_of (world None s x t)) (keys_at s x t) z (among_test same_subtask subtask_exact (map (row_of (world None s x t)) (keys_at s x t)) z row) in
-    let q = chosen_member s x t p.0 p.1 in
+    let q = chosen_member s t (world None s x t) (named_world s x t) p.0 p.1 in
     (q.0, q.1, chosen_runs s x t q.0 (subst (λ k. Among (keys_at s x t) k) q.3 p.1), p.2 ∙ ap (row_of (world None s x t)) q.3 ∙ row_is s x t q.0 q.1)
 
 pub member_row : (s : Settings) (x : Story) (n t : ℕ) (m : Member) → Among (world None s x t) m → runs s x t m ≡ true → is_row (as_run s x n) t (subtask_of m) ≡ true
@@ -103,46 +97,37 @@ member_row s x n t m h named =
     test_among same_subtask subtask_exact (map (row_of (world None s x t)) (keys_at s x t)) (subtask_of m)
     (subst (λ z. Among (map (row_of (world None s x t)) (keys_at s x t)) z) (row_is s x t m h) (map_among (row_of (world None s x t)) (keys_at s x t) (next_key m) (runs_chosen s x t m h named).1))
 
-pub rows_apart : (s : Settings) (x : Story) (n t : ℕ) → NoneTwice same_subtask ((as_run s x n).table t)
-rows_apart s x n t = go (keys_at s x t) (λ k h. h) (first_names s.processors (eligible t (world None s x t)) (keys_apart s x t))
-  where
-    named : (k : Key) → Among (keys_at s x t) k → (row_of (world None s x t) k).task.name ≡ k.name
-    named k h = (let q = chosen_member s x t k h in ap (λ (z : Subtask). z.task.name) (ap (row_of (world None s x t)) q.3 ∙ row_is s x t q.0 q.1) ∙ ap (λ (l : Key). l.name) (sym q.3))
+once_named : (zs : List Subtask) → NamesApart (λ (z : Subtask). z.task.name) zs → NoneTwice same_subtask zs
+once_named [] apart = tt
+once_named (z ∷ zs) apart = (
+  false_from_ne_true (is_among same_subtask zs z) (λ twice.
+      let other = among_all (λ (y : Subtask). name_eq z.task.name y.task.name ≡ false) zs (apart_head (λ (y : Subtask). y.task.name) z zs apart) z (among_test same_subtask subtask_exact zs z twice) in
+      true≢false (sym (name_itself z.task.name) ∙ other)),
+  once_named zs (apart_tail (λ (y : Subtask). y.task.name) z zs apart),
+)
 
-    go : (ks : List Key) → ((k : Key) → Among ks k → Among (keys_at s x t) k) → NamesApart (λ (k : Key). k.name) ks → NoneTwice same_subtask (map (row_of (world None s x t)) ks)
-    go [] within apart = tt
-    go (k ∷ ks) within apart = (
-      elim (cases_Bool (is_among same_subtask (map (row_of (world None s x t)) ks) (row_of (world None s x t) k))) [
-        | inr e ↦ e
-        | inl twice ↦ absurd (
-            let p = among_map (row_of (world None s x t)) ks (row_of (world None s x t) k) (among_test same_subtask subtask_exact (map (row_of (world None s x t)) ks) (row_of (world None s x t) k) twice) in
-            let names : k.name ≡ p.0.name = sym (named k (within k (inl refl))) ∙ ap (λ (z : Subtask). z.task.name) p.2 ∙ named p.0 (within p.0 (inr p.1)) in
-            let other = among_all (λ (y : Key). name_eq k.name y.name ≡ false) ks (apart_head (λ (k : Key). k.name) k ks apart) p.0 p.1 in
-            true≢false (sym (subst (λ (n : List ℕ). name_eq k.name n ≡ true) names (name_itself k.name)) ∙ other))
-      ],
-      go ks (λ l h. within l (inr h)) (apart_tail (λ (k : Key). k.name) k ks apart),
-    )
+pub rows_apart : (s : Settings) (x : Story) (n t : ℕ) → NoneTwice same_subtask ((as_run s x n).table t)
+rows_apart s x n t = once_named ((as_run s x n).table t) (apart_map (λ (k : Key). k.name) (λ (z : Subtask). z.task.name) (row_of (world None s x t)) (λ k. refl) (keys_at s x t) (first_names s.processors (eligible t (world None s x t)) (keys_apart s x t)))
 
 module _ (s : Settings) (x : Story) (weights : HaveWeights x) where
   -- ---- in the end
 
   last_line : (n u : ℕ) (m : Member) → Among (world None s x u) m → u < n → (l : Member) × (v : ℕ) × (last_of s x n (task_of m) ≡ Some l) × Among (world None s x v) l × (u ≤ v) × IsLine s x u v m l
   last_line zero u m h less = absurd (omega arith)
-  last_line (suc n) u m h less = by (find (is_task (task_of m)) (world None s x n)) refl (λ before. last_line n u m h before)
-    where
-      Last : Option Member → Type 0
-      Last o = (l : Member) × (v : ℕ) × (or_else o (last_of s x n (task_of m)) ≡ Some l) × Among (world None s x v) l × (u ≤ v) × IsLine s x u v m l
-
-      by : (o : Option Member) → find (is_task (task_of m)) (world None s x n) ≡ o → (u < n → Last None) → Last o
-      by (Some l) e rest =
-          let f = found_some (is_task (task_of m)) (world None s x n) l e in
-          let same = (task_exact (task_of l) (task_of m)).0 f.1 in
-          (l, n, refl, f.0, omega arith, line_of s x weights n u m l h f.0 (omega arith) (ap (λ (a : Task). a.name) same) (ap (λ (a : Task). a.joined) same))
-      by None e rest =
-          elim (cases_eq u n) [
-            | inl now ↦ absurd (found_none (is_task (task_of m)) (world None s x n) m e (subst (λ k. Among (world None s x k) m) now h) ((task_exact (task_of m) (task_of m)).1 refl))
-            | inr other ↦ rest (omega (arith, other))
-          ]
+  last_line (suc n) u m h less = elim (find_task (task_of m) (world None s x n)) [
+    | inl p ↦ (
+      p.0,
+      n,
+      ap (λ o. or_else o (last_of s x n (task_of m))) p.1,
+      p.2,
+      omega arith,
+      line_of s x weights n u m p.0 h p.2 (omega arith) (ap (λ (a : Task). a.name) p.3) (ap (λ (a : Task). a.joined) p.3),
+    )
+    | inr none ↦ elim (cases_eq u n) [
+      | inl now ↦ absurd (none.1 m (subst (λ k. Among (world None s x k) m) now h) refl)
+      | inr other ↦ (let p = last_line n u m h (omega (arith, other)) in (p.0, p.1, ap (λ o. or_else o (last_of s x n (task_of m))) none.0 ∙ p.2, p.3, p.4, p.5))
+    ]
+  ]
 
   -- the weight, and the offsets that don't change any more, are those that stand in the end
   pub record IsFinal (n u : ℕ) (m : Member) : Type 0 where

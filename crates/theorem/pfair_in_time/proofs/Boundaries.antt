@@ -1,15 +1,17 @@
 -- What boundaries make of members.
-use Rattle.std.proofs.Common.{◌≡◌, ℕ, ◌+◌, ◌-◌, ◌*◌, ◌%◌, ◌<◌, ◌≤◌, Bool, true, false, List, [], ◌∷◌, ◌++◌, Option, Some, None, arith, ap, refl, sym, ◌∙◌, subst, inl, inr, ⊎_elim, max, ◌⊎◌, not, nat_lt, ◌==◌, ◌||◌, is_some, if◌then◌else◌}
-use Rattle.pfair_in_time.proofs.Common.{true≢false, false≢true, cases_lt, cases_Bool, or_parts, ltb-false, leb-true, eqb-true, not_from_false, same_Some, NamesApart, Share, IsWeight, units_of, release_of, name_exact, Among, among_left, among_append, among_filter, filter_among, among_map, map_among, Member, theta, is_departing, busy_until, freeing_slot, Machine, is_named, member_named, claimed, arrival, departure, late_release, decision, newcomer, with_freeing, with_delay, change, effect, is_freed, present, decided, all_decided, boundary, Descends, IsSound, IsNew, theta_earlier}
+use Rattle.std.proofs.Common.{◌≡◌, ℕ, ◌-◌, ◌*◌, ◌%◌, ◌<◌, ◌≤◌, Bool, true, false, List, [], ◌∷◌, ◌++◌, Option, Some, None, arith, ap, refl, sym, ◌∙◌, subst, inl, inr, ⊎_elim, ◌⊎◌, not, nat_lt, ◌||◌, is_some, if◌then◌else◌}
+use Rattle.pfair_in_time.proofs.Common.{true≢false, false≢true, cases_lt, cases_Bool, or_parts, ltb-false, leb-true, not_from_false, same_Some, NamesApart, Share, IsWeight, release_of, name_exact, Among, among_left, among_append, among_filter, filter_among, among_map, map_among, Member, theta, is_departing, freeing_slot, Machine, is_named, member_named, departure, late_release, decision, newcomer, with_freeing, with_delay, change, effect, is_freed, present, decided, all_decided, boundary, Descends, IsSound, IsNew, theta_earlier, cases_eq, theta_rises, le_refl}
 use Rattle.pfair_entry.specs.declared.entry.Announcement.{Announcement}
 use Rattle.pfair_entry.specs.Entry.{IsWeighed}
-use Rattle.pfair_admission.specs.declared.decision.Decision.TheVariants.{Admitted, Departing, Delayed, Refused}
-use Rattle.pfair_admission.specs.declared.decision.Refusal.TheVariants.{NameTaken, PeriodOutsideFrame, NoRoom, AlreadyDeparting, AlreadyReleased}
+use Rattle.pfair_admission.specs.declared.decision.Decision.TheVariants.{Departing, Delayed, Refused}
+use Rattle.pfair_admission.specs.declared.decision.Refusal.TheVariants.{AlreadyDeparting, AlreadyReleased}
 use Rattle.pfair_admission.proofs.Effects.{by_effect}
 use Rattle.pfair_admission.proofs.NamesKept.{apart_effect, apart_present}
 use Rattle.pfair_table.proofs.FirstSubtasks.{found_own}
 use Rattle.pfair_in_time.specs.Laws.{AllSound, AllHaveWeights, IsFreed, BoundariesKeepMembers}
-use Rattle.pfair_in_time.proofs.Offsets.{release_rises, delayed_rises}
+use Rattle.pfair_admission.proofs.Keeping.{admitted_in_frame, freed_from_claim, theta_later}
+use Rattle.pfair_weight.specs.WindowFacts.{of_released, released}
+use Rattle.std.proofs.lemmas.Nat.{mul-le}
 
 -- ---- one member
 
@@ -37,16 +39,23 @@ freeing_descends : (t : ℕ) (m : Member) → is_departing m ≡ false → (slot
 freeing_descends t m active slot = record { name = refl; weight = refl; early = refl; joined = refl; next = refl; rises = λ i. omega arith; stays = λ i _. refl; departing = λ d. absurd (true≢false (sym d ∙ active)) }
 
 freeing_sound : (frame t : ℕ) (m : Member) (slot : ℕ) → slot ≡ freeing_slot m t → IsSound frame m → IsSound frame (with_freeing slot m)
-freeing_sound frame t m slot is s = record { weight = s.weight; period = s.period; claim = λ f e. holds f (same_Some slot f e) }
-  where
-    holds : (f : ℕ) → slot ≡ f → (m.next ≡ 1) ⊎ (busy_until m (m.next - 1) ≤ f)
-    holds f e = by (m.next == 1) refl
-      where
-        by : (b : Bool) → (m.next == 1) ≡ b → (m.next ≡ 1) ⊎ (busy_until m (m.next - 1) ≤ f)
-        by true first = inl (eqb-true m.next 1 first)
-        by false ran =
-            let slot_is : freeing_slot m t ≡ max t (busy_until m (m.next - 1)) = ap (λ b. if b then t else max t (busy_until m (m.next - 1))) ran in
-            inr (omega arith)
+freeing_sound frame t m slot is s = record {
+  weight = s.weight;
+  period = s.period;
+  claim = λ f e. elim (cases_eq m.next 1) [
+    | inl first ↦ inl first
+    | inr ran ↦ inr (let from = freed_from_claim m t ran in let same = same_Some slot f e in omega arith)
+  ];
+}
+
+-- releases rise with the index
+release_rises : (m : Member) (i j : ℕ) → 0 < m.weight.cost → i ≤ j → release_of m.weight i (theta m i) ≤ release_of m.weight j (theta m j)
+release_rises m i j some le =
+    let moved = theta_rises m i j le in
+    let wide : (i - 1) * m.weight.period ≤ (j - 1) * m.weight.period = mul-le (i - 1) m.weight.period (j - 1) m.weight.period (omega arith) (le_refl m.weight.period) in
+    let opens = of_released m.weight j (release_of m.weight j 0) some (le_refl (release_of m.weight j 0)) in
+    let opened = released m.weight i (release_of m.weight j 0) some (omega arith) in
+    omega arith
 
 -- the late release of one that isn't departing, of a subtask that is to come
 delay_descends : (t index by : ℕ) (m : Member) → 0 < m.weight.cost → is_departing m ≡ false → t ≤ release_of m.weight index (theta m index) → m.next ≤ index → Descends t m (with_delay index by m)
@@ -56,7 +65,7 @@ delay_descends t index by m some active released to_come = record {
   early = refl;
   joined = refl;
   next = refl;
-  rises = delayed_rises index by m;
+  rises = λ i. grind (arith, cases_lt i index, theta_earlier, theta_later);
   stays = λ i h. theta_earlier m index by i (below i h);
   departing = λ d. absurd (true≢false (sym d ∙ active));
 }
@@ -99,32 +108,23 @@ is_late t (Some m) index e = by (is_departing m) (nat_lt (release_of m.weight in
         let p = or_parts (nat_lt (release_of m.weight index (theta m index)) t) (nat_lt index m.next) r in
         (m, refl, d, ltb-false (release_of m.weight index (theta m index)) t p.0, ltb-false index m.next p.1)
 
-fits_frame : (machine : Machine) (ms : List Member) (name : List ℕ) (w : Share) → arrival machine ms name w ≡ Admitted → machine.frame % w.period ≡ 0
-fits_frame machine ms name w e = eqb-true (machine.frame % w.period) 0
-    (by (is_some (member_named ms name)) (machine.frame % w.period == 0) (nat_lt (machine.processors * machine.frame) (claimed machine.frame ms + units_of w machine.frame)) e)
-  where
-    by : (b c d : Bool) → (if b then Refused NameTaken else if not c then Refused PeriodOutsideFrame else if d then Refused NoRoom else Admitted) ≡ Admitted → c ≡ true
-    by true c d e = absurd (cc)
-    by false true d e = refl
-    by false false d e = absurd (cc)
-
 -- ---- one decision
 
--- what becomes of all members
-record Step (machine : Machine) (t : ℕ) (old new : List Member) : Type 0 where
+-- what becomes of all members, of whom some may be freed
+record Steps (machine : Machine) (t : ℕ) (old new : List Member) : Type 0 where
   sound : AllSound machine.frame new
   from : (n : Member) → Among new n → ((m : Member) × Among old m × Descends t m n) ⊎ IsNew t n
-  to : (m : Member) → Among old m → (n : Member) × Among new n × Descends t m n
+  to : (m : Member) → Among old m → ((n : Member) × Among new n × Descends t m n) ⊎ ((n : Member) × IsFreed t machine.frame m n)
 
-nothing_changes : (machine : Machine) (t : ℕ) (ms : List Member) → AllSound machine.frame ms → Step machine t ms ms
-nothing_changes machine t ms sound = record { sound = sound; from = λ n h. inl (n, h, descends_itself t n); to = λ m h. (m, h, descends_itself t m) }
+nothing_changes : (machine : Machine) (t : ℕ) (ms : List Member) → AllSound machine.frame ms → Steps machine t ms ms
+nothing_changes machine t ms sound = record { sound = sound; from = λ n h. inl (n, h, descends_itself t n); to = λ m h. inl (m, h, descends_itself t m) }
 
 one_changes : (machine : Machine) (t : ℕ) (ms : List Member) (name : List ℕ) (f : Member → Member) → AllSound machine.frame ms
-    → ((m : Member) → Among ms m → is_named name m ≡ true → Descends t m (f m) × IsSound machine.frame (f m)) → Step machine t ms (change name f ms)
+    → ((m : Member) → Among ms m → is_named name m ≡ true → Descends t m (f m) × IsSound machine.frame (f m)) → Steps machine t ms (change name f ms)
 one_changes machine t ms name f sound changes = record {
   sound = λ n h. (let p = among_map (λ m. if is_named name m then f m else m) ms n h in subst (IsSound machine.frame) (sym p.2) (whole p.0 p.1).1);
   from = λ n h. (let p = among_map (λ m. if is_named name m then f m else m) ms n h in inl (p.0, p.1, subst (Descends t p.0) (sym p.2) (whole p.0 p.1).0));
-  to = λ m h. ((if is_named name m then f m else m), map_among (λ m. if is_named name m then f m else m) ms m h, (whole m h).0);
+  to = λ m h. inl ((if is_named name m then f m else m), map_among (λ m. if is_named name m then f m else m) ms m h, (whole m h).0);
 }
   where
     whole : (m : Member) → Among ms m → Descends t m (if is_named name m then f m else m) × IsSound machine.frame (if is_named name m then f m else m)
@@ -135,20 +135,20 @@ one_changes machine t ms name f sound changes = record {
         by false e = (descends_itself t m, sound m h)
 
 joins : (machine : Machine) (t : ℕ) (ms : List Member) (name : List ℕ) (w : Share) (early : Bool) → AllSound machine.frame ms → IsWeight w.cost w.period → machine.frame % w.period ≡ 0
-    → Step machine t ms (ms ++ newcomer t name w early ∷ [])
+    → Steps machine t ms (ms ++ newcomer t name w early ∷ [])
 joins machine t ms name w early sound weight period = record {
   sound = λ n h. ⊎_elim (λ l. sound n l) (λ r. ⊎_elim (λ e. subst (IsSound machine.frame) (sym e) new) (λ none. absurd none) r) (among_append ms (newcomer t name w early ∷ []) n h);
   from = λ n h. ⊎_elim (λ l. inl (n, l, descends_itself t n)) (λ r. inr (⊎_elim (λ e. subst (IsNew t) (sym e) (record { joined = refl; next = refl })) (λ none. absurd none) r)) (among_append ms (newcomer t name w early ∷ []) n h);
-  to = λ m h. (m, among_left ms (newcomer t name w early ∷ []) m h, descends_itself t m);
+  to = λ m h. inl (m, among_left ms (newcomer t name w early ∷ []) m h, descends_itself t m);
 }
   where
     new : IsSound machine.frame (newcomer t name w early)
     new = record { weight = weight; period = period; claim = λ slot e. absurd (cc) }
 
-effect_step : (machine : Machine) (t : ℕ) (ms : List Member) (a : Announcement) → NamesApart (λ (m : Member). m.name) ms → AllSound machine.frame ms → IsWeighed a → Step machine t ms (effect t ms a (decision machine t ms a))
+effect_step : (machine : Machine) (t : ℕ) (ms : List Member) (a : Announcement) → NamesApart (λ (m : Member). m.name) ms → AllSound machine.frame ms → IsWeighed a → Steps machine t ms (effect t ms a (decision machine t ms a))
 effect_step machine t ms a apart sound weight =
-    by_effect (Step machine t ms) t ms (nothing_changes machine t ms sound) a (decision machine t ms a)
-    (λ name w early is admitted. joins machine t ms name w early sound (subst IsWeighed is weight) (fits_frame machine ms name w (ap (decision machine t ms) (sym is) ∙ admitted)))
+    by_effect (Steps machine t ms) t ms (nothing_changes machine t ms sound) a (decision machine t ms a)
+    (λ name w early is admitted. joins machine t ms name w early sound (subst IsWeighed is weight) (admitted_in_frame machine ms name w (sym (ap (decision machine t ms) (sym is) ∙ admitted))))
     (λ name slot is leaves. one_changes machine t ms name (with_freeing slot) sound (λ m h e.
     (let p = departs t (member_named ms name) slot (ap (decision machine t ms) (sym is) ∙ leaves) in
     let same : p.0 ≡ m = same_Some p.0 m (sym p.1 ∙ named_is ms name m apart h e) in
@@ -161,21 +161,15 @@ effect_step machine t ms a apart sound weight =
 
 -- ---- all decisions
 
--- the same, if some may be freed
-record Steps (machine : Machine) (t : ℕ) (old new : List Member) : Type 0 where
-  sound : AllSound machine.frame new
-  from : (n : Member) → Among new n → ((m : Member) × Among old m × Descends t m n) ⊎ IsNew t n
-  to : (m : Member) → Among old m → ((n : Member) × Among new n × Descends t m n) ⊎ ((n : Member) × IsFreed t machine.frame m n)
-
 freed_slot : (t : ℕ) (o : Option ℕ) → is_freed t o ≡ true → (slot : ℕ) × (o ≡ Some slot) × (slot ≤ t)
 freed_slot t None e = absurd (false≢true e)
 freed_slot t (Some slot) e = (slot, refl, leb-true slot t e)
 
-present_steps : (machine : Machine) (t : ℕ) (old new : List Member) → Step machine t old new → Steps machine t old (present t new)
+present_steps : (machine : Machine) (t : ℕ) (old new : List Member) → Steps machine t old new → Steps machine t old (present t new)
 present_steps machine t old new s = record {
   sound = λ n h. s.sound n (among_filter (λ (m : Member). not (is_freed t m.freed_at)) new n h).0;
   from = λ n h. s.from n (among_filter (λ (m : Member). not (is_freed t m.freed_at)) new n h).0;
-  to = λ m h. (let p = s.to m h in kept m p.0 p.1 p.2 (cases_Bool (is_freed t p.0.freed_at)));
+  to = λ m h. elim (s.to m h) [ inl p ↦ kept m p.0 p.1 p.2 (cases_Bool (is_freed t p.0.freed_at)) | inr gone ↦ inr gone ];
 }
   where
     kept : (m n : Member) → Among new n → Descends t m n → (is_freed t n.freed_at ≡ true) ⊎ (is_freed t n.freed_at ≡ false)
@@ -206,7 +200,7 @@ steps_on machine t a b c one other = record {
 }
 
 all_steps : (machine : Machine) (t : ℕ) (ms : List Member) (announced : List Announcement) → NamesApart (λ (m : Member). m.name) ms → AllSound machine.frame ms → AllHaveWeights announced → Steps machine t ms (all_decided machine t ms announced)
-all_steps machine t ms [] apart sound weights = record { sound = sound; from = λ n h. inl (n, h, descends_itself t n); to = λ m h. inl (m, h, descends_itself t m) }
+all_steps machine t ms [] apart sound weights = nothing_changes machine t ms sound
 all_steps machine t ms (a ∷ more) apart sound weights =
     let one = present_steps machine t ms (effect t ms a (decision machine t ms a)) (effect_step machine t ms a apart sound (weights a (inl refl))) in
     let still = apart_present t (effect t ms a (decision machine t ms a)) (apart_effect machine t ms a apart) in

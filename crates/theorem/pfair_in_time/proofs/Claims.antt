@@ -1,7 +1,7 @@
 -- How long a claim is held, and who goes before whom.
 use Rattle.std.proofs.Common.{◌≡◌, ℕ, suc, ◌+◌, ◌-◌, ◌*◌, ◌<◌, ◌≤◌, List, length, arith, ap, inl, inr, get_or, if◌then◌else◌}
 use Rattle.pfair_in_time.proofs.Common.{Contains, cases_lt, cases_eq, lt-ltb, le-ltb, slice_get_within, slice_get-get_or, Share, IsWeight, deadline_of, b_bit_of, group_deadline_of, deadline_rises_strictly, b_bit_at_most_one, Key, Member, theta, busy_until, theta_rises}
-use Rattle.pfair_weight.specs.GroupFacts.{group_deadline_light, group_deadline_whole, group_deadline_heavy, group_deadline_not_before, group_deadline_rises}
+use Rattle.pfair_weight.specs.GroupFacts.{group_deadline_light, group_deadline_whole, group_deadline_heavy, group_deadline_not_before, group_deadline_rises, by_kind}
 use Rattle.pfair_order.specs.Order.{pd2_cmp, GoesBefore}
 use Rattle.pfair_order.specs.Rank.{rank, first_by_rank, EachOnce}
 use Rattle.pfair_order.proofs.KeyLaws.{keys_total}
@@ -12,19 +12,7 @@ use Rattle.pfair_optimal.specs.Fluid.{busy_bound_of}
 
 -- a later offset puts the group deadline of a heavy weight off
 group_moves : (w : Share) (i from to : ℕ) → IsWeight w.cost w.period → from ≤ to → group_deadline_of w i from ≤ group_deadline_of w i to
-group_moves w i from to h le =
-    elim (cases_lt (2 * w.cost) w.period) [
-      | inl light ↦ (let a = group_deadline_light w i from light in omega arith)
-      | inr heavy ↦ elim (cases_lt w.cost w.period) [
-        | inl below ↦ (let a = group_deadline_heavy w i from heavy below in let b = group_deadline_heavy w i to heavy below in omega arith)
-        | inr whole ↦
-            let most = h.at_most_one in
-            let same : w.cost ≡ w.period = omega arith in
-            let a = group_deadline_whole w i from h same in
-            let b = group_deadline_whole w i to h same in
-            omega arith
-      ]
-    ]
+group_moves w i from to h le = grind (arith, by_kind, group_deadline_light, group_deadline_heavy, group_deadline_whole)
 
 -- the claim of a later subtask is held past the busy bound of an earlier one
 pub bound_le_claim : (m : Member) (i j : ℕ) → IsWeight m.weight.cost m.weight.period → i ≤ j → busy_bound_of m.weight i (theta m i) ≤ busy_until m j

@@ -8,7 +8,7 @@ pub use Rattle.pfair_entry.specs.Same.{entry_eq, name_eq}
 pub use Rattle.pfair_in_time.specs.Descent.{Descends, IsNew, IsSound}
 pub use Rattle.pfair_in_time.specs.Runs.{IsRunAfter, IsServed, NoneMisses, Past, origin_after, table_through}
 pub use Rattle.pfair_order.specs.declared.Key.{Key}
-pub use Rattle.pfair_replica.specs.Among.{Among, among_all, among_append, among_below, among_contains, among_filter, among_left, among_map, contains_among, filter_among, map_among, map_same}
+pub use Rattle.pfair_replica.specs.Among.{Among, all_among, among_all, among_append, among_below, among_contains, among_filter, among_left, among_map, contains_among, filter_among, map_among, map_same}
 pub use Rattle.pfair_replica.specs.Replica.{Agree, IsReplica, Replica, Untorn, numbers_below, said}
 pub use Rattle.pfair_table.proofs.Members.{label, named_from, named_world}
 pub use Rattle.pfair_table.proofs.NextIndexes.{IsCounted, counted_on, counted_world, long_history, world_counted}

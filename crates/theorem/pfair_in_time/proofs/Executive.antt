@@ -1,6 +1,6 @@
 -- The executive keeps the premises of a run.
-use Rattle.std.proofs.Common.{◌≡◌, ℕ, zero, suc, ◌+◌, ◌-◌, ◌*◌, ◌%◌, ◌<◌, ◌≤◌, true, false, List, [], ◌∷◌, Option, Some, None, length, arith, ap, refl, sym, ◌∙◌, subst, inl, inr, ◌⊎◌, not, map, filter, nat_le, sum_by}
-use Rattle.pfair_in_time.proofs.Common.{find, Contains, true≢false, cases_lt, cases_eq, cases_order, cases_Bool, and_parts, and_from, not-true, not_from_false, le-leb, length-map, sum_by-cons, Share, IsWeight, units_of, release_of, deadline_of, b_bit_of, group_deadline_of, b_bit_at_most_one, Key, Among, among_contains, contains_among, filter_among, map_among, Member, theta, is_departing, eligible_from, next_key, Settings, eligible, is_eligible, Story, world, IsSound, theta_rises, any_among, eligible_no_later}
+use Rattle.std.proofs.Common.{◌≡◌, ℕ, zero, suc, ◌+◌, ◌-◌, ◌*◌, ◌%◌, ◌<◌, ◌≤◌, true, false, Option, Some, None, length, arith, ap, refl, sym, ◌∙◌, subst, inl, inr, ◌⊎◌, not, map, filter, nat_le, sum_by}
+use Rattle.pfair_in_time.proofs.Common.{Contains, true≢false, cases_lt, cases_eq, cases_order, cases_Bool, and_parts, and_from, not-true, not_from_false, le-leb, length-map, Share, IsWeight, units_of, release_of, deadline_of, b_bit_of, group_deadline_of, b_bit_at_most_one, Key, Among, among_contains, contains_among, filter_among, map_among, Member, theta, is_departing, eligible_from, next_key, Settings, eligible, is_eligible, Story, world, IsSound, theta_rises, any_among, eligible_no_later, same_Some}
 use Rattle.pfair_order.specs.Order.{GoesBefore, earlier_deadline, greater_b_bit, later_group, smaller_name, smaller_group}
 use Rattle.pfair_order.proofs.NamesApart.{once_from_names}
 use Rattle.pfair_optimal.specs.Fluid.{busy_bound_of}
@@ -9,8 +9,8 @@ use Rattle.pfair_optimal.specs.Beginning.{IsRunBelow}
 use Rattle.pfair_optimal.proofs.Past.{task_exact, ran_by, ran_more}
 use Rattle.pfair_in_time.proofs.Worlds.{any_from_among, runs, keys_at, keys_apart, runs_chosen, chosen_runs, here, HaveWeights}
 use Rattle.pfair_in_time.proofs.Lines.{line_of, back_to, on_to, IsGone}
-use Rattle.pfair_in_time.proofs.AsRun.{test_among, task_of, subtask_of, is_task, last_of, or_else, weight_in, offset_in, is_running, row_of, as_run, row_member, member_row, rows_apart, IsFinal, final, next_counted, all_before_ran, none_after_ran, found_some}
-use Rattle.pfair_in_time.proofs.Room.{room_world}
+use Rattle.pfair_in_time.proofs.AsRun.{test_among, task_of, subtask_of, is_task, last_of, or_else, weight_in, offset_in, is_running, row_of, as_run, row_member, member_row, rows_apart, IsFinal, final, next_counted, all_before_ran, none_after_ran, find_task}
+use Rattle.pfair_in_time.proofs.Room.{room_world, sum_same}
 use Rattle.pfair_in_time.proofs.Claims.{bound_le_claim, IsPast, past_first}
 
 -- ---- who goes before whom
@@ -39,29 +39,16 @@ goes_first r w z k l a b (smaller_name d bits groups lower) =
 goes_first r w z k l a b (smaller_group d bits other name lower) =
     (let p = a.bit in let q = b.bit in let small = b_bit_at_most_one (r.weight w.task) w.index in inr (a.due ∙ d ∙ sym b.due, inr (a.bit ∙ bits ∙ sym b.bit, inl (omega (arith, other)))))
 
--- ---- sums
-
-sum_same : (f : Task → ℕ) (g : Member → ℕ) (ms : List Member) → ((m : Member) → Among ms m → f (task_of m) ≡ g m) → sum_by f (map task_of ms) ≡ sum_by g ms
-sum_same f g [] h = refl
-sum_same f g (m ∷ ms) h =
-    let one = sum_by-cons f (task_of m) (map task_of ms) in
-    let other = sum_by-cons g m ms in
-    let first = h m (inl refl) in
-    let rest = sum_same f g ms (λ n i. h n (inr i)) in
-    omega arith
-
 module _ (s : Settings) (x : Story) (frame : 0 < s.frame) (weights : HaveWeights x) (n : ℕ) where
   -- the task in the end is a member of some slot
   last_member : (k : ℕ) (a : Task) (m : Member) → last_of s x k a ≡ Some m → IsSound s.frame m × (task_of m ≡ a)
   last_member zero a m e = absurd (cc)
-  last_member (suc k) a m e = by (find (is_task a) (world None s x k)) refl e (λ f. last_member k a m f)
-    where
-      by : (o : Option Member) → find (is_task a) (world None s x k) ≡ o → or_else o (last_of s x k a) ≡ Some m → (last_of s x k a ≡ Some m → IsSound s.frame m × (task_of m ≡ a)) → IsSound s.frame m × (task_of m ≡ a)
-      by (Some l) f is rest =
-          let same : Some l ≡ Some m = is in
-          let p = found_some (is_task a) (world None s x k) m (f ∙ same) in
-          ((here s x weights k m p.0).sound, (task_exact (task_of m) a).0 p.1)
-      by None f is rest = rest is
+  last_member (suc k) a m e = elim (find_task a (world None s x k)) [
+    | inl p ↦ (
+        let same = same_Some p.0 m (sym (ap (λ o. or_else o (last_of s x k a)) p.1) ∙ e) in
+        subst (λ (l : Member). IsSound s.frame l × (task_of l ≡ a)) same ((here s x weights k p.0 p.2).sound, p.3))
+    | inr none ↦ last_member k a m (sym (ap (λ o. or_else o (last_of s x k a)) none.0) ∙ e)
+  ]
 
   -- what is wanted of weights and offsets, by whether the task was ever a member
   record IsFit (a : Task) (o : Option Member) : Type 0 where
@@ -200,7 +187,7 @@ module _ (s : Settings) (x : Story) (frame : 0 < s.frame) (weights : HaveWeights
 
   room : (t : ℕ) → t < n → sum_by (λ a. units_of ((as_run s x n).weight a) s.frame) ((as_run s x n).members t) ≤ s.processors * s.frame
   room t less =
-      let same = sum_same (λ a. units_of ((as_run s x n).weight a) s.frame) (λ (m : Member). units_of m.weight s.frame) (world None s x t) (λ m h. ap (λ (w : Share). units_of w s.frame) (final s x weights n t m h less).weight) in
+      let same = sum_same (λ a. units_of ((as_run s x n).weight a) s.frame) task_of (λ (m : Member). units_of m.weight s.frame) (world None s x t) (λ m h. ap (λ (w : Share). units_of w s.frame) (final s x weights n t m h less).weight) in
       let all = room_world s x t in
       omega arith
 

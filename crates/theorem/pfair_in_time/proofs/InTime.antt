@@ -1,24 +1,26 @@
 -- No admitted task misses.
-use Rattle.std.proofs.Common.{◌≡◌, ℕ, suc, ◌-◌, ◌<◌, ◌≤◌, true, false, cond, Option, Some, None, arith, ap, refl, sym, ◌∙◌, subst, inl, inr, not, ◌||◌, nat_le, if◌then◌else◌}
-use Rattle.pfair_in_time.proofs.Common.{find, cases_lt, cases_eq, cases_Bool, and_parts, leb-true, release_of, deadline_of, starts_job_of, name_itself, Among, among_map, Member, theta, is_departing, is_delayed_at, eligible_from, next_key, Pick, eligible_at_job, Settings, pick, index_of, Story, world, table, named_world}
+use Rattle.std.proofs.Common.{◌≡◌, ℕ, suc, ◌-◌, ◌<◌, ◌≤◌, true, false, cond, Option, Some, None, arith, ap, refl, sym, ◌∙◌, subst, inl, inr, not, nat_le, ⊎_elim, ◌⊎◌}
+use Rattle.pfair_in_time.proofs.Common.{cases_lt, cases_eq, cases_Bool, and_parts, leb-true, release_of, deadline_of, starts_job_of, Among, Member, theta, is_departing, eligible_from, eligible_at_job, Settings, Story, world, is_eligible, eligible_not_early}
 use Rattle.pfair_optimal.specs.Schedule.{Task, Subtask, deadline, is_row, has_run, IsNext}
 use Rattle.pfair_optimal.proofs.Beginnings.{beginning_none_misses, beginning_in_time}
-use Rattle.pfair_optimal.proofs.Past.{task_exact, ran_at, ran_by, ran_more}
-use Rattle.pfair_in_time.specs.InTime.{IsInTime}
-use Rattle.pfair_in_time.proofs.Boundaries.{named_is}
-use Rattle.pfair_in_time.proofs.Worlds.{same_member, runs, keys_at, chosen_member, chosen_runs, runs_chosen, on_next, here, HaveWeights, index_after}
-use Rattle.pfair_in_time.proofs.AsRun.{task_of, subtask_of, is_task, last_of, or_else, offset_in, weight_in, as_run, row_member, member_row, found_some, found_none, next_counted, all_before_ran, none_after_ran}
+use Rattle.pfair_optimal.proofs.Past.{ran_at, ran_by, ran_more}
+use Rattle.pfair_in_time.proofs.Worlds.{same_member, runs, on_next, here, HaveWeights, index_after}
+use Rattle.pfair_in_time.proofs.AsRun.{task_of, subtask_of, last_of, or_else, offset_in, weight_in, as_run, row_member, member_row, next_counted, all_before_ran, none_after_ran, find_task}
 use Rattle.pfair_in_time.proofs.Executive.{is_run, member_active}
+
+-- who may run in a slot, and isn't early or starts a job, is released by then
+pub open_from : (t : ℕ) (m : Member) → is_eligible t m ≡ true → (m.early ≡ false) ⊎ (starts_job_of m.weight m.next ≡ true) → release_of m.weight m.next (theta m m.next) ≤ t
+open_from t m able when =
+    let from = leb-true (eligible_from m m.next) t (and_parts (not (is_departing m)) (nat_le (eligible_from m m.next) t) able).1 in
+    let is : eligible_from m m.next ≡ release_of m.weight m.next (theta m m.next) = ⊎_elim (eligible_not_early m m.next) (eligible_at_job m m.next) when in
+    omega arith
 
 -- up to the end of slot t a member is the last one of its task
 last_now : (s : Settings) (x : Story) (t : ℕ) (m : Member) → Among (world None s x t) m → last_of s x (suc t) (task_of m) ≡ Some m
-last_now s x t m h = by (find (is_task (task_of m)) (world None s x t)) refl
-  where
-    by : (o : Option Member) → find (is_task (task_of m)) (world None s x t) ≡ o → or_else o (last_of s x t (task_of m)) ≡ Some m
-    by (Some l) e =
-        let f = found_some (is_task (task_of m)) (world None s x t) l e in
-        ap Some (same_member s x t l m f.0 h (ap (λ (a : Task). a.name) ((task_exact (task_of l) (task_of m)).0 f.1)))
-    by None e = absurd (found_none (is_task (task_of m)) (world None s x t) m e h ((task_exact (task_of m) (task_of m)).1 refl))
+last_now s x t m h = elim (find_task (task_of m) (world None s x t)) [
+  | inl p ↦ ap (λ o. or_else o (last_of s x t (task_of m))) p.1 ∙ ap Some (same_member s x t p.0 m p.2 h (ap (λ (a : Task). a.name) p.3))
+  | inr none ↦ absurd (none.1 m h refl)
+]
 
 -- so its deadlines in the run are its own
 own_deadline : (s : Settings) (x : Story) (t : ℕ) (m : Member) (i : ℕ) → Among (world None s x t) m → deadline (as_run s x (suc t)) (record { task = task_of m; index = i }) ≡ deadline_of m.weight i (theta m i)
@@ -80,34 +82,3 @@ module _ (s : Settings) (x : Story) (frame : 0 < s.frame) (weights : HaveWeights
       let early = beginning_in_time (as_run s x (suc t)) (suc t) t (subtask_of m) (is_run s x frame weights (suc t)) (omega arith) (member_row s x (suc t) t m h named) in
       let own = own_deadline s x t m m.next h in
       omega arith
-
-  pub released : (t : ℕ) (m : Member) → Among (world None s x t) m → runs s x t m ≡ true → m.early ≡ false → release_of m.weight m.next (theta m m.next) ≤ t
-  released t m h named early =
-      let p = and_parts (not (is_departing m)) (nat_le (eligible_from m m.next) t) (runs_chosen s x t m h named).0 in
-      let from = leb-true (eligible_from m m.next) t p.1 in
-      let is : eligible_from m m.next ≡ release_of m.weight m.next (theta m m.next) = ap (λ b. if not b || (starts_job_of m.weight m.next || is_delayed_at m m.next) then release_of m.weight m.next (theta m m.next) else m.joined) early in
-      omega arith
-
-  -- a subtask that starts a job runs from its release on, early or not
-  pub started : (t : ℕ) (m : Member) → Among (world None s x t) m → runs s x t m ≡ true → starts_job_of m.weight m.next ≡ true → release_of m.weight m.next (theta m m.next) ≤ t
-  started t m h named starts =
-      let p = and_parts (not (is_departing m)) (nat_le (eligible_from m m.next) t) (runs_chosen s x t m h named).0 in
-      let from = leb-true (eligible_from m m.next) t p.1 in
-      let is = eligible_at_job m m.next starts in
-      omega arith
-
-  pub rows : (t : ℕ) (p : Pick) → Among (table None s x t) p → (m : Member) × Among (world None s x t) m × IsInTime t p m
-  rows t p h =
-      let q = among_map (pick (world None s x t)) (keys_at s x t) p h in
-      let k = chosen_member s x t q.0 q.1 in
-      let named = chosen_runs s x t k.0 (subst (λ l. Among (keys_at s x t) l) k.3 q.1) in
-      let is : p ≡ pick (world None s x t) (next_key k.0) = q.2 ∙ ap (pick (world None s x t)) k.3 in (
-        k.0,
-        k.1,
-        record {
-          name = ap (λ (r : Pick). r.name) is;
-          index = ap (λ (r : Pick). r.index) is ∙ ap index_of (named_is (world None s x t) k.0.name k.0 (named_world s x t) k.1 (name_itself k.0.name));
-          before_deadline = in_time t k.0 k.1 named;
-          released = released t k.0 k.1 named;
-        },
-      )

@@ -7,8 +7,6 @@ mod InTime
 mod Lags
 mod Lines
 mod LongRun
-mod NextRuns
-mod Offsets
 mod Overload
 mod Passing
 mod Planned

@@ -1,11 +1,51 @@
 -- Runs that follow one another, beside the one long run.
-use Rattle.std.proofs.Common.{◌≡◌, ℕ, ◌+◌, ◌-◌, ◌*◌, ◌<◌, ◌≤◌, List, [], ◌∷◌, None, arith, refl, ap, sym, ◌∙◌, subst, inl, inr, ◌||◌, nat_lt, if◌then◌else◌}
-use Rattle.pfair_in_time.proofs.Common.{list_any, cases_lt, lt-ltb, le-ltb, Share, name_eq, Among, among_all, among_map, map_among, Member, theta, lag_at, HasBegun, IsWeighedStory, both_stories, Settings, Origin, Story, Table, names_task, slot_of, history, world, table, begun_over, long_early, members_paired, names_of, names_same, slot_on, world_at}
+use Rattle.std.proofs.Common.{◌≡◌, ℕ, ◌+◌, ◌-◌, ◌*◌, ◌<◌, ◌≤◌, List, [], ◌∷◌, None, arith, refl, ap, sym, ◌∙◌, subst, inl, inr, ◌||◌, nat_lt, if◌then◌else◌, Bool, true, false, Some}
+use Rattle.pfair_in_time.proofs.Common.{list_any, Past, origin_after, table_through, said, cases_lt, lt-ltb, le-ltb, Share, name_eq, Among, among_all, among_map, map_among, Member, next_key, theta, lag_at, HasBegun, IsWeighedStory, both_stories, Settings, Origin, Story, Table, names_task, slot_of, history, world, table, begun_over, long_early, members_paired, names_of, names_same, slot_on, world_at, AllByRecursion, IsReplica, announcements, decided, present, Machine, machine, apart_nil, label, left_begun, IsBegun, left_over}
 use Rattle.pfair_ready.specs.Names.{NameValue as Name}
 use Rattle.pfair_admission.proofs.Beside.{ArePaired, Pair, lag_same, long_of, short_of}
+use Rattle.pfair_admission.proofs.Lowered.{next_key_same}
 use Rattle.pfair_table.proofs.TableLaws.{same_history}
-use Rattle.pfair_in_time.proofs.NextRuns.{PastStory, AreWeighedStories, begun_after, both_weights, each_weight, origin_of_stories}
-use Rattle.pfair_in_time.proofs.Worlds.{here}
+use Rattle.pfair_table.proofs.Within.{said_weighed}
+use Rattle.pfair_in_time.proofs.Worlds.{here, HaveWeights}
+use Rattle.pfair_entry.specs.declared.entry.Said.{Said}
+use Rattle.pfair_entry.specs.declared.entry.Announcement.{Announcement}
+use Rattle.pfair_entry.specs.declared.entry.Announcement.TheVariants.{Arrive, Depart, Late}
+use Rattle.pfair_entry.specs.Entry.{IsWeighed}
+use Rattle.pfair_admission.specs.Carried.{all_raised, raised}
+
+-- ---- what is said in the runs
+
+pub each_weight : (story : Story) → IsWeighedStory story → HaveWeights story
+each_weight story weights t = among_all IsWeighed (announcements (story t)) (weights t)
+
+raised_weight : (left : List Member) (begin : ℕ) (members : List Member) (a : Announcement) → IsWeighed a → IsWeighed (raised left begin members a)
+raised_weight left begin members (Arrive name w early) h = h
+raised_weight left begin members (Depart name) h = h
+raised_weight left begin members (Late name index by) h = h
+
+raised_weights : (left : List Member) (begin : ℕ) (machine : Machine) (t : ℕ) (members : List Member) (announced : List Said) → AllByRecursion IsWeighed (announcements announced) → AllByRecursion IsWeighed (announcements (all_raised left begin machine t members announced))
+raised_weights left begin machine t members [] h = tt
+raised_weights left begin machine t members (a ∷ announced) h = (raised_weight left begin members a.announcement h.0, raised_weights left begin machine t (decided machine t members a.announcement) announced h.1)
+
+pub both_weights : (o : Origin) (s : Settings) (first : Story) (n : ℕ) (second : Story) → IsWeighedStory first → IsWeighedStory second → IsWeighedStory (both_stories o s first n second)
+both_weights o s first n second before after t = by (nat_lt t n)
+  where
+    left : List Member
+    left = (history o s first n).members
+
+    late : List Said
+    late = all_raised left (slot_of o n) (machine s) (slot_of o n + (t - n)) (present (slot_of o n + (t - n)) (history (Some (left_over o s first n)) s second (t - n)).members) (second (t - n))
+
+    by : (b : Bool) → AllByRecursion IsWeighed (announcements (if b then first t else late))
+    by true = before t
+    by false = raised_weights left (slot_of o n) (machine s) (slot_of o n + (t - n)) (present (slot_of o n + (t - n)) (history (Some (left_over o s first n)) s second (t - n)).members) (second (t - n)) (after (t - n))
+
+abbrev pub AreReplicas : List Past → Type 0
+AreReplicas earlier = AllByRecursion (λ r. IsReplica r.contents) earlier
+
+pub begun_after : (s : Settings) (earlier : List Past) → AreReplicas earlier → IsBegun (origin_after s earlier)
+begun_after s [] h = record { named = apart_nil label; begun = tt }
+begun_after s (r ∷ earlier) h = left_begun (origin_after s earlier) s (begun_after s earlier h.1) (said r.contents) (said_weighed r.contents h.0) r.slots
 
 -- ---- a member of a run, and the same one in a run before which some jobs of it were not taken off
 
@@ -19,6 +59,7 @@ pub record IsLater (slot jobs : ℕ) (l m : Member) : Type 0 where
   pub next : l.next ≡ m.next + jobs * l.weight.cost
   pub offsets : (j : ℕ) → 1 ≤ j → m.next ≤ j + 1 → theta m j ≡ theta l (j + jobs * l.weight.cost) + jobs * l.weight.period
   pub lag : (time : ℕ) → slot ≤ time → lag_at time m ≡ lag_at time l
+  pub key : next_key m ≡ next_key l
 
 pub itself : (slot : ℕ) (m : Member) → m.joined ≤ slot → IsLater slot 0 m m
 itself slot m joined = record {
@@ -31,6 +72,7 @@ itself slot m joined = record {
   next = omega arith;
   offsets = λ j first reaches. (let none : j + 0 * m.weight.cost ≡ j = omega arith in let same = ap (theta m) none in omega (arith, same));
   lag = λ time now. refl;
+  key = refl;
 }
 
 -- a pair's members are so
@@ -45,6 +87,7 @@ paired_later left begin slot p = record {
   next = p.is.next_is;
   offsets = p.is.offsets;
   lag = λ time now. lag_same left begin time p (let by = p.by_now in omega (arith, by, now));
+  key = next_key_same p.long p.jobs p.delays p.next p.is p.weighed p.first;
 }
 
 -- and once more
@@ -67,6 +110,7 @@ later_on slot j k l m n a b = record {
       let same = ap (theta l) index in
       omega (arith, near, far, same, period));
   lag = λ time now. b.lag time now ∙ a.lag time now;
+  key = b.key ∙ a.key;
 }
 
 -- a member of the shorter list, with the one that it is of the longer
@@ -92,63 +136,56 @@ further slot L l m jobs later h = record { jobs = h.jobs + jobs; long = h.long; 
 -- ---- the long run
 
 -- what is said in it
-abbrev pub long_story : Settings → List PastStory → Story → Story
+abbrev pub long_story : Settings → List Past → Story → Story
 long_story s [] story = story
-long_story s (r ∷ earlier) story = long_story s earlier (both_stories (origin_of_stories s earlier) s r.story r.slots story)
+long_story s (r ∷ earlier) story = long_story s earlier (both_stories (origin_after s earlier) s (said r.contents) r.slots story)
 
-pub long_weights : (s : Settings) (earlier : List PastStory) (story : Story) → AreWeighedStories earlier → IsWeighedStory story → IsWeighedStory (long_story s earlier story)
+pub long_weights : (s : Settings) (earlier : List Past) (story : Story) → AreReplicas earlier → IsWeighedStory story → IsWeighedStory (long_story s earlier story)
 long_weights s [] story h weights = weights
 long_weights s (r ∷ earlier) story h weights =
-    long_weights s earlier (both_stories (origin_of_stories s earlier) s r.story r.slots story) h.1 (both_weights (origin_of_stories s earlier) s r.story r.slots story h.0 weights)
+    long_weights s earlier (both_stories (origin_after s earlier) s (said r.contents) r.slots story) h.1 (both_weights (origin_after s earlier) s (said r.contents) r.slots story (said_weighed r.contents h.0) weights)
 
 -- each member of a slot's world is one of the long run's
-pub world_long : (s : Settings) (earlier : List PastStory) (story : Story) → AreWeighedStories earlier → IsWeighedStory story → (t : ℕ) (m : Member) → Among (world (origin_of_stories s earlier) s story t) m
-    → HasLater (slot_of (origin_of_stories s earlier) t) (world None s (long_story s earlier story) (slot_of (origin_of_stories s earlier) t)) m
+pub world_long : (s : Settings) (earlier : List Past) (story : Story) → AreReplicas earlier → IsWeighedStory story → (t : ℕ) (m : Member) → Among (world (origin_after s earlier) s story t) m
+    → HasLater (slot_of (origin_after s earlier) t) (world None s (long_story s earlier story) (slot_of (origin_after s earlier) t)) m
 world_long s [] story h weights t m among = record { jobs = 0; long = m; among = among; later = itself t m (here s story (each_weight story weights) t m among).by_now }
 world_long s (r ∷ earlier) story h weights t m among =
-    let o = origin_of_stories s earlier in
-    let both = both_stories o s r.story r.slots story in
-    let left = (history o s r.story r.slots).members in
-    let p = paired left (slot_of o r.slots) (slot_of o r.slots + t) (world o s both (r.slots + t)) (world (origin_of_stories s (r ∷ earlier)) s story t)
-    (world_at o s r.story r.slots (begun_after s earlier h.1) h.0 story weights t (r.slots + t) refl) m among in
-    let before = world_long s earlier both h.1 (both_weights o s r.story r.slots story h.0 weights) (r.slots + t) p.long p.among in
+    let o = origin_after s earlier in
+    let both = both_stories o s (said r.contents) r.slots story in
+    let left = (history o s (said r.contents) r.slots).members in
+    let p = paired left (slot_of o r.slots) (slot_of o r.slots + t) (world o s both (r.slots + t)) (world (origin_after s (r ∷ earlier)) s story t)
+    (world_at o s (said r.contents) r.slots (begun_after s earlier h.1) (said_weighed r.contents h.0) story weights t (r.slots + t) refl) m among in
+    let before = world_long s earlier both h.1 (both_weights o s (said r.contents) r.slots story (said_weighed r.contents h.0) weights) (r.slots + t) p.long p.among in
     let at : slot_of o (r.slots + t) ≡ slot_of o r.slots + t = slot_on o r.slots t in
     further (slot_of o r.slots + t) (world None s (long_story s earlier both) (slot_of o r.slots + t)) p.long m p.jobs p.later
     (subst (λ u. HasLater u (world None s (long_story s earlier both) u) p.long) at before)
 
 -- and so after its quanta
-pub history_long : (s : Settings) (earlier : List PastStory) (story : Story) → AreWeighedStories earlier → IsWeighedStory story → (t : ℕ) (m : Member) → Among (history (origin_of_stories s earlier) s story t).members m
-    → HasLater (slot_of (origin_of_stories s earlier) t) (history None s (long_story s earlier story) (slot_of (origin_of_stories s earlier) t)).members m
+pub history_long : (s : Settings) (earlier : List Past) (story : Story) → AreReplicas earlier → IsWeighedStory story → (t : ℕ) (m : Member) → Among (history (origin_after s earlier) s story t).members m
+    → HasLater (slot_of (origin_after s earlier) t) (history None s (long_story s earlier story) (slot_of (origin_after s earlier) t)).members m
 history_long s [] story h weights t m among =
     let b = among_all (HasBegun t) (history None s story t).members (begun_over None s (begun_after s [] tt) story weights t) m among in
     let joined = b.joined in
     record { jobs = 0; long = m; among = among; later = itself t m (omega (arith, joined)) }
 history_long s (r ∷ earlier) story h weights t m among =
-    let o = origin_of_stories s earlier in
-    let both = both_stories o s r.story r.slots story in
-    let left = (history o s r.story r.slots).members in
-    let p = paired left (slot_of o r.slots) (slot_of o r.slots + t) (history o s both (r.slots + t)).members (history (origin_of_stories s (r ∷ earlier)) s story t).members
-    (members_paired o s r.story r.slots (begun_after s earlier h.1) h.0 story weights t (r.slots + t) refl) m among in
-    let before = history_long s earlier both h.1 (both_weights o s r.story r.slots story h.0 weights) (r.slots + t) p.long p.among in
+    let o = origin_after s earlier in
+    let both = both_stories o s (said r.contents) r.slots story in
+    let left = (history o s (said r.contents) r.slots).members in
+    let p = paired left (slot_of o r.slots) (slot_of o r.slots + t) (history o s both (r.slots + t)).members (history (origin_after s (r ∷ earlier)) s story t).members
+    (members_paired o s (said r.contents) r.slots (begun_after s earlier h.1) (said_weighed r.contents h.0) story weights t (r.slots + t) refl) m among in
+    let before = history_long s earlier both h.1 (both_weights o s (said r.contents) r.slots story (said_weighed r.contents h.0) weights) (r.slots + t) p.long p.among in
     let at : slot_of o (r.slots + t) ≡ slot_of o r.slots + t = slot_on o r.slots t in
     further (slot_of o r.slots + t) (history None s (long_story s earlier both) (slot_of o r.slots + t)).members p.long m p.jobs p.later
     (subst (λ u. HasLater u (history None s (long_story s earlier both) u).members p.long) at before)
 
 -- ---- who runs
 
--- the table of a slot of all runs
-abbrev pub through_stories : Settings → List PastStory → Story → ℕ → Table
-through_stories s [] story u = table None s story u
-through_stories s (r ∷ earlier) story u =
-    let o = origin_of_stories s (r ∷ earlier) in
-    if nat_lt u (slot_of o 0) then through_stories s earlier r.story u else table o s story (u - slot_of o 0)
-
 -- in the last of them
-through_late : (s : Settings) (earlier : List PastStory) (story : Story) (u : ℕ) → slot_of (origin_of_stories s earlier) 0 ≤ u → through_stories s earlier story u ≡ table (origin_of_stories s earlier) s story (u - slot_of (origin_of_stories s earlier) 0)
+through_late : (s : Settings) (earlier : List Past) (story : Story) (u : ℕ) → slot_of (origin_after s earlier) 0 ≤ u → table_through s earlier story u ≡ table (origin_after s earlier) s story (u - slot_of (origin_after s earlier) 0)
 through_late s [] story u le = ap (table None s story) (let e : u ≡ u - 0 = omega arith in e)
 through_late s (r ∷ earlier) story u le =
-    let o = origin_of_stories s (r ∷ earlier) in
-    ap (λ b. if b then through_stories s earlier r.story u else table o s story (u - slot_of o 0)) (le-ltb u (slot_of o 0) le)
+    let o = origin_after s (r ∷ earlier) in
+    ap (λ b. if b then table_through s earlier (said r.contents) u else table o s story (u - slot_of o 0)) (le-ltb u (slot_of o 0) le)
 
 -- stories that begin alike have the same tables there
 table_alike : (o : Origin) (s : Settings) (one other : Story) (n t : ℕ) → ((u : ℕ) → u < n → one u ≡ other u) → t < n → table o s one t ≡ table o s other t
@@ -157,37 +194,37 @@ table_alike o s one other n t same less =
     let now = same t less in
     grind (arith, past, now)
 
-through_alike : (s : Settings) (earlier : List PastStory) (one other : Story) (n u : ℕ) → ((k : ℕ) → k < n → one k ≡ other k) → u < slot_of (origin_of_stories s earlier) n → through_stories s earlier one u ≡ through_stories s earlier other u
+through_alike : (s : Settings) (earlier : List Past) (one other : Story) (n u : ℕ) → ((k : ℕ) → k < n → one k ≡ other k) → u < slot_of (origin_after s earlier) n → table_through s earlier one u ≡ table_through s earlier other u
 through_alike s [] one other n u same less = table_alike None s one other n u same less
 through_alike s (r ∷ earlier) one other n u same less =
-    let o = origin_of_stories s (r ∷ earlier) in
+    let o = origin_after s (r ∷ earlier) in
     elim (cases_lt u (slot_of o 0)) [
       | inl before ↦
           let test = lt-ltb u (slot_of o 0) before in
-          ap (λ b. if b then through_stories s earlier r.story u else table o s one (u - slot_of o 0)) test ∙ sym (ap (λ b. if b then through_stories s earlier r.story u else table o s other (u - slot_of o 0)) test)
+          ap (λ b. if b then table_through s earlier (said r.contents) u else table o s one (u - slot_of o 0)) test ∙ sym (ap (λ b. if b then table_through s earlier (said r.contents) u else table o s other (u - slot_of o 0)) test)
       | inr late ↦
           through_late s (r ∷ earlier) one u late ∙ table_alike o s one other n (u - slot_of o 0) same (omega (arith, less, late)) ∙ sym (through_late s (r ∷ earlier) other u late)
     ]
 
-names_long : (s : Settings) (earlier : List PastStory) (story : Story) → AreWeighedStories earlier → IsWeighedStory story → (u : ℕ) → names_of (through_stories s earlier story u) ≡ names_of (table None s (long_story s earlier story) u)
+names_long : (s : Settings) (earlier : List Past) (story : Story) → AreReplicas earlier → IsWeighedStory story → (u : ℕ) → names_of (table_through s earlier story u) ≡ names_of (table None s (long_story s earlier story) u)
 names_long s [] story h weights u = refl
 names_long s (r ∷ earlier) story h weights u =
-    let o = origin_of_stories s earlier in
-    let next = origin_of_stories s (r ∷ earlier) in
-    let both = both_stories o s r.story r.slots story in
-    let rest = names_long s earlier both h.1 (both_weights o s r.story r.slots story h.0 weights) u in
+    let o = origin_after s earlier in
+    let next = origin_after s (r ∷ earlier) in
+    let both = both_stories o s (said r.contents) r.slots story in
+    let rest = names_long s earlier both h.1 (both_weights o s (said r.contents) r.slots story (said_weighed r.contents h.0) weights) u in
     elim (cases_lt u (slot_of next 0)) [
       | inl before ↦
           let test = lt-ltb u (slot_of next 0) before in
-          ap (λ b. names_of (if b then through_stories s earlier r.story u else table next s story (u - slot_of next 0))) test
-          ∙ ap names_of (through_alike s earlier r.story both r.slots u (λ k l. sym (long_early o s r.story r.slots (begun_after s earlier h.1) h.0 story weights k l)) (let base : slot_of next 0 ≡ slot_of o r.slots + 0 = refl in omega (arith, before, base))) ∙ rest
+          ap (λ b. names_of (if b then table_through s earlier (said r.contents) u else table next s story (u - slot_of next 0))) test
+          ∙ ap names_of (through_alike s earlier (said r.contents) both r.slots u (λ k l. sym (long_early o s (said r.contents) r.slots (begun_after s earlier h.1) (said_weighed r.contents h.0) story weights k l)) (let base : slot_of next 0 ≡ slot_of o r.slots + 0 = refl in omega (arith, before, base))) ∙ rest
       | inr late ↦
           let from : slot_of o 0 ≤ slot_of o r.slots = grind arith in
           let on : slot_of o r.slots ≡ slot_of o 0 + r.slots = ap (slot_of o) (let e : r.slots ≡ 0 + r.slots = omega arith in e) ∙ slot_on o 0 r.slots in
           let base : slot_of next 0 ≡ slot_of o r.slots + 0 = refl in
           let at : u - slot_of o 0 ≡ r.slots + (u - slot_of next 0) = omega (arith, late, on, base) in
           ap names_of (through_late s (r ∷ earlier) story u late)
-          ∙ names_same o s r.story r.slots (begun_after s earlier h.1) h.0 story weights (u - slot_of next 0) (u - slot_of o 0) at
+          ∙ names_same o s (said r.contents) r.slots (begun_after s earlier h.1) (said_weighed r.contents h.0) story weights (u - slot_of next 0) (u - slot_of o 0) at
           ∙ sym (ap names_of (through_late s earlier both u (omega (arith, late, from, base)))) ∙ rest
     ]
 
@@ -196,6 +233,12 @@ by_names name [] = refl
 by_names name (p ∷ rows) = ap (λ b. name_eq name p.name || b) (by_names name rows)
 
 -- a task runs in a slot of all runs if it does so in the long run
-pub runs_long : (s : Settings) (earlier : List PastStory) (story : Story) → AreWeighedStories earlier → IsWeighedStory story → (name : Name) (u : ℕ) → names_task name (through_stories s earlier story u) ≡ names_task name (table None s (long_story s earlier story) u)
+pub runs_long : (s : Settings) (earlier : List Past) (story : Story) → AreReplicas earlier → IsWeighedStory story → (name : Name) (u : ℕ) → names_task name (table_through s earlier story u) ≡ names_task name (table None s (long_story s earlier story) u)
 runs_long s earlier story h weights name u =
-    by_names name (through_stories s earlier story u) ∙ ap (λ ns. list_any (λ n. name_eq name n) ns) (names_long s earlier story h weights u) ∙ sym (by_names name (table None s (long_story s earlier story) u))
+    by_names name (table_through s earlier story u) ∙ ap (λ ns. list_any (λ n. name_eq name n) ns) (names_long s earlier story h weights u) ∙ sym (by_names name (table None s (long_story s earlier story) u))
+
+pub runs_in_long : (s : Settings) (earlier : List Past) (story : Story) → AreReplicas earlier → IsWeighedStory story → (name : Name) (t : ℕ) → names_task name (table (origin_after s earlier) s story t) ≡ names_task name (table None s (long_story s earlier story) (slot_of (origin_after s earlier) t))
+runs_in_long s earlier story h weights name t =
+    let o = origin_after s earlier in
+    let at : t ≡ slot_of o t - slot_of o 0 = grind arith in
+    ap (λ u. names_task name (table o s story u)) at ∙ ap (names_task name) (sym (through_late s earlier story (slot_of o t) (grind arith))) ∙ runs_long s earlier story h weights name (slot_of o t)

@@ -1,8 +1,7 @@
 -- More than there is can't be served: by the end of a frame as many quanta are due as the tasks want.
 use Rattle.std.proofs.Common.{◌≡◌, ℕ, zero, suc, ◌+◌, ◌*◌, ◌/◌, ◌%◌, ◌<◌, ◌≤◌, Bool, true, false, cond, List, [], ◌∷◌, length, arith, ap, refl, sym, ◌∙◌, subst, inl, inr, ◌||◌, sum_by}
-use Rattle.pfair_in_time.proofs.Common.{true≢false, cases_lt, cases_Bool, sum_by-cons, sum_by_push, mod-eq-sub-div-mul, div-mul-le_self, mul-suc, mul_assoc, mul_comm, NamesApart, Share, IsWeight, units_of, deadline_of, apart_head, apart_tail, name_exact, name_itself, name_eq, Among, among_all, numbers_below, Pick, Table, names_task}
-use Rattle.std.specs.Int.{div_ceil}
-use Rattle.pfair_weight.specs.Rounding.{div_ceil_of_multiple}
+use Rattle.pfair_in_time.proofs.Common.{true≢false, cases_lt, cases_Bool, sum_by-cons, sum_by_push, mod-eq-sub-div-mul, div-mul-le_self, mul-suc, mul_comm, NamesApart, Share, IsWeight, units_of, deadline_of, apart_head, apart_tail, name_exact, name_itself, name_eq, Among, among_all, numbers_below, Pick, Table, names_task}
+use Rattle.pfair_weight.specs.JobFacts.{job_due}
 use Rattle.pfair_in_time.specs.Schedules.{Arrival, quanta_before, NoneServesMore}
 
 -- ---- sums
@@ -108,10 +107,7 @@ last_due : (w : Share) (frame : ℕ) → 0 < w.cost → frame % w.period ≡ 0 �
 last_due w frame some divides =
     let rest = mod-eq-sub-div-mul frame w.period in
     let low = div-mul-le_self frame w.period in
-    let whole : (frame / w.period) * w.period ≡ frame = omega arith in
-    let due : w.cost * (frame / w.period) * w.period ≡ frame * w.cost = mul_assoc w.cost (frame / w.period) w.period ∙ mul_comm w.cost ((frame / w.period) * w.period) ∙ ap (λ n. n * w.cost) whole in
-    let up : div_ceil (w.cost * (frame / w.period) * w.period) w.cost ≡ frame = ap (λ n. div_ceil n w.cost) due ∙ div_ceil_of_multiple frame w.cost some in
-    omega arith
+    ap (λ i. deadline_of w i 0) (mul_comm w.cost (frame / w.period)) ∙ job_due w (frame / w.period) 0 some ∙ omega arith
 
 pub none_serves_more : NoneServesMore
 none_serves_more processors frame tables arrivals are few more =

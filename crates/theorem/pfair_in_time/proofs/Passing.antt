@@ -18,12 +18,12 @@ module _ (f : ℕ → Bool) where
       by true = length-append (passing n) (n ∷ [])
       by false = length-append (passing n) []
 
-  no_fewer : (m n : ℕ) → m ≤ n → length (passing m) ≤ length (passing n)
-  no_fewer m zero le = (let e : m ≡ 0 = omega arith in let same = ap (λ k. length (passing k)) e in omega arith)
-  no_fewer m (suc n) le =
+  pub fewer_before : (m n : ℕ) → m ≤ n → length (passing m) ≤ length (passing n)
+  fewer_before m zero le = (let e : m ≡ 0 = omega arith in let same = ap (λ k. length (passing k)) e in omega arith)
+  fewer_before m (suc n) le =
       elim (cases_eq m (suc n)) [
         | inl e ↦ (let same = ap (λ k. length (passing k)) e in omega arith)
-        | inr other ↦ (let before = no_fewer m n (omega (arith, other)) in let more = one_more n in omega arith)
+        | inr other ↦ (let before = fewer_before m n (omega (arith, other)) in let more = one_more n in omega arith)
       ]
 
   -- the number at a place: it is below the bound, passes, and has as many before it as the place says
@@ -61,5 +61,5 @@ module _ (f : ℕ → Bool) where
           let q = (at_place n before (omega arith)).before in
           elim (cases_lt (get_or (passing n) before 0) (get_or (passing n) place 0)) [
             | inl less ↦ less
-            | inr later ↦ absurd (let more = no_fewer (get_or (passing n) place 0) (get_or (passing n) before 0) later in omega arith)
+            | inr later ↦ absurd (let more = fewer_before (get_or (passing n) place 0) (get_or (passing n) before 0) later in omega arith)
           ]

@@ -1,18 +1,19 @@
 -- Tasks that join at slot 0 are all admitted exactly if there is room for them, and then all are served.
-use Rattle.std.proofs.Common.{◌≡◌, ℕ, zero, suc, ◌+◌, ◌-◌, ◌*◌, ◌%◌, ◌<◌, ◌≤◌, true, false, cond, List, [], ◌∷◌, ◌++◌, length, map, Option, Some, None, arith, ap, refl, sym, ◌∙◌, subst, inl, inr, ⊎_elim, ◌↔◌, not, nat_lt, ◌==◌, is_some, if◌then◌else◌}
-use Rattle.pfair_in_time.proofs.Common.{AllByRecursion, find, true≢false, cases_lt, cases_eq, cases_Bool, le-ltb, eq-eqb, length-map, append-nil, append_assoc, sum_by-cons, NamesApart, Share, IsWeight, units_of, deadline_of, deadline_rises, window_not_empty, apart_head, apart_tail, name_exact, name_itself, name_eq, Among, among_append, among_all, filter_among, among_map, map_among, Replica, said, Member, Machine, is_named, member_named, claimed, arrival, newcomer, effect, is_freed, present, decided, all_decided, all_decisions, announcements, Settings, machine, quanta, counted_one, history, world, table, with_decisions, decisions, world_counted, one_each}
+use Rattle.std.proofs.Common.{◌≡◌, ℕ, zero, suc, ◌+◌, ◌-◌, ◌*◌, ◌%◌, ◌<◌, ◌≤◌, true, false, cond, List, [], ◌∷◌, ◌++◌, length, map, Option, Some, None, arith, ap, refl, sym, ◌∙◌, subst, inl, inr, ⊎_elim, ◌↔◌, not, nat_lt, ◌==◌, is_some, if◌then◌else◌, count_by}
+use Rattle.pfair_in_time.proofs.Common.{AllByRecursion, find, true≢false, cases_eq, cases_Bool, le-ltb, eq-eqb, length-map, append-nil, append_assoc, sum_by-cons, NamesApart, IsWeight, units_of, deadline_of, window_not_empty, apart_head, apart_tail, name_exact, name_itself, name_eq, Among, among_append, among_all, among_map, map_among, Replica, said, Member, Machine, is_named, member_named, claimed, arrival, newcomer, effect, is_freed, present, decided, all_decided, all_decisions, announcements, Settings, machine, counted_one, world, table, with_decisions, decisions, world_counted, one_each, counted, map_same, map-id, among_filter, numbers_below, names_task}
 use Rattle.pfair_entry.specs.declared.entry.Said.{Said}
 use Rattle.pfair_entry.specs.Entry.{IsWeighed}
 use Rattle.pfair_admission.specs.declared.decision.Decision.{Decision}
-use Rattle.pfair_admission.specs.declared.decision.Decision.TheVariants.{Admitted, Refused}
+use Rattle.pfair_admission.specs.declared.decision.Decision.TheVariants.{Admitted, Refused, Departing, Delayed}
 use Rattle.pfair_admission.specs.declared.decision.Refusal.TheVariants.{NameTaken, PeriodOutsideFrame, NoRoom}
 use Rattle.pfair_table.specs.declared.slot.Decided.{Decided}
-use Rattle.pfair_in_time.specs.Schedules.{Arrival, announced, AreArrivals, SaysOnly, units_wanted, quanta_before, IsServed, ServedWhereThereIsRoom}
+use Rattle.pfair_in_time.specs.Schedules.{Arrival, announced, AreArrivals, SaysOnly, units_wanted, IsServed, ServedWhereThereIsRoom}
 use Rattle.pfair_admission.proofs.Deciding.{admitted_room, claimed_arrived}
-use Rattle.pfair_in_time.proofs.InTime.{none}
-use Rattle.pfair_in_time.proofs.Overload.{quanta_more}
-use Rattle.pfair_in_time.proofs.Windows.{no_offset}
-use Rattle.pfair_in_time.proofs.Worlds.{tables_before, next_more, next_new, HaveWeights, index_after}
+use Rattle.pfair_in_time.proofs.Windows.{served, no_offset_all, runs_at}
+use Rattle.pfair_in_time.proofs.Worlds.{tables_before, HaveWeights}
+use Rattle.std.proofs.lemmas.Simd.{map-map}
+use Rattle.std.proofs.lemmas.List.Sums.{length-filter}
+use Rattle.pfair_in_time.specs.Windows.{slots_since}
 
 -- ---- those who are there
 
@@ -116,20 +117,52 @@ unpaired (x ∷ said) (d ∷ ds) long all = (all.0, unpaired said ds (omega arit
 
 -- ---- the law
 
--- a member as it joined at slot 0, but for the index of its next subtask
-record IsStill (a : Arrival) (m : Member) : Type 0 where
-  name : m.name ≡ a.name
-  weight : m.weight ≡ a.weight
-  joined : m.joined ≡ 0
-  delays : m.delays ≡ []
-  stays : m.freed_at ≡ None
-
 -- such arrivals are all that has to have weights
 pub says_weights : (x : Replica) (arrivals : List Arrival) → SaysOnly x arrivals → AllByRecursion (λ (a : Arrival). IsWeight a.weight.cost a.weight.period) arrivals → HaveWeights (said x)
 says_weights x arrivals says weights zero a h =
     let p = among_map announced arrivals a (subst (λ l. Among l a) says.first h) in
     subst IsWeighed (sym p.2) (among_all (λ (b : Arrival). IsWeight b.weight.cost b.weight.period) arrivals weights p.0 p.1)
 says_weights x arrivals says weights (suc t) a h = absurd (subst (λ l. Among (announcements l) a) (says.later (suc t) (omega arith)) h)
+
+-- all that arrivals leave are members that have just joined
+abbrev pub IsFirst : Member → Type 0
+IsFirst m = m ≡ newcomer 0 m.name m.weight m.early
+
+firsts : (mc : Machine) (arrivals : List Arrival) (ms : List Member) → ((m : Member) → Among ms m → IsFirst m) → (m : Member) → Among (all_decided mc 0 ms (map announced arrivals)) m → IsFirst m
+firsts mc [] ms all m h = all m h
+firsts mc (a ∷ more) ms all m h = firsts mc more (decided mc 0 ms (announced a))
+    (λ n among. one (arrival mc ms a.name a.weight) n (among_filter (λ (l : Member). not (is_freed 0 l.freed_at)) (effect 0 ms (announced a) (arrival mc ms a.name a.weight)) n among).0) m h
+  where
+    one : (d : Decision) (n : Member) → Among (effect 0 ms (announced a) d) n → IsFirst n
+    one Admitted n among = ⊎_elim (λ l. all n l) (λ r. ⊎_elim (λ e. subst IsFirst (sym e) refl) (λ no. absurd no) r) (among_append ms (joins a ∷ []) n among)
+    one (Departing slot) n among = all n among
+    one Delayed n among = all n among
+    one (Refused refusal) n among = all n among
+
+module _ (s : Settings) (x : Replica) (arrivals : List Arrival) (says : SaysOnly x arrivals) where
+  pub is_first : (m : Member) → Among (world None s (said x) 0) m → IsFirst m
+  is_first m among = firsts (machine s) arrivals [] (λ n no. absurd no) m (subst (λ l. Among (all_decided (machine s) 0 [] l) m) says.first among)
+
+  -- the members of each slot are those of slot 0, but for the indexes of their next subtasks
+  pub world_is : (t : ℕ) → world None s (said x) t ≡ counted (tables_before s (said x) t) (world None s (said x) 0)
+  world_is zero = sym (map_same (counted_one []) (λ m. m) (world None s (said x) 0) (λ m among. same m (is_first m among)) ∙ map-id (world None s (said x) 0))
+    where
+      same : (m : Member) → IsFirst m → counted_one [] m ≡ m
+      same m e = ap (counted_one []) e ∙ ap (λ i. record (newcomer 0 m.name m.weight m.early) { next = i }) (omega arith) ∙ sym e
+  world_is (suc t) =
+      world_counted s (said x) t
+      ∙ ap (λ l. all_decided (machine s) (suc t) (present (suc t) (counted (tables_before s (said x) (suc t)) (world None s (said x) t))) (announcements l)) (says.later (suc t) (omega arith))
+      ∙ ap (λ ms. present (suc t) (counted (tables_before s (said x) (suc t)) ms)) (world_is t)
+      ∙ ap (present (suc t)) (map-map (counted_one (tables_before s (said x) (suc t))) (counted_one (tables_before s (said x) t)) (world None s (said x) 0))
+      ∙ all_present (suc t) (counted (tables_before s (said x) (suc t)) (world None s (said x) 0)) none_leaves
+    where
+      none_leaves : NoneLeaves (counted (tables_before s (said x) (suc t)) (world None s (said x) 0))
+      none_leaves n among =
+          let p = among_map (counted_one (tables_before s (said x) (suc t))) (world None s (said x) 0) n among in
+          ap (λ (l : Member). l.freed_at) p.2 ∙ ap (λ (l : Member). l.freed_at) (is_first p.0 p.1)
+
+  pub member_at : (t : ℕ) (m : Member) → Among (world None s (said x) 0) m → Among (world None s (said x) t) (counted_one (tables_before s (said x) t) m)
+  member_at t m among = subst (λ l. Among l (counted_one (tables_before s (said x) t) m)) (sym (world_is t)) (map_among (counted_one (tables_before s (said x) t)) (world None s (said x) 0) m among)
 
 module _ (s : Settings) (x : Replica) (arrivals : List Arrival) (frame : 0 < s.frame) (are : AreArrivals s.frame arrivals) (says : SaysOnly x arrivals) where
   weights : HaveWeights (said x)
@@ -154,69 +187,22 @@ module _ (s : Settings) (x : Replica) (arrivals : List Arrival) (frame : 0 < s.f
     λ room. subst (AllByRecursion IsAdmitted) (sym decisions_are) (paired (said x 0) (all_decisions (machine s) 0 [] (map announced arrivals)) (room_admits room).decisions),
   )
 
-  -- who is admitted is there in each slot
-  there : units_wanted s.frame arrivals ≤ s.processors * s.frame → (a : Arrival) → Among arrivals a → (t : ℕ) → (m : Member) × Among (world None s (said x) t) m × IsStill a m
-  there room a h zero = (
-    joins a,
-    subst (λ l. Among l (joins a)) (sym (ap (λ l. all_decided (machine s) 0 [] l) says.first ∙ (room_admits room).members)) (map_among joins arrivals a h),
-    record { name = refl; weight = refl; joined = refl; delays = refl; stays = refl },
-  )
-  there room a h (suc t) =
-      let p = there room a h t in
-      let m = counted_one (history None s (said x) (suc t)).tables p.0 in
-      let still = p.2 in
-      let among = filter_among (λ (n : Member). not (is_freed (suc t) n.freed_at)) (map (counted_one (history None s (said x) (suc t)).tables) (world None s (said x) t)) m (map_among (counted_one (history None s (said x) (suc t)).tables) (world None s (said x) t) p.0 p.1) (stays (suc t) m still.stays) in (
-        m,
-        subst (λ l. Among l m) (sym (world_counted s (said x) t))
-            (subst (λ l. Among (all_decided (machine s) (suc t) (present (suc t) (map (counted_one (history None s (said x) (suc t)).tables) (world None s (said x) t))) (announcements l)) m) (sym (says.later (suc t) (omega arith))) among),
-        record { name = still.name; weight = still.weight; joined = still.joined; delays = still.delays; stays = still.stays },
-      )
-
-  own_quanta : (m : Member) → m.joined ≡ 0 → (n : ℕ) → quanta (tables_before s (said x) n) m ≡ quanta_before (table None s (said x)) m.name n
-  own_quanta m joined zero = (let new = next_new s (said x) 0 m joined in omega arith)
-  own_quanta m joined (suc n) =
-      let before = own_quanta m joined n in
-      let more = next_more s (said x) n m (omega arith) in
-      let other = quanta_more (table None s (said x)) m.name n in
-      omega arith
-
-  served : units_wanted s.frame arrivals ≤ s.processors * s.frame → (a : Arrival) → Among arrivals a → (t : ℕ) → IsServed (table None s (said x)) t a
-  served room a h t i within = elim (cases_eq i 0) [
+  -- who is admitted is there in each slot, and has had by then what was due
+  all_served : units_wanted s.frame arrivals ≤ s.processors * s.frame → (a : Arrival) → Among arrivals a → (t : ℕ) → IsServed (table None s (said x)) t a
+  all_served room a h t i within = elim (cases_eq i 0) [
     | inl first ↦ omega arith
-    | inr other ↦ by_deadline (omega (arith, other))
+    | inr other ↦
+        let due = deadline_of a.weight i 0 in
+        let m = counted_one (tables_before s (said x) (due - 1)) (joins a) in
+        let weight = among_all (λ (b : Arrival). IsWeight b.weight.cost b.weight.period) arrivals are.weights a h in
+        let some = window_not_empty a.weight i 0 weight (omega (arith, other)) in
+        let joined = subst (λ l. Among l (joins a)) (sym (ap (λ l. all_decided (machine s) 0 [] l) says.first ∙ (room_admits room).members)) (map_among joins arrivals a h) in
+        let had = served s (said x) frame weights (due - 1) m (member_at s x arrivals says (due - 1) (joins a) joined) refl (no_offset_all m refl) i (omega (arith, other)) (omega (arith, some)) in
+        let none : (k : ℕ) → 0 + k ≡ k = λ k. omega arith in
+        let slots : slots_since (due - 1) m ≡ due = omega (arith, some) in
+        let same = length-filter (runs_at s (said x) m) (numbers_below (slots_since (due - 1) m)) ∙ (λ j. count_by (λ k. names_task a.name (table None s (said x) (none k j))) (numbers_below (slots j))) in
+        omega (arith, had, same)
   ]
-    where
-      due : ℕ
-      due = deadline_of a.weight i 0
-
-      had : ℕ
-      had = quanta_before (table None s (said x)) a.name due
-
-      weight : IsWeight a.weight.cost a.weight.period
-      weight = among_all (λ (b : Arrival). IsWeight b.weight.cost b.weight.period) arrivals are.weights a h
-
-      -- after the slot before it the next subtask isn't due yet
-      after : (m : Member) → Among (world None s (said x) (due - 1)) m → IsStill a m → 1 ≤ due → due < deadline_of a.weight (1 + had) 0
-      after m inside still some =
-          let late = none s (said x) frame weights (due - 1) m inside (ap is_some still.stays) in
-          let offset = no_offset m (index_after s (said x) (due - 1) m) still.delays in
-          let joined = still.joined in
-          let own = own_quanta m still.joined (suc (due - 1)) in
-          let at : suc (due - 1) ≡ due = omega arith in
-          let same = ap (λ n. quanta_before (table None s (said x)) n (suc (due - 1))) still.name ∙ ap (λ u. quanta_before (table None s (said x)) a.name u) at in
-          let index : index_after s (said x) (due - 1) m ≡ 1 + had = omega arith in
-          let is = ap (λ (w : Share). deadline_of w (index_after s (said x) (due - 1) m) 0) still.weight ∙ ap (λ k. deadline_of a.weight k 0) index in
-          omega arith
-
-      by_deadline : 1 ≤ i → i ≤ had
-      by_deadline some =
-          let open_first = window_not_empty a.weight i 0 weight some in
-          let p = there room a h (due - 1) in
-          let next = after p.0 p.1 p.2 (omega arith) in
-          elim (cases_lt had i) [
-            | inr enough ↦ enough
-            | inl few ↦ absurd (let rises = deadline_rises a.weight (1 + had) i weight.some_cost (omega arith) in omega arith)
-          ]
 
 pub served_where_there_is_room : ServedWhereThereIsRoom
-served_where_there_is_room s x arrivals frame are says = (admitted s x arrivals frame are says, served s x arrivals frame are says)
+served_where_there_is_room s x arrivals frame are says = (admitted s x arrivals frame are says, all_served s x arrivals frame are says)

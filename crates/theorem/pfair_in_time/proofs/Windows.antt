@@ -1,12 +1,13 @@
 -- The slots in which a member runs are in its windows.
-use Rattle.std.proofs.Common.{◌≡◌, ℕ, zero, suc, ◌+◌, ◌<◌, ◌≤◌, Bool, true, false, List, [], length, drop, arith, ap, sym, ◌∙◌, inl, inr, nat_le, filter, sum_by, count_by, None}
+use Rattle.std.proofs.Common.{◌≡◌, ℕ, zero, suc, ◌+◌, ◌<◌, ◌≤◌, Bool, true, false, List, [], length, drop, arith, ap, sym, ◌∙◌, inl, inr, nat_le, filter, sum_by, count_by, None, ◌⊎◌}
 use Rattle.pfair_in_time.proofs.Common.{cases_lt, Share, release_of, deadline_of, starts_job_of, deadline_rises, Among, Member, theta, is_departing, Settings, names_task, quanta, next_index, Story, world, table}
 use Rattle.pfair_admission.specs.declared.delay.Delay.{Delay}
 use Rattle.pfair_in_time.specs.Windows.{slots_since}
-use Rattle.pfair_in_time.proofs.Worlds.{tables_before, runs, next_more, next_new, here, HaveWeights, index_after}
+use Rattle.pfair_in_time.proofs.Worlds.{tables_before, runs, next_more, next_new, here, HaveWeights, index_after, runs_chosen}
 use Rattle.pfair_in_time.proofs.Lines.{IsLine}
-use Rattle.pfair_in_time.proofs.InTime.{none, in_time, released, started}
+use Rattle.pfair_in_time.proofs.InTime.{none, in_time, open_from}
 use Rattle.pfair_in_time.proofs.Passing.{passing, one_more}
+use Rattle.std.proofs.Math.Logic.{⊎_map}
 
 -- whether a member runs in a slot that is counted from its joining
 abbrev pub runs_at : Settings → Story → Member → ℕ → Bool
@@ -41,8 +42,7 @@ no_offset_all m e i = no_offset m i e
 -- a subtask that runs in a slot counted from the joining does so in its window
 pub record IsKept (m : Member) (slot index : ℕ) : Type 0 where
   pub before_deadline : slot < deadline_of m.weight index 0
-  pub released : m.early ≡ false → release_of m.weight index 0 ≤ slot
-  pub started : starts_job_of m.weight index ≡ true → release_of m.weight index 0 ≤ slot
+  pub released : (m.early ≡ false) ⊎ (starts_job_of m.weight index ≡ true) → release_of m.weight index 0 ≤ slot
 
 module _ (s : Settings) (x : Story) (frame : 0 < s.frame) (weights : HaveWeights x) where
   pub kept_at : (t slot : ℕ) (m l : Member) → Among (world None s x (m.joined + slot)) l → IsLine s x (m.joined + slot) t l m → IsUndelayed m → runs_at s x m slot ≡ true
@@ -55,8 +55,7 @@ module _ (s : Settings) (x : Story) (frame : 0 < s.frame) (weights : HaveWeights
         let up = line.rises l.next in
         let offset = undelayed l.next in
         omega arith);
-    released = λ e. from (released s x frame weights (m.joined + slot) l h named (sym line.early ∙ e));
-    started = λ e. from (started s x frame weights (m.joined + slot) l h named ((λ i. starts_job_of (sym line.weight i) (next i)) ∙ e));
+    released = λ e. from (open_from (m.joined + slot) l (runs_chosen s x (m.joined + slot) l h named).0 (⊎_map (λ early. sym line.early ∙ early) (λ starts. (λ i. starts_job_of (sym line.weight i) (next i)) ∙ starts) e));
   }
     where
       named : runs s x (m.joined + slot) l ≡ true

@@ -1,14 +1,13 @@
 -- The members from one slot to the next.
-use Rattle.std.proofs.Common.{◌≡◌, ℕ, zero, suc, ◌+◌, ◌-◌, ◌≤◌, Bool, true, false, cond, List, [], ◌∷◌, Some, drop, arith, ap, refl, sym, ◌∙◌, subst, inl, inr, ⊎_elim, ◌⊎◌, not, ◌||◌, is_some, filter, nat_le, count_by, None}
-use Rattle.pfair_in_time.proofs.Common.{list_any, true≢false, false≢true, cases_Bool, and_parts, not-true, drop_all, drop-append-le, sum_by_push, same_Some, NamesApart, apart_nil, apart_map, apart_filter, name_eq, name_exact, name_itself, Key, Among, among_all, among_filter, among_map, map_among, among_contains, contains_among, Member, is_departing, busy_until, eligible_from, next_key, announcements, Settings, Table, machine, names_task, quanta, next_index, counted_one, counted, is_eligible, eligible, pick, chosen, Story, history, world, table, Pick, Descends, IsSound, IsNew, named_world, IsCounted, counted_world, long_history, world_counted, any_among}
-use Rattle.pfair_order.specs.Order.{pd2_cmp}
-use Rattle.pfair_order.specs.Rank.{AreFirst}
+use Rattle.std.proofs.Common.{◌≡◌, ℕ, zero, suc, ◌+◌, ◌-◌, ◌≤◌, Bool, true, false, cond, List, [], ◌∷◌, Some, drop, arith, ap, refl, sym, ◌∙◌, subst, inl, inr, ⊎_elim, ◌⊎◌, not, is_some, filter, nat_le, count_by, None}
+use Rattle.pfair_in_time.proofs.Common.{list_any, true≢false, cases_Bool, and_parts, not-true, drop_all, drop-append-le, sum_by_push, same_Some, NamesApart, apart_nil, apart_map, name_eq, name_exact, name_itself, Key, Among, among_all, among_filter, among_map, map_among, among_contains, contains_among, Member, is_departing, busy_until, eligible_from, next_key, announcements, Settings, Table, machine, names_task, quanta, next_index, counted_one, counted, is_eligible, eligible, pick, chosen, Story, history, world, table, Pick, Descends, IsSound, IsNew, named_world, IsCounted, counted_world, long_history, world_counted, any_among, label, or_left, or_right}
 use Rattle.pfair_order.proofs.KeyLaws.{keys_total}
 use Rattle.pfair_order.proofs.InOrder.{by_rank_first}
 use Rattle.pfair_order.proofs.RankLemmas.{place_of}
 use Rattle.pfair_order.proofs.NamesApart.{once_from_names}
 use Rattle.pfair_in_time.specs.Laws.{AllSound, AllHaveWeights, IsFreed}
 use Rattle.pfair_in_time.proofs.Boundaries.{named_is, boundaries_keep_members}
+use Rattle.pfair_table.proofs.TableLaws.{eligible_apart}
 
 -- each arrival that is said has a weight
 abbrev pub HaveWeights : Story → Type 0
@@ -36,18 +35,15 @@ abbrev pub keys_at : Settings → Story → ℕ → List Key
 keys_at s x t = chosen s t (world None s x t)
 
 pub keys_apart : (s : Settings) (x : Story) (t : ℕ) → NamesApart (λ (k : Key). k.name) (eligible t (world None s x t))
-keys_apart s x t = apart_map (λ (m : Member). m.name) (λ (k : Key). k.name) next_key (λ m. refl) (filter (is_eligible t) (world None s x t)) (apart_filter (λ (m : Member). m.name) (is_eligible t) (world None s x t) (named_world s x t))
-
-pub first_keys : (s : Settings) (x : Story) (t : ℕ) → AreFirst pd2_cmp s.processors (eligible t (world None s x t)) (keys_at s x t)
-first_keys s x t = by_rank_first keys_total s.processors (eligible t (world None s x t)) (once_from_names (eligible t (world None s x t)) (keys_apart s x t))
+keys_apart s x t = eligible_apart t (world None s x t) (named_world s x t)
 
 -- a key that is chosen is that of an eligible member
-pub chosen_member : (s : Settings) (x : Story) (t : ℕ) (k : Key) → Among (keys_at s x t) k → (m : Member) × Among (world None s x t) m × (is_eligible t m ≡ true) × (k ≡ next_key m)
-chosen_member s x t k h =
-    let at = place_of (keys_at s x t) k (among_contains (keys_at s x t) k h) in
-    let among = contains_among (eligible t (world None s x t)) k ((first_keys s x t).at_rank at.0 k at.1).0 in
-    let p = among_map next_key (filter (is_eligible t) (world None s x t)) k among in
-    let q = among_filter (is_eligible t) (world None s x t) p.0 p.1 in
+pub chosen_member : (s : Settings) (t : ℕ) (ms : List Member) → NamesApart label ms → (k : Key) → Among (chosen s t ms) k → (m : Member) × Among ms m × (is_eligible t m ≡ true) × (k ≡ next_key m)
+chosen_member s t ms apart k h =
+    let first = by_rank_first keys_total s.processors (eligible t ms) (once_from_names (eligible t ms) (eligible_apart t ms apart)) in
+    let at = place_of (chosen s t ms) k (among_contains (chosen s t ms) k h) in
+    let p = among_map next_key (filter (is_eligible t) ms) k (contains_among (eligible t ms) k (first.at_rank at.0 k at.1).0) in
+    let q = among_filter (is_eligible t) ms p.0 p.1 in
     (p.0, q.0, q.1, p.2)
 
 abbrev pub runs : Settings → Story → ℕ → Member → Bool
@@ -58,23 +54,15 @@ pub runs_chosen : (s : Settings) (x : Story) (t : ℕ) (m : Member) → Among (w
 runs_chosen s x t m here named =
     let p = any_among (λ (r : Pick). name_eq m.name r.name) (table None s x t) named in
     let q = among_map (pick (world None s x t)) (keys_at s x t) p.0 p.1 in
-    let n = chosen_member s x t q.0 q.1 in
+    let n = chosen_member s t (world None s x t) (named_world s x t) q.0 q.1 in
     let name : m.name ≡ n.0.name = name_exact m.name p.0.name p.2 ∙ ap (λ (r : Pick). r.name) q.2 ∙ ap (λ (k : Key). k.name) n.3 in
     let same = same_member s x t m n.0 here n.1 name in
     (ap (is_eligible t) same ∙ n.2, subst (λ k. Among (keys_at s x t) k) (n.3 ∙ ap next_key (sym same)) q.1)
 
 pub any_from_among : {A : Type 0} (p : A → Bool) (xs : List A) (x : A) → Among xs x → p x ≡ true → list_any p xs ≡ true
 any_from_among p [] x h e = absurd h
-any_from_among p (y ∷ ys) x (inl i) e = by (p y) (sym (ap p i) ∙ e)
-  where
-    by : (b : Bool) → b ≡ true → (b || list_any p ys) ≡ true
-    by true _ = refl
-    by false e = absurd (false≢true e)
-any_from_among p (y ∷ ys) x (inr h) e = by (p y) (any_from_among p ys x h e)
-  where
-    by : (b : Bool) → list_any p ys ≡ true → (b || list_any p ys) ≡ true
-    by true _ = refl
-    by false e = e
+any_from_among p (y ∷ ys) x (inl i) e = or_left (p y) (list_any p ys) (sym (ap p i) ∙ e)
+any_from_among p (y ∷ ys) x (inr h) e = or_right (p y) (list_any p ys) (any_from_among p ys x h e)
 
 pub chosen_runs : (s : Settings) (x : Story) (t : ℕ) (m : Member) → Among (keys_at s x t) (next_key m) → runs s x t m ≡ true
 chosen_runs s x t m h = any_from_among (λ (r : Pick). name_eq m.name r.name) (table None s x t) (pick (world None s x t) (next_key m)) (map_among (pick (world None s x t)) (keys_at s x t) (next_key m) h) (name_itself m.name)

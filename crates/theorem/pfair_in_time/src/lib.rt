@@ -15,10 +15,10 @@
 //!   have room, claims are held past busy bounds, and a released subtask without a row sees a full
 //!   table of rows that go before it (`is_run`).
 //! - **In time** (`proofs/InTime.antt`). The theorem of a first run in the executive's own words.
-//! - **From run to run** (`proofs/NextRuns.antt`, `proofs/LongRun.antt`). Runs that follow one another
-//!   go on as one long run (`runs_go_on` of `pfair_table`), in which all is announced that was announced
-//!   in them. A member of a later run is one of the long run from which whole jobs were taken off
-//!   (`IsLater`), and both run in the same slots (`runs_long`).
+//! - **From run to run** (`proofs/LongRun.antt`). Runs that follow one another go on as one long run
+//!   (`runs_go_on` of `pfair_table`), in which all is announced that was announced in them. A member
+//!   of a later run is one of the long run from which whole jobs were taken off (`IsLater`), and both
+//!   run in the same slots (`runs_long`). So none misses in a later run (`served_after`).
 //! - **In windows** (`proofs/Passing.antt`, `proofs/Windows.antt`, `proofs/ThroughRuns.antt`). The slots
 //!   of all runs in which a member without delays runs, counted from the slot from which its subtasks
 //!   count, are in its windows, and none that was due is missing: in the long run, exactly the subtasks
@@ -28,13 +28,13 @@
 //! - **By dispatchers** (`proofs/Planned.antt`). What was planned has the tables of the contents; and
 //!   dispatchers that were handed on from run to run are in such runs (`dispatchers_run_on`).
 //! - **Who can be served** (`proofs/Served.antt`, `proofs/Overload.antt`). Arrivals at slot 0 for which
-//!   there is room are all admitted (`all_join`), and stay (`there`); and each has its last deadline of
+//!   there is room are all admitted (`all_join`), and stay (`world_is`); and each has its last deadline of
 //!   a frame at the frame's end (`last_due`), by which no tables give more quanta than they have rows
 //!   (`all_within`).
 //! - **What repeats** (`laws::tables_repeat`, `proofs/Repeats.antt`). If nothing changes after slot 0,
-//!   each member has had exactly its quanta at a common multiple of the periods (`no_more`,
-//!   `no_fewer`). The windows after it are those from slot 0 on, all later by one amount, which
-//!   keeps the order of keys (`later_same` of `pfair_order`), and so the tables (`repeats_if`).
+//!   each member has had exactly its quanta at a common multiple of the periods (`exactly`). The
+//!   windows after it are those from slot 0 on, all later by one amount, which keeps the order of keys
+//!   (`later_same` of `pfair_order`), and so the tables (`repeats_if`).
 #![tactic(auto)]
 
 pub mod laws;
