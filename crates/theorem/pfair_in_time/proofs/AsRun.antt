@@ -3,7 +3,7 @@ use Rattle.std.proofs.Common.{◌≡◌, ℕ, zero, suc, ◌<◌, ◌≤◌, Boo
 use Rattle.pfair_in_time.proofs.Common.{find, list_any, true≢false, cases_lt, cases_eq, cases_Bool, or_left, or_right, Share, NamesApart, release_of, apart_head, apart_tail, name_itself, name_eq, Key, Among, among_map, map_among, among_all, Member, theta, is_departing, next_key, member_named, Settings, eligible, Story, world, named_world, any_among, index_of, apart_map}
 use Rattle.pfair_order.proofs.NamesApart.{first_names}
 use Rattle.pfair_optimal.specs.Schedule.{Task, Subtask, Schedule, is_among, NoneTwice, same_task, same_subtask, is_row, has_run}
-use Rattle.pfair_optimal.proofs.Past.{task_exact, subtask_exact, ran_at}
+use Rattle.pfair_optimal.proofs.Past.{task_exact, subtask_exact, ran_at, ran_by, ran_more}
 use Rattle.pfair_in_time.proofs.Worlds.{runs, on, on_next, keys_at, keys_apart, same_member, chosen_member, runs_chosen, chosen_runs, next_new, here, came_from, HaveWeights, any_from_among}
 use Rattle.pfair_in_time.proofs.Lines.{IsLine, line_of}
 use Rattle.std.proofs.lemmas.Bool.{false_from_ne_true}
@@ -171,29 +171,23 @@ module _ (s : Settings) (x : Story) (weights : HaveWeights x) where
   all_before_ran n (suc t) m i h first less =
       elim (came_from s x weights t m h) [
         | inr new ↦ absurd (let one = new.next in omega arith)
-        | inl p ↦ earlier p.0 p.1 p.2.name p.2.joined p.2.next (λ l. all_before_ran n t p.0 i p.1 first l)
-      ]
-    where
-      earlier : (l : Member) → Among (world None s x t) l → m.name ≡ l.name → m.joined ≡ l.joined → m.next ≡ (on s x t l).next → (i < l.next → has_run (as_run s x n) (record { task = task_of l; index = i }) t ≡ true)
-          → has_run (as_run s x n) (record { task = task_of m; index = i }) (suc t) ≡ true
-      earlier l there name joined next rest =
-          let task_is : task_of l ≡ task_of m = λ j. record { name = sym name j; joined = sym joined j } in
-          subst (λ a. has_run (as_run s x n) (record { task = a; index = i }) (suc t) ≡ true) task_is
-          (elim (cases_lt i l.next) [
-            | inl before ↦ or_left (has_run (as_run s x n) (record { task = task_of l; index = i }) t) (is_row (as_run s x n) t (record { task = task_of l; index = i })) (rest before)
-            | inr last ↦ or_right (has_run (as_run s x n) (record { task = task_of l; index = i }) t) (is_row (as_run s x n) t (record { task = task_of l; index = i })) (at_last last)
-          ])
-        where
-          named : l.next ≤ i → (runs s x t l ≡ true) × (l.next ≡ i)
-          named last =
-              let more = on_next s x t l (here s x weights t l there) in
-              elim (cases_Bool (runs s x t l)) [
-                | inl e ↦ (e, (let c : cond {A = ℕ} (runs s x t l) 1 0 ≡ 1 = ap (λ b. cond {A = ℕ} b 1 0) e in omega arith))
+        | inl p ↦
+            let l = p.0 in
+            let task_is : task_of l ≡ task_of m = λ j. record { name = sym p.2.name j; joined = sym p.2.joined j } in
+            let more = on_next s x t l (here s x weights t l p.1) in
+            let next = p.2.next in
+            subst (λ a. has_run (as_run s x n) (record { task = a; index = i }) (suc t) ≡ true) task_is
+            (elim (cases_lt i l.next) [
+              | inl before ↦ ran_more (as_run s x n) (record { task = task_of l; index = i }) t (suc t) (omega arith) (all_before_ran n t l i p.1 first before)
+              | inr last ↦ elim (cases_Bool (runs s x t l)) [
+                | inl e ↦
+                    let c : cond {A = ℕ} (runs s x t l) 1 0 ≡ 1 = ap (λ b. cond {A = ℕ} b 1 0) e in
+                    let at : l.next ≡ i = omega arith in
+                    ran_by (as_run s x n) (record { task = task_of l; index = i }) t (suc t) (omega arith) (subst (λ k. is_row (as_run s x n) t (record { task = task_of l; index = k }) ≡ true) at (member_row s x n t l p.1 e))
                 | inr e ↦ absurd (let c : cond {A = ℕ} (runs s x t l) 1 0 ≡ 0 = ap (λ b. cond {A = ℕ} b 1 0) e in omega arith)
               ]
-
-          at_last : l.next ≤ i → is_row (as_run s x n) t (record { task = task_of l; index = i }) ≡ true
-          at_last last = (let p = named last in subst (λ k. is_row (as_run s x n) t (record { task = task_of l; index = k }) ≡ true) p.1 (member_row s x n t l there p.0))
+            ])
+      ]
 
   -- and none from the next one on
   pub none_after_ran : (n t : ℕ) (m : Member) (i : ℕ) → Among (world None s x t) m → m.next ≤ i → has_run (as_run s x n) (record { task = task_of m; index = i }) t ≡ true → ⊥

@@ -12,32 +12,19 @@ use Rattle.pfair_in_time.proofs.Lines.{line_of, back_to, on_to, IsGone}
 use Rattle.pfair_in_time.proofs.AsRun.{test_among, task_of, subtask_of, is_task, last_of, or_else, weight_in, offset_in, is_running, row_of, as_run, row_member, member_row, rows_apart, IsFinal, final, next_counted, all_before_ran, none_after_ran, find_task}
 use Rattle.pfair_in_time.proofs.Room.{room_world, sum_same}
 use Rattle.pfair_in_time.proofs.Claims.{bound_le_claim, IsPast, past_first}
+use Rattle.std.proofs.lemmas.Bool.{false_from_ne_true}
 
 -- ---- who goes before whom
 
--- a subtask's place in the order is that of the key
-record KeyIs (r : Schedule) (z : Subtask) (k : Key) : Type 0 where
-  due : deadline r z ≡ k.d
-  bit : b_bit r z ≡ k.b
-  group : group_deadline r z ≡ k.group
+-- the key of a subtask in a run
+abbrev key_in : Schedule → Subtask → Key
+key_in r z = record { d = deadline r z; b = b_bit r z; group = group_deadline r z; name = z.task.name }
 
-goes_first : (r : Schedule) (w z : Subtask) (k l : Key) → KeyIs r w k → KeyIs r z l → GoesBefore k l → GoesFirst r w z
-goes_first r w z k l a b (earlier_deadline lower) = (let p = a.due in let q = b.due in inl (omega arith))
-goes_first r w z k l a b (greater_b_bit d lower) = (let p = a.bit in let q = b.bit in inr (a.due ∙ d ∙ sym b.due, inl (omega arith)))
-goes_first r w z k l a b (later_group d one other lower) = (let p = a.group in let q = b.group in inr (a.due ∙ d ∙ sym b.due, inr (a.bit ∙ one ∙ sym other ∙ sym b.bit, inr (omega arith))))
-goes_first r w z k l a b (smaller_name d bits groups lower) =
-    inr (
-      a.due ∙ d ∙ sym b.due,
-      inr (
-        a.bit ∙ bits ∙ sym b.bit,
-        (elim (cases_eq k.b 1) [
-          | inl one ↦ (let p = a.group in let q = b.group in let same = groups one in inr (omega arith))
-          | inr other ↦ (let p = a.bit in let q = b.bit in let small = b_bit_at_most_one (r.weight w.task) w.index in inl (omega (arith, other)))
-        ]),
-      ),
-    )
-goes_first r w z k l a b (smaller_group d bits other name lower) =
-    (let p = a.bit in let q = b.bit in let small = b_bit_at_most_one (r.weight w.task) w.index in inr (a.due ∙ d ∙ sym b.due, inr (a.bit ∙ bits ∙ sym b.bit, inl (omega (arith, other)))))
+goes_first : (r : Schedule) (w z : Subtask) → GoesBefore (key_in r w) (key_in r z) → GoesFirst r w z
+goes_first r w z before = first (key_in r w) (key_in r z) (b_bit_at_most_one (r.weight w.task) w.index) before
+  where
+    first : (k l : Key) → k.b ≤ 1 → GoesBefore k l → (k.d < l.d) ⊎ ((k.d ≡ l.d) × ((l.b < k.b) ⊎ ((k.b ≡ l.b) × ((l.b ≡ 0) ⊎ (l.group ≤ k.group)))))
+    first k l small before = grind arith
 
 module _ (s : Settings) (x : Story) (frame : 0 < s.frame) (weights : HaveWeights x) (n : ℕ) where
   -- the task in the end is a member of some slot
@@ -68,12 +55,8 @@ module _ (s : Settings) (x : Story) (frame : 0 < s.frame) (weights : HaveWeights
           record { weight = p.0.weight; period = p.0.period; starts = λ i. omega arith; rises = λ i. theta_rises m i (i + 1) (omega arith) }
 
   -- a member's next subtask, if its offset doesn't change any more
-  key_is : (t : ℕ) (m : Member) → IsFinal s x weights n t m → (as_run s x n).offset (task_of m) m.next ≡ theta m m.next → KeyIs (as_run s x n) (subtask_of m) (next_key m)
-  key_is t m f offset = record {
-    due = ap (λ (w : Share). deadline_of w m.next ((as_run s x n).offset (task_of m) m.next)) f.weight ∙ ap (λ (o : ℕ). deadline_of m.weight m.next o) offset;
-    bit = ap (λ (w : Share). b_bit_of w m.next) f.weight;
-    group = ap (λ (w : Share). group_deadline_of w m.next ((as_run s x n).offset (task_of m) m.next)) f.weight ∙ ap (λ (o : ℕ). group_deadline_of m.weight m.next o) offset;
-  }
+  key_is : (t : ℕ) (m : Member) → IsFinal s x weights n t m → (as_run s x n).offset (task_of m) m.next ≡ theta m m.next → key_in (as_run s x n) (subtask_of m) ≡ next_key m
+  key_is t m f offset = λ i. record { d = deadline_of (f.weight i) m.next (offset i); b = b_bit_of (f.weight i) m.next; group = group_deadline_of (f.weight i) m.next (offset i); name = m.name }
 
   -- who is active
   active_member : (a : Task) (t : ℕ) → (as_run s x n).is_active a t ≡ true → (m : Member) × Among (world None s x t) m × (task_of m ≡ a) × (is_departing m ≡ false)
@@ -103,14 +86,6 @@ module _ (s : Settings) (x : Story) (frame : 0 < s.frame) (weights : HaveWeights
       let index : q.0.next ≡ p.0.next = ap (λ (y : Subtask). y.index) same in
       omega arith
 
-  rows_once : (u t : ℕ) (z : Subtask) → is_row (as_run s x n) u z ≡ true → is_row (as_run s x n) t z ≡ true → u ≡ t
-  rows_once u t z one other =
-      elim (cases_order u t) [
-        | inl e ↦ e
-        | inr (inl less) ↦ absurd (not_later u t z less one other)
-        | inr (inr more) ↦ absurd (not_later t u z more other one)
-      ]
-
   -- the subtask that a member is at is its next
   pub at_next : (t : ℕ) (m : Member) (i : ℕ) → Among (world None s x t) m → m.next ≡ i → IsNext (as_run s x n) (record { task = task_of m; index = i }) t
   at_next t m i h e = record {
@@ -121,37 +96,7 @@ module _ (s : Settings) (x : Story) (frame : 0 < s.frame) (weights : HaveWeights
     ];
   }
 
-  rows_follow : (t : ℕ) (z : Subtask) → is_row (as_run s x n) t z ≡ true → IsNext (as_run s x n) z t
-  rows_follow t z row = (let p = row_member s x n t z row in subst (λ y. IsNext (as_run s x n) y t) (sym p.3) (at_next t p.0 p.0.next p.1 refl))
-
-  rows_active : (t : ℕ) (z : Subtask) → is_row (as_run s x n) t z ≡ true → (as_run s x n).is_active z.task t ≡ true
-  rows_active t z row =
-      let p = row_member s x n t z row in
-      let q = and_parts (not (is_departing p.0)) (nat_le (eligible_from p.0 p.0.next) t) (runs_chosen s x t p.0 p.1 p.2).0 in
-      member_active z.task t p.0 p.1 (ap (λ (y : Subtask). y.task) (sym p.3)) (not-true (is_departing p.0) q.0)
-
-  rows_joined : (t : ℕ) (z : Subtask) → is_row (as_run s x n) t z ≡ true → z.task.joined ≤ t
-  rows_joined t z row =
-      let p = row_member s x n t z row in
-      let now = (here s x weights t p.0 p.1).by_now in
-      let same : z.task.joined ≡ p.0.joined = ap (λ (y : Subtask). y.task.joined) p.3 in
-      omega arith
-
   -- ---- members
-
-  active_since : (a : Task) (u t : ℕ) → a.joined ≤ u → u ≤ t → (as_run s x n).is_active a t ≡ true → (as_run s x n).is_active a u ≡ true
-  active_since a u t joined le h =
-      let p = active_member a t h in
-      let same : p.0.joined ≡ a.joined = ap (λ (b : Task). b.joined) p.2 in
-      let q = back_to s x weights t u p.0 p.1 (omega arith) le in
-      member_active a u q.0 q.1 (task_is q.0 p.0 (sym q.2.name) (sym q.2.joined) ∙ p.2)
-      (elim (cases_Bool (is_departing q.0)) [
-        | inr e ↦ e
-        | inl d ↦ absurd (true≢false (sym (q.2.departing d) ∙ p.3))
-      ])
-
-  active_members : (a : Task) (t : ℕ) → (as_run s x n).is_active a t ≡ true → is_among same_task ((as_run s x n).members t) a ≡ true
-  active_members a t h = (let p = active_member a t h in member_among a t p.0 p.1 p.2)
 
   held : (z : Subtask) (u t : ℕ) → u < n → is_row (as_run s x n) u z ≡ true → z.task.joined ≤ t → t < busy_bound (as_run s x n) z → is_among same_task ((as_run s x n).members t) z.task ≡ true
   held z u t less row joined before =
@@ -185,92 +130,87 @@ module _ (s : Settings) (x : Story) (frame : 0 < s.frame) (weights : HaveWeights
                 | inr busy ↦ omega arith
               ]
 
-  room : (t : ℕ) → t < n → sum_by (λ a. units_of ((as_run s x n).weight a) s.frame) ((as_run s x n).members t) ≤ s.processors * s.frame
-  room t less =
-      let same = sum_same (λ a. units_of ((as_run s x n).weight a) s.frame) task_of (λ (m : Member). units_of m.weight s.frame) (world None s x t) (λ m h. ap (λ (w : Share). units_of w s.frame) (final s x weights n t m h less).weight) in
-      let all = room_world s x t in
-      omega arith
-
   -- ---- the order
 
   chosen_first : (t : ℕ) (z : Subtask) → t < n → IsNext (as_run s x n) z t → (as_run s x n).is_active z.task t ≡ true → release (as_run s x n) z ≤ t → has_run (as_run s x n) z (suc t) ≡ false
       → (length ((as_run s x n).table t) ≡ s.processors) × ((w : Subtask) → is_row (as_run s x n) t w ≡ true → GoesFirst (as_run s x n) w z)
   chosen_first t z less next active opened not_run =
       let p = active_member z.task t active in
-      by p.0 p.1 p.2 p.3
-    where
-      by : (m : Member) → Among (world None s x t) m → task_of m ≡ z.task → is_departing m ≡ false → (length ((as_run s x n).table t) ≡ s.processors) × ((w : Subtask) → is_row (as_run s x n) t w ≡ true → GoesFirst (as_run s x n) w z)
-      by m h e d = (length-map (keys_at s x t) (row_of (world None s x t)) ∙ past.full, λ w row. first w (row_member s x n t w row))
-        where
-          z_at : (i : ℕ) → z.index ≡ i → z ≡ record { task = task_of m; index = i }
-          z_at i same = λ j. record { task = sym e j; index = same j }
-
-          -- the member is at this very subtask
-          index : z.index ≡ m.next
-          index =
-              let counted = next.counted in
-              elim (cases_order z.index m.next) [
-                | inl same ↦ same
-                | inr (inl lower) ↦ absurd (
-                    let ran = all_before_ran s x weights n t m z.index h counted lower in
-                    let now = ran_more (as_run s x n) (record { task = task_of m; index = z.index }) t (suc t) (omega arith) ran in
-                    true≢false (sym (subst (λ y. has_run (as_run s x n) y (suc t) ≡ true) (sym (z_at z.index refl)) now) ∙ not_run))
-                | inr (inr higher) ↦ absurd (elim next.follows [
-                  | inl one ↦ (let c = next_counted s x weights t m h in omega arith)
-                  | inr ran ↦ none_after_ran s x weights n t m (z.index - 1) h (omega arith) (subst (λ a. has_run (as_run s x n) (record { task = a; index = z.index - 1 }) t ≡ true) (sym e) ran)
-                ])
-              ]
-
-          is_it : z ≡ subtask_of m
-          is_it = z_at m.next index
-
-          f : IsFinal s x weights n t m
-          f = final s x weights n t m h less
-
-          released : release_of m.weight m.next (theta m m.next) ≤ t
-          released =
-              let same : release (as_run s x n) z ≡ release_of m.weight m.next ((as_run s x n).offset (task_of m) m.next) = ap (release (as_run s x n)) is_it ∙ ap (λ (w : Share). release_of w m.next ((as_run s x n).offset (task_of m) m.next)) f.weight in
-              let up = f.rises m.next in
-              omega arith
-
-          may_run : is_eligible t m ≡ true
-          may_run = and_from (not (is_departing m)) (nat_le (eligible_from m m.next) t) (not_from_false (is_departing m) d) (le-leb (eligible_from m m.next) t (let by_then = eligible_no_later m m.next in let r = released in omega arith))
-
-          among : Contains (eligible t (world None s x t)) (next_key m)
-          among = among_contains (eligible t (world None s x t)) (next_key m) (map_among next_key (filter (is_eligible t) (world None s x t)) m (filter_among (is_eligible t) (world None s x t) m h may_run))
-
-          out : Contains (keys_at s x t) (next_key m) → ⊥
-          out c =
-              let row = member_row s x n t m h (chosen_runs s x t m (contains_among (keys_at s x t) (next_key m) c)) in
-              let ran = ran_by (as_run s x n) (subtask_of m) t (suc t) (omega arith) row in
-              true≢false (sym (subst (λ y. has_run (as_run s x n) y (suc t) ≡ true) (sym is_it) ran) ∙ not_run)
-
-          past : IsPast s.processors (keys_at s x t) (next_key m)
-          past = past_first s.processors (eligible t (world None s x t)) (next_key m) (once_from_names (eligible t (world None s x t)) (keys_apart s x t)) among out
-
-          first : (w : Subtask) → (l : Member) × Among (world None s x t) l × (runs s x t l ≡ true) × (w ≡ subtask_of l) → GoesFirst (as_run s x n) w z
-          first w (l, i, named, same) =
-              let g = final s x weights n t l i less in
-              let key = (runs_chosen s x t l i named).1 in
-              subst (λ y. GoesFirst (as_run s x n) y z) (sym same) (subst (λ y. GoesFirst (as_run s x n) (subtask_of l) y) (sym is_it)
-              (goes_first (as_run s x n) (subtask_of l) (subtask_of m) (next_key l) (next_key m) (key_is t l g (g.stays_run l.next named (omega arith))) (key_is t m f (f.stays m.next (inr released)))
-              (past.before (next_key l) (among_contains (keys_at s x t) (next_key l) key))))
+      let m = p.0 in
+      let z_at : (i : ℕ) → z.index ≡ i → z ≡ record { task = task_of m; index = i } = λ i same. (λ j. record { task = sym p.2 j; index = same j }) in
+      let counted = next.counted in
+      let some = next_counted s x weights t m p.1 in
+      -- the member is at this very subtask
+      let index : z.index ≡ m.next = elim (cases_order z.index m.next) [
+        | inl same ↦ same
+        | inr (inl lower) ↦ absurd (
+            let ran = all_before_ran s x weights n t m z.index p.1 counted lower in
+            let now = ran_more (as_run s x n) (record { task = task_of m; index = z.index }) t (suc t) (omega arith) ran in
+            true≢false (sym (subst (λ y. has_run (as_run s x n) y (suc t) ≡ true) (sym (z_at z.index refl)) now) ∙ not_run))
+        | inr (inr higher) ↦ absurd (elim next.follows [
+          | inl one ↦ omega arith
+          | inr ran ↦ none_after_ran s x weights n t m (z.index - 1) p.1 (omega arith) (subst (λ a. has_run (as_run s x n) (record { task = a; index = z.index - 1 }) t ≡ true) (sym p.2) ran)
+        ])
+      ] in
+      let is_it = z_at m.next index in
+      let f = final s x weights n t m p.1 less in
+      let released : release_of m.weight m.next (theta m m.next) ≤ t =
+      (let same : release (as_run s x n) z ≡ release_of m.weight m.next ((as_run s x n).offset (task_of m) m.next) = ap (release (as_run s x n)) is_it ∙ ap (λ (w : Share). release_of w m.next ((as_run s x n).offset (task_of m) m.next)) f.weight in
+      let up = f.rises m.next in
+      omega arith) in
+      let by_then = eligible_no_later m m.next in
+      let may_run : is_eligible t m ≡ true = and_from (not (is_departing m)) (nat_le (eligible_from m m.next) t) (not_from_false (is_departing m) p.3) (le-leb (eligible_from m m.next) t (omega (arith, by_then, released))) in
+      let among = among_contains (eligible t (world None s x t)) (next_key m) (map_among next_key (filter (is_eligible t) (world None s x t)) m (filter_among (is_eligible t) (world None s x t) m p.1 may_run)) in
+      let out : Contains (keys_at s x t) (next_key m) → ⊥ = λ c.
+      (let row = member_row s x n t m p.1 (chosen_runs s x t m (contains_among (keys_at s x t) (next_key m) c)) in
+      let ran = ran_by (as_run s x n) (subtask_of m) t (suc t) (omega arith) row in
+      true≢false (sym (subst (λ y. has_run (as_run s x n) y (suc t) ≡ true) (sym is_it) ran) ∙ not_run)) in
+      let past = past_first s.processors (eligible t (world None s x t)) (next_key m) (once_from_names (eligible t (world None s x t)) (keys_apart s x t)) among out in (
+        length-map (keys_at s x t) (row_of (world None s x t)) ∙ past.full,
+        λ w row.
+            (let q = row_member s x n t w row in
+            let l = q.0 in
+            let g = final s x weights n t l q.1 less in
+            let before = past.before (next_key l) (among_contains (keys_at s x t) (next_key l) (runs_chosen s x t l q.1 q.2).1) in
+            let keys : GoesBefore (key_in (as_run s x n) (subtask_of l)) (key_in (as_run s x n) (subtask_of m)) =
+            subst (λ (k : Key × Key). GoesBefore k.0 k.1) (λ i. (sym (key_is t l g (g.stays_run l.next q.2 (omega arith))) i, sym (key_is t m f (f.stays m.next (inr released))) i)) before in
+            subst (λ (y : Subtask × Subtask). GoesFirst (as_run s x n) y.0 y.1) (λ i. (sym q.3 i, sym is_it i)) (goes_first (as_run s x n) (subtask_of l) (subtask_of m) keys)),
+      )
 
   pub is_run : IsRunBelow (as_run s x n) n
   is_run = record {
     frame = frame;
     weights = λ a. (fit a).weight;
     periods = λ a. (fit a).period;
-    offsets_start = λ a i first. (fit a).starts i;
-    offsets_rise = λ a i first. (fit a).rises i;
-    rows_apart = λ t less. rows_apart s x n t;
-    rows_once = λ u t z a b one other. rows_once u t z one other;
-    rows_follow = λ t z less row. rows_follow t z row;
-    rows_active = λ t z less row. rows_active t z row;
-    rows_joined = λ t z less row. rows_joined t z row;
-    active_since = λ a u t joined le less h. active_since a u t joined le h;
-    active_members = λ a t less h. active_members a t h;
-    held = λ z u t a b row joined before. held z u t a row joined before;
-    room = room;
+    offsets_start = λ a i _. (fit a).starts i;
+    offsets_rise = λ a i _. (fit a).rises i;
+    rows_apart = λ t _. rows_apart s x n t;
+    rows_once = λ u t z _ _ one other. elim (cases_order u t) [
+      | inl e ↦ e
+      | inr (inl less) ↦ absurd (not_later u t z less one other)
+      | inr (inr more) ↦ absurd (not_later t u z more other one)
+    ];
+    rows_follow = λ t z _ row. (let p = row_member s x n t z row in subst (λ y. IsNext (as_run s x n) y t) (sym p.3) (at_next t p.0 p.0.next p.1 refl));
+    rows_active = λ t z _ row.
+        (let p = row_member s x n t z row in
+        let q = and_parts (not (is_departing p.0)) (nat_le (eligible_from p.0 p.0.next) t) (runs_chosen s x t p.0 p.1 p.2).0 in
+        member_active z.task t p.0 p.1 (ap (λ (y : Subtask). y.task) (sym p.3)) (not-true (is_departing p.0) q.0));
+    rows_joined = λ t z _ row.
+        (let p = row_member s x n t z row in
+        let now = (here s x weights t p.0 p.1).by_now in
+        let same : z.task.joined ≡ p.0.joined = ap (λ (y : Subtask). y.task.joined) p.3 in
+        omega arith);
+    active_since = λ a u t joined le _ h.
+        (let p = active_member a t h in
+        let same : p.0.joined ≡ a.joined = ap (λ (b : Task). b.joined) p.2 in
+        let q = back_to s x weights t u p.0 p.1 (omega arith) le in
+        let stays = false_from_ne_true (is_departing q.0) (λ d. true≢false (sym (q.2.departing d) ∙ p.3)) in
+        member_active a u q.0 q.1 (task_is q.0 p.0 (sym q.2.name) (sym q.2.joined) ∙ p.2) stays);
+    active_members = λ a t _ h. (let p = active_member a t h in member_among a t p.0 p.1 p.2);
+    held = λ z u t less _ row joined before. held z u t less row joined before;
+    room = λ t less.
+        (let same = sum_same (λ a. units_of ((as_run s x n).weight a) s.frame) task_of (λ (m : Member). units_of m.weight s.frame) (world None s x t) (λ m h. ap (λ (w : Share). units_of w s.frame) (final s x weights n t m h less).weight) in
+        let all = room_world s x t in
+        omega arith);
     chosen = chosen_first;
   }
