@@ -9,6 +9,7 @@ pub record IsLine (s : Settings) (x : Story) (u t : ℕ) (m n : Member) : Type 0
   pub weight : n.weight ≡ m.weight
   pub early : n.early ≡ m.early
   pub joined : n.joined ≡ m.joined
+  pub same : u ≡ t → m ≡ n
   pub next : m.next ≤ n.next
   pub ran : u < t → runs s x u m ≡ true → m.next < n.next
   pub rises : (i : ℕ) → theta m i ≤ theta n i
@@ -23,6 +24,7 @@ line_itself s x t m = record {
   weight = refl;
   early = refl;
   joined = refl;
+  same = λ _. refl;
   next = omega arith;
   ran = λ less _. absurd (omega arith);
   rises = λ i. omega arith;
@@ -38,6 +40,7 @@ line_next s x t m n at d = record {
   weight = d.weight;
   early = d.early;
   joined = d.joined;
+  same = λ e. absurd (omega arith);
   next = (let more = on_next s x t m at in let same = d.next in omega arith);
   ran = λ _ e. one_more e;
   rises = d.rises;
@@ -57,19 +60,24 @@ line_next s x t m n at d = record {
     still i (inl ran) = inl (let more = on_next s x t m at in omega arith)
     still i (inr released) = inr (omega arith)
 
-line_on : (s : Settings) (x : Story) (u v t : ℕ) (l m n : Member) → u < v → v ≤ t → IsLine s x u v l m → IsLine s x v t m n → IsLine s x u t l n
-line_on s x u v t l m n less le a b = record {
-  name = b.name ∙ a.name;
-  weight = b.weight ∙ a.weight;
-  early = b.early ∙ a.early;
-  joined = b.joined ∙ a.joined;
-  next = (let one = a.next in let other = b.next in omega arith);
-  ran = λ _ e. (let one = a.ran less e in let other = b.next in omega arith);
-  rises = λ i. (let one = a.rises i in let other = b.rises i in omega arith);
-  stays = λ i h. b.stays i (still i (a.stays i h) h) ∙ a.stays i h;
-  stays_run = λ i _ e le. b.stays i (inl (let one = a.ran less e in omega arith)) ∙ a.stays_run i less e le;
-  departing = λ e. b.departing (a.departing e);
-}
+line_on : (s : Settings) (x : Story) (u v t : ℕ) (l m n : Member) → u ≤ v → v < t → IsLine s x u v l m → IsLine s x v t m n → IsLine s x u t l n
+line_on s x u v t l m n le later a b =
+    elim (cases_eq u v) [
+      | inl e ↦ subst (λ (p : ℕ × Member). IsLine s x p.0 t p.1 n) (λ i. (sym e i, sym (a.same e) i)) b
+      | inr other ↦ (let less : u < v = omega (arith, le, other) in record {
+        name = b.name ∙ a.name;
+        weight = b.weight ∙ a.weight;
+        early = b.early ∙ a.early;
+        joined = b.joined ∙ a.joined;
+        same = λ e. absurd (omega arith);
+        next = (let one = a.next in let next = b.next in omega arith);
+        ran = λ _ e. (let one = a.ran less e in let next = b.next in omega arith);
+        rises = λ i. (let one = a.rises i in let more = b.rises i in omega arith);
+        stays = λ i h. b.stays i (still i (a.stays i h) h) ∙ a.stays i h;
+        stays_run = λ i _ e le. b.stays i (inl (let one = a.ran less e in omega arith)) ∙ a.stays_run i less e le;
+        departing = λ e. b.departing (a.departing e);
+      })
+    ]
   where
     still : (i : ℕ) → theta m i ≡ theta l i → (i < l.next) ⊎ (release_of l.weight i (theta l i) ≤ u) → (i < m.next) ⊎ (release_of m.weight i (theta m i) ≤ v)
     still i same (inl ran) = inl (let one = a.next in omega arith)
@@ -83,17 +91,12 @@ module _ (s : Settings) (x : Story) (weights : HaveWeights x) where
       elim (cases_eq u (suc t)) [
         | inl e ↦ (n, subst (λ k. Among (world None s x k) n) (sym e) h, subst (λ k. IsLine s x u k n n) e (line_itself s x u n))
         | inr other ↦ elim (came_from s x weights t n h) [
-          | inl p ↦ earlier t u n p.0 p.1 (line_next s x t p.0 n (here s x weights t p.0 p.1) p.2) (omega (arith, other)) (back_to t u p.0 p.1 (let j = p.2.joined in omega arith) (omega (arith, other)))
+          | inl p ↦
+              let q = back_to t u p.0 p.1 (let j = p.2.joined in omega arith) (omega (arith, other)) in
+              (q.0, q.1, line_on s x u t (suc t) q.0 p.0 n (omega (arith, other)) (omega arith) q.2 (line_next s x t p.0 n (here s x weights t p.0 p.1) p.2))
           | inr new ↦ absurd (let j = new.joined in omega (arith, other))
         ]
       ]
-    where
-      earlier : (t u : ℕ) (n m : Member) → Among (world None s x t) m → IsLine s x t (suc t) m n → u ≤ t → (l : Member) × Among (world None s x u) l × IsLine s x u t l m → (l : Member) × Among (world None s x u) l × IsLine s x u (suc t) l n
-      earlier t u n m h line le (l, i, before) =
-          elim (cases_eq u t) [
-            | inl e ↦ (m, subst (λ k. Among (world None s x k) m) (sym e) h, subst (λ k. IsLine s x k (suc t) m n) (sym e) line)
-            | inr other ↦ (l, i, line_on s x u t (suc t) l m n (omega (arith, other)) (omega arith) before line)
-          ]
 
   -- the same, of a member that is known
   pub line_of : (t u : ℕ) (m n : Member) → Among (world None s x u) m → Among (world None s x t) n → u ≤ t → n.name ≡ m.name → n.joined ≡ m.joined → IsLine s x u t m n
@@ -118,31 +121,13 @@ module _ (s : Settings) (x : Story) (weights : HaveWeights x) where
   on_to (suc t) u m h le =
       elim (cases_eq u (suc t)) [
         | inl e ↦ inl (m, subst (λ k. Among (world None s x k) m) e h, subst (λ k. IsLine s x u k m m) e (line_itself s x u m))
-        | inr other ↦ more t u m h (omega (arith, other)) (on_to t u m h (omega (arith, other)))
+        | inr other ↦ elim (on_to t u m h (omega (arith, other))) [
+          | inr (n, gone) ↦ inr (n, record { slot = gone.slot; since = gone.since; line = gone.line; sound = gone.sound; freed_at = gone.freed_at; freed = gone.freed; by_then = (let b = gone.by_then in omega arith) })
+          | inl (n, i, line) ↦
+              let on_from = λ (l : Member) (d : Descends (suc t) (on s x t n) l). line_on s x u t (suc t) m n l (omega (arith, other)) (omega arith) line (line_next s x t n l (here s x weights t n i) d) in
+              elim (goes_to s x weights t n i) [
+                | inl p ↦ inl (p.0, p.1, on_from p.0 p.2)
+                | inr p ↦ inr (p.0, record { slot = suc t; since = omega (arith, other); line = on_from p.0 p.1.descends; sound = p.1.sound; freed_at = p.1.slot; freed = p.1.freed; by_then = p.1.by_now })
+              ]
+        ]
       ]
-    where
-      more : (t u : ℕ) (m : Member) → Among (world None s x u) m → u ≤ t → ((n : Member) × Among (world None s x t) n × IsLine s x u t m n) ⊎ ((n : Member) × IsGone u t m n)
-          → ((n : Member) × Among (world None s x (suc t)) n × IsLine s x u (suc t) m n) ⊎ ((n : Member) × IsGone u (suc t) m n)
-      more t u m h le (inr (n, gone)) = inr (n, record { slot = gone.slot; since = gone.since; line = gone.line; sound = gone.sound; freed_at = gone.freed_at; freed = gone.freed; by_then = (let b = gone.by_then in omega arith) })
-      more t u m h le (inl (n, i, line)) =
-          elim (goes_to s x weights t n i) [
-            | inl p ↦ inl (p.0, p.1, joined_line t u m n p.0 line (line_next s x t n p.0 (here s x weights t n i) p.2) le (cases_eq u t) h i)
-            | inr p ↦ inr (
-              p.0,
-              record {
-                slot = suc t;
-                since = omega arith;
-                line = joined_line t u m n p.0 line (line_next s x t n p.0 (here s x weights t n i) p.1.descends) le (cases_eq u t) h i;
-                sound = p.1.sound;
-                freed_at = p.1.slot;
-                freed = p.1.freed;
-                by_then = p.1.by_now;
-              },
-            )
-          ]
-        where
-          joined_line : (t u : ℕ) (m n l : Member) → IsLine s x u t m n → IsLine s x t (suc t) n l → u ≤ t → (u ≡ t) ⊎ (u ≡ t → ⊥) → Among (world None s x u) m → Among (world None s x t) n → IsLine s x u (suc t) m l
-          joined_line t u m n l before after le (inr other) from to = line_on s x u t (suc t) m n l (omega (arith, other)) (omega arith) before after
-          joined_line t u m n l before after le (inl e) from to =
-              let same : n ≡ m = same_member s x u n m (subst (λ k. Among (world None s x k) n) (sym e) to) from before.name in
-              subst (λ k. IsLine s x k (suc t) m l) (sym e) (subst (λ k. IsLine s x t (suc t) k l) same after)
