@@ -228,7 +228,7 @@ names_long s (r ∷ earlier) story h weights u =
           ∙ sym (ap names_of (through_late s earlier both u (omega (arith, late, from, base)))) ∙ rest
     ]
 
-by_names : (name : Name) (rows : Table) → names_task name rows ≡ list_any (λ n. name_eq name n) (names_of rows)
+pub by_names : (name : Name) (rows : Table) → names_task name rows ≡ list_any (λ n. name_eq name n) (names_of rows)
 by_names name [] = refl
 by_names name (p ∷ rows) = ap (λ b. name_eq name p.name || b) (by_names name rows)
 

@@ -1,8 +1,12 @@
 -- More than there is can't be served: by the end of a frame as many quanta are due as the tasks want.
-use Rattle.std.proofs.Common.{◌≡◌, ℕ, zero, suc, ◌+◌, ◌*◌, ◌/◌, ◌%◌, ◌<◌, ◌≤◌, Bool, true, false, cond, List, [], ◌∷◌, length, arith, ap, refl, sym, ◌∙◌, subst, inl, inr, ◌||◌, sum_by}
-use Rattle.pfair_in_time.proofs.Common.{true≢false, cases_lt, cases_Bool, sum_by-cons, sum_by_push, mod-eq-sub-div-mul, div-mul-le_self, mul-suc, mul_comm, NamesApart, Share, IsWeight, units_of, deadline_of, apart_head, apart_tail, name_exact, name_itself, name_eq, Among, among_all, numbers_below, Pick, Table, names_task}
+use Rattle.std.proofs.Common.{◌≡◌, ℕ, zero, suc, ◌+◌, ◌*◌, ◌/◌, ◌%◌, ◌<◌, ◌≤◌, Bool, true, false, cond, List, [], ◌∷◌, length, arith, ap, refl, sym, ◌∙◌, subst, inl, inr, ◌||◌, sum_by, filter, map}
+use Rattle.pfair_in_time.proofs.Common.{true≢false, cases_lt, cases_Bool, sum_by-cons, sum_by_push, mod-eq-sub-div-mul, div-mul-le_self, mul-suc, mul_comm, NamesApart, Share, IsWeight, units_of, deadline_of, apart_head, apart_tail, name_exact, name_itself, name_eq, Among, among_all, numbers_below, Pick, Table, names_task, names_of, apart_filter, length-map, list_any, any_among, among_map, among_filter}
 use Rattle.pfair_weight.specs.JobFacts.{job_due}
 use Rattle.pfair_in_time.specs.Schedules.{Arrival, quanta_before, NoneServesMore}
+use Rattle.std.proofs.lemmas.Map.Made.{length-le_from_is_member}
+use Rattle.std.proofs.lemmas.Cmp.{nat_list_eq_equiv}
+use Rattle.std.proofs.lemmas.List.Sums.{length-filter, sum_by-le}
+use Rattle.pfair_in_time.proofs.LongRun.{by_names}
 
 -- ---- sums
 
@@ -28,60 +32,27 @@ parts_within f g h each (x ∷ xs) =
     let c = sum_by-cons h x xs in
     omega arith
 
-no_parts : {A : Type 0} (f : A → ℕ) → ((x : A) → f x ≡ 0) → (xs : List A) → sum_by f xs ≡ 0
-no_parts f each [] = omega arith
-no_parts f each (x ∷ xs) = (let here = each x in let rest = no_parts f each xs in let a = sum_by-cons f x xs in omega arith)
-
 -- ---- the rows of one slot
-
--- whether a row is an arrival's, as a number
-abbrev has_row : Pick → Arrival → ℕ
-has_row p a = cond (name_eq a.name p.name) 1 0
 
 abbrev is_named_in : Table → Arrival → ℕ
 is_named_in rows a = cond (names_task a.name rows) 1 0
 
--- a row is one arrival's at most
-one_owner : (p : Pick) (arrivals : List Arrival) → NamesApart (λ (a : Arrival). a.name) arrivals → sum_by (has_row p) arrivals ≤ 1
-one_owner p [] apart = omega arith
-one_owner p (a ∷ more) apart =
-    let sum = sum_by-cons (has_row p) a more in
-    let rest = one_owner p more (apart_tail (λ (b : Arrival). b.name) a more apart) in
-    elim (cases_Bool (name_eq a.name p.name)) [
-      | inr other ↦ (let c : has_row p a ≡ 0 = ap (λ b. cond {A = ℕ} b 1 0) other in omega arith)
-      | inl own ↦
-          let c : has_row p a ≡ 1 = ap (λ b. cond {A = ℕ} b 1 0) own in
-          let none = others own more (λ b h. among_all (λ (b : Arrival). name_eq a.name b.name ≡ false) more (apart_head (λ (b : Arrival). b.name) a more apart) b h) in
-          omega arith
-    ]
-  where
-    others : name_eq a.name p.name ≡ true → (bs : List Arrival) → ((b : Arrival) → Among bs b → name_eq a.name b.name ≡ false) → sum_by (has_row p) bs ≡ 0
-    others own [] differ = omega arith
-    others own (b ∷ bs) differ =
-        let sum = sum_by-cons (has_row p) b bs in
-        let rest = others own bs (λ d h. differ d (inr h)) in
-        elim (cases_Bool (name_eq b.name p.name)) [
-          | inr other ↦ (let c : has_row p b ≡ 0 = ap (λ b. cond {A = ℕ} b 1 0) other in omega arith)
-          | inl same ↦ absurd (
-              let names : a.name ≡ b.name = name_exact a.name p.name own ∙ sym (name_exact b.name p.name same) in
-              true≢false (sym (subst (λ (n : List ℕ). name_eq a.name n ≡ true) names (name_itself a.name)) ∙ differ b (inl refl)))
-        ]
-
-row_more : (p : Pick) (rows : Table) (a : Arrival) → is_named_in (p ∷ rows) a ≤ has_row p a + is_named_in rows a
-row_more p rows a = by (name_eq a.name p.name) (names_task a.name rows)
-  where
-    by : (b c : Bool) → cond (b || c) 1 0 ≤ cond b 1 0 + cond c 1 0
-    by true c = omega arith
-    by false c = omega arith
-
--- so no more arrivals are named in a slot than it has rows
+-- no more arrivals are named in a slot than it has rows
 named_within : (arrivals : List Arrival) → NamesApart (λ (a : Arrival). a.name) arrivals → (rows : Table) → sum_by (is_named_in rows) arrivals ≤ length rows
-named_within arrivals apart [] = (let none = no_parts (is_named_in []) (λ a. refl) arrivals in omega arith)
-named_within arrivals apart (p ∷ rows) =
-    let split = parts_within (is_named_in (p ∷ rows)) (has_row p) (is_named_in rows) (row_more p rows) arrivals in
-    let one = one_owner p arrivals apart in
-    let rest = named_within arrivals apart rows in
+named_within arrivals apart rows =
+    let named = filter (λ (a : Arrival). names_task a.name rows) arrivals in
+    let most = length-le_from_is_member nat_list_eq_equiv (map (λ (a : Arrival). a.name) named) (names_of rows) (apart_filter (λ (a : Arrival). a.name) (λ a. names_task a.name rows) arrivals apart) has in
+    let all = length-filter (λ (a : Arrival). names_task a.name rows) arrivals in
+    let names = length-map named (λ (a : Arrival). a.name) in
+    let long = length-map rows (λ (r : Pick). r.name) in
     omega arith
+  where
+    has : (q : List ℕ) → list_any (name_eq q) (map (λ (a : Arrival). a.name) (filter (λ (a : Arrival). names_task a.name rows) arrivals)) ≡ true → list_any (name_eq q) (names_of rows) ≡ true
+    has q h =
+        let n = any_among (name_eq q) (map (λ (a : Arrival). a.name) (filter (λ (a : Arrival). names_task a.name rows) arrivals)) h in
+        let a = among_map (λ (a : Arrival). a.name) (filter (λ (a : Arrival). names_task a.name rows) arrivals) n.0 n.1 in
+        let row = (among_filter (λ (a : Arrival). names_task a.name rows) arrivals a.0 a.1).1 in
+        sym (by_names q rows) ∙ subst (λ k. names_task k rows ≡ true) (sym (name_exact q n.0 n.2 ∙ a.2)) row
 
 -- ---- all slots
 
@@ -90,7 +61,7 @@ quanta_more tables name n = sum_by_push (λ slot. cond (names_task name (tables 
 
 all_within : (processors : ℕ) (tables : ℕ → Table) (arrivals : List Arrival) → NamesApart (λ (a : Arrival). a.name) arrivals
     → (n : ℕ) → ((t : ℕ) → t < n → length (tables t) ≤ processors) → sum_by (λ a. quanta_before tables a.name n) arrivals ≤ processors * n
-all_within processors tables arrivals apart zero few = (let none = no_parts (λ (a : Arrival). quanta_before tables a.name 0) (λ a. refl) arrivals in omega arith)
+all_within processors tables arrivals apart zero few = (let none = sum_by-le (λ (a : Arrival). quanta_before tables a.name 0) 0 arrivals (λ k d inside. omega arith) in omega arith)
 all_within processors tables arrivals apart (suc n) few =
     let before = all_within processors tables arrivals apart n (λ t less. few t (omega arith)) in
     let split = parts_within (λ (a : Arrival). quanta_before tables a.name (suc n)) (λ (a : Arrival). quanta_before tables a.name n) (is_named_in (tables n))
