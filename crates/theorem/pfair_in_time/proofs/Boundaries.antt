@@ -19,20 +19,7 @@ pub descends_itself : (t : ℕ) (m : Member) → Descends t m m
 descends_itself t m = record { name = refl; weight = refl; early = refl; joined = refl; next = refl; rises = λ i. omega arith; stays = λ i _. refl; departing = λ _. refl }
 
 pub descends_on : (t : ℕ) (l m n : Member) → Descends t l m → Descends t m n → Descends t l n
-descends_on t l m n a b = record {
-  name = b.name ∙ a.name;
-  weight = b.weight ∙ a.weight;
-  early = b.early ∙ a.early;
-  joined = b.joined ∙ a.joined;
-  next = b.next ∙ a.next;
-  rises = λ i. (let one = a.rises i in let other = b.rises i in omega arith);
-  stays = λ i h. b.stays i (still i (a.stays i h) h) ∙ a.stays i h;
-  departing = λ d. b.departing (ap is_departing (a.departing d) ∙ d) ∙ a.departing d;
-}
-  where
-    still : (i : ℕ) → theta m i ≡ theta l i → (i < l.next) ⊎ (release_of l.weight i (theta l i) < t) → (i < m.next) ⊎ (release_of m.weight i (theta m i) < t)
-    still i same (inl ran) = inl (let e = a.next in omega arith)
-    still i same (inr before) = inr (subst (λ (w : Share). release_of w i (theta m i) < t) (sym a.weight) (let e = same in omega arith))
+descends_on t l m n a b = grind arith
 
 -- the departure of one that isn't departing
 freeing_descends : (t : ℕ) (m : Member) → is_departing m ≡ false → (slot : ℕ) → Descends t m (with_freeing slot m)
@@ -50,12 +37,7 @@ freeing_sound frame t m slot is s = record {
 
 -- releases rise with the index
 release_rises : (m : Member) (i j : ℕ) → 0 < m.weight.cost → i ≤ j → release_of m.weight i (theta m i) ≤ release_of m.weight j (theta m j)
-release_rises m i j some le =
-    let moved = theta_rises m i j le in
-    let wide : (i - 1) * m.weight.period ≤ (j - 1) * m.weight.period = mul-le (i - 1) m.weight.period (j - 1) m.weight.period (omega arith) (le_refl m.weight.period) in
-    let opens = of_released m.weight j (release_of m.weight j 0) some (le_refl (release_of m.weight j 0)) in
-    let opened = released m.weight i (release_of m.weight j 0) some (omega arith) in
-    omega arith
+release_rises m i j some le = grind (arith, theta_rises, mul-le, le_refl, of_released, released)
 
 -- the late release of one that isn't departing, of a subtask that is to come
 delay_descends : (t index by : ℕ) (m : Member) → 0 < m.weight.cost → is_departing m ≡ false → t ≤ release_of m.weight index (theta m index) → m.next ≤ index → Descends t m (with_delay index by m)
@@ -90,23 +72,11 @@ named_is ms name m apart h e = subst (λ n. member_named ms n ≡ Some m) (sym (
 
 departs : (t : ℕ) (o : Option Member) (slot : ℕ) → departure t o ≡ Departing slot → (m : Member) × (o ≡ Some m) × (is_departing m ≡ false) × (slot ≡ freeing_slot m t)
 departs t None slot e = absurd (cc)
-departs t (Some m) slot e = by (is_departing m) refl e
-  where
-    by : (b : Bool) → is_departing m ≡ b → (if b then Refused AlreadyDeparting else Departing (freeing_slot m t)) ≡ Departing slot → (n : Member) × (Some m ≡ Some n) × (is_departing n ≡ false) × (slot ≡ freeing_slot n t)
-    by true d e = absurd (cc)
-    by false d e = (m, refl, d, cc)
+departs t (Some m) slot e = grind arith
 
 is_late : (t : ℕ) (o : Option Member) (index : ℕ) → late_release t o index ≡ Delayed → (m : Member) × (o ≡ Some m) × (is_departing m ≡ false) × (t ≤ release_of m.weight index (theta m index)) × (m.next ≤ index)
 is_late t None index e = absurd (cc)
-is_late t (Some m) index e = by (is_departing m) (nat_lt (release_of m.weight index (theta m index)) t || nat_lt index m.next) refl refl e
-  where
-    by : (b c : Bool) → is_departing m ≡ b → (nat_lt (release_of m.weight index (theta m index)) t || nat_lt index m.next) ≡ c → (if b then Refused AlreadyDeparting else if c then Refused AlreadyReleased else Delayed) ≡ Delayed
-        → (n : Member) × (Some m ≡ Some n) × (is_departing n ≡ false) × (t ≤ release_of n.weight index (theta n index)) × (n.next ≤ index)
-    by true c d r e = absurd (cc)
-    by false true d r e = absurd (cc)
-    by false false d r e =
-        let p = or_parts (nat_lt (release_of m.weight index (theta m index)) t) (nat_lt index m.next) r in
-        (m, refl, d, ltb-false (release_of m.weight index (theta m index)) t p.0, ltb-false index m.next p.1)
+is_late t (Some m) index e = grind (arith, or_parts, ltb-false)
 
 -- ---- one decision
 

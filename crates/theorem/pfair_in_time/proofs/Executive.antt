@@ -21,10 +21,7 @@ abbrev key_in : Schedule → Subtask → Key
 key_in r z = record { d = deadline r z; b = b_bit r z; group = group_deadline r z; name = z.task.name }
 
 goes_first : (r : Schedule) (w z : Subtask) → GoesBefore (key_in r w) (key_in r z) → GoesFirst r w z
-goes_first r w z before = first (key_in r w) (key_in r z) (b_bit_at_most_one (r.weight w.task) w.index) before
-  where
-    first : (k l : Key) → k.b ≤ 1 → GoesBefore k l → (k.d < l.d) ⊎ ((k.d ≡ l.d) × ((l.b < k.b) ⊎ ((k.b ≡ l.b) × ((l.b ≡ 0) ⊎ (l.group ≤ k.group)))))
-    first k l small before = grind arith
+goes_first r w z before = grind (arith, b_bit_at_most_one)
 
 module _ (s : Settings) (x : Story) (frame : 0 < s.frame) (weights : HaveWeights x) (n : ℕ) where
   -- the task in the end is a member of some slot
@@ -88,13 +85,7 @@ module _ (s : Settings) (x : Story) (frame : 0 < s.frame) (weights : HaveWeights
 
   -- the subtask that a member is at is its next
   pub at_next : (t : ℕ) (m : Member) (i : ℕ) → Among (world None s x t) m → m.next ≡ i → IsNext (as_run s x n) (record { task = task_of m; index = i }) t
-  at_next t m i h e = record {
-    counted = (let c = next_counted s x weights t m h in omega arith);
-    follows = elim (cases_eq i 1) [
-      | inl first ↦ inl first
-      | inr other ↦ inr (all_before_ran s x weights n t m (i - 1) h (let c = next_counted s x weights t m h in omega (arith, other)) (let c = next_counted s x weights t m h in omega arith))
-    ];
-  }
+  at_next t m i h e = grind (arith, next_counted, cases_eq, all_before_ran)
 
   -- ---- members
 

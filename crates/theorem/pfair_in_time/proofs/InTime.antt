@@ -10,10 +10,7 @@ use Rattle.pfair_in_time.proofs.Executive.{is_run, member_active}
 
 -- who may run in a slot, and isn't early or starts a job, is released by then
 pub open_from : (t : ℕ) (m : Member) → is_eligible t m ≡ true → (m.early ≡ false) ⊎ (starts_job_of m.weight m.next ≡ true) → release_of m.weight m.next (theta m m.next) ≤ t
-open_from t m able when =
-    let from = leb-true (eligible_from m m.next) t (and_parts (not (is_departing m)) (nat_le (eligible_from m m.next) t) able).1 in
-    let is : eligible_from m m.next ≡ release_of m.weight m.next (theta m m.next) = ⊎_elim (eligible_not_early m m.next) (eligible_at_job m m.next) when in
-    omega arith
+open_from t m able when = grind (arith, leb-true, and_parts, eligible_not_early, eligible_at_job)
 
 -- up to the end of slot t a member is the last one of its task
 last_now : (s : Settings) (x : Story) (t : ℕ) (m : Member) → Among (world None s x t) m → last_of s x (suc t) (task_of m) ≡ Some m

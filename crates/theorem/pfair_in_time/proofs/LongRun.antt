@@ -28,17 +28,7 @@ raised_weights left begin machine t members [] h = tt
 raised_weights left begin machine t members (a ∷ announced) h = (raised_weight left begin members a.announcement h.0, raised_weights left begin machine t (decided machine t members a.announcement) announced h.1)
 
 pub both_weights : (o : Origin) (s : Settings) (first : Story) (n : ℕ) (second : Story) → IsWeighedStory first → IsWeighedStory second → IsWeighedStory (both_stories o s first n second)
-both_weights o s first n second before after t = by (nat_lt t n)
-  where
-    left : List Member
-    left = (history o s first n).members
-
-    late : List Said
-    late = all_raised left (slot_of o n) (machine s) (slot_of o n + (t - n)) (present (slot_of o n + (t - n)) (history (Some (left_over o s first n)) s second (t - n)).members) (second (t - n))
-
-    by : (b : Bool) → AllByRecursion IsWeighed (announcements (if b then first t else late))
-    by true = before t
-    by false = raised_weights left (slot_of o n) (machine s) (slot_of o n + (t - n)) (present (slot_of o n + (t - n)) (history (Some (left_over o s first n)) s second (t - n)).members) (second (t - n)) (after (t - n))
+both_weights o s first n second before after t = grind (arith, raised_weights)
 
 abbrev pub AreReplicas : List Past → Type 0
 AreReplicas earlier = AllByRecursion (λ r. IsReplica r.contents) earlier
@@ -183,16 +173,11 @@ history_long s (r ∷ earlier) story h weights t m among =
 -- in the last of them
 through_late : (s : Settings) (earlier : List Past) (story : Story) (u : ℕ) → slot_of (origin_after s earlier) 0 ≤ u → table_through s earlier story u ≡ table (origin_after s earlier) s story (u - slot_of (origin_after s earlier) 0)
 through_late s [] story u le = ap (table None s story) (let e : u ≡ u - 0 = omega arith in e)
-through_late s (r ∷ earlier) story u le =
-    let o = origin_after s (r ∷ earlier) in
-    ap (λ b. if b then table_through s earlier (said r.contents) u else table o s story (u - slot_of o 0)) (le-ltb u (slot_of o 0) le)
+through_late s (r ∷ earlier) story u le = grind (arith, le-ltb)
 
 -- stories that begin alike have the same tables there
 table_alike : (o : Origin) (s : Settings) (one other : Story) (n t : ℕ) → ((u : ℕ) → u < n → one u ≡ other u) → t < n → table o s one t ≡ table o s other t
-table_alike o s one other n t same less =
-    let past = same_history o s one other t (λ u l. same u (omega (arith, l, less))) in
-    let now = same t less in
-    grind (arith, past, now)
+table_alike o s one other n t same less = grind (arith, same_history)
 
 through_alike : (s : Settings) (earlier : List Past) (one other : Story) (n u : ℕ) → ((k : ℕ) → k < n → one k ≡ other k) → u < slot_of (origin_after s earlier) n → table_through s earlier one u ≡ table_through s earlier other u
 through_alike s [] one other n u same less = table_alike None s one other n u same less

@@ -24,13 +24,7 @@ lesser_part f g (x ∷ xs) less =
 -- parts that are no more than those of two other sums
 parts_within : {A : Type 0} (f g h : A → ℕ) → ((x : A) → f x ≤ g x + h x) → (xs : List A) → sum_by f xs ≤ sum_by g xs + sum_by h xs
 parts_within f g h each [] = omega arith
-parts_within f g h each (x ∷ xs) =
-    let here = each x in
-    let rest = parts_within f g h each xs in
-    let a = sum_by-cons f x xs in
-    let b = sum_by-cons g x xs in
-    let c = sum_by-cons h x xs in
-    omega arith
+parts_within f g h each (x ∷ xs) = grind (arith, parts_within f g h each xs, sum_by-cons)
 
 -- ---- the rows of one slot
 

@@ -20,17 +20,11 @@ use Rattle.pfair_in_time.proofs.ThroughRuns.{exactly}
 
 filter_same : {A : Type 0} (p q : A → Bool) (xs : List A) → ((x : A) → Among xs x → p x ≡ q x) → filter p xs ≡ filter q xs
 filter_same p q [] same = refl
-filter_same p q (x ∷ xs) same =
-    ap (λ l. cond (p x) (x ∷ l) l) (filter_same p q xs (λ y h. same y (inr h)))
-    ∙ ap (λ b. cond b (x ∷ filter q xs) (filter q xs)) (same x (inl refl))
+filter_same p q (x ∷ xs) same = grind (arith, filter_same p q xs)
 
 find_mapped : {A : Type 0} (p : A → Bool) (f : A → A) → ((x : A) → p (f x) ≡ p x) → (xs : List A) → find p (map f xs) ≡ option_map f (find p xs)
 find_mapped p f same [] = refl
-find_mapped p f same (x ∷ xs) = ap (λ b. cond b (Some (f x)) (find p (map f xs))) (same x) ∙ choose (p x) (find_mapped p f same xs)
-  where
-    choose : (b : Bool) → find p (map f xs) ≡ option_map f (find p xs) → cond b (Some (f x)) (find p (map f xs)) ≡ option_map f (cond b (Some x) (find p xs))
-    choose true rest = refl
-    choose false rest = rest
+find_mapped p f same (x ∷ xs) = grind (arith, find_mapped p f same xs)
 
 any_mapped : {A : Type 0} (p : A → Bool) (f : A → A) → ((x : A) → p (f x) ≡ p x) → (xs : List A) → list_any p (map f xs) ≡ list_any p xs
 any_mapped p f same [] = refl

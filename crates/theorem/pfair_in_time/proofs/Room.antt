@@ -5,12 +5,7 @@ use Rattle.pfair_admission.specs.Laws.{HaveRoom}
 
 pub sum_same : {A : Type 0} (f : A → ℕ) (h : Member → A) (g : Member → ℕ) (ms : List Member) → ((m : Member) → Among ms m → f (h m) ≡ g m) → sum_by f (map h ms) ≡ sum_by g ms
 sum_same f h g [] same = refl
-sum_same f h g (m ∷ ms) same =
-    let one = sum_by-cons f (h m) (map h ms) in
-    let other = sum_by-cons g m ms in
-    let first = same m (inl refl) in
-    let rest = sum_same f h g ms (λ n i. same n (inr i)) in
-    omega arith
+sum_same f h g (m ∷ ms) same = grind (arith, sum_same f h g ms, sum_by-cons)
 
 pub room_world : (s : Settings) (x : Story) (t : ℕ) → HaveRoom (machine s) (world None s x t)
 room_world s x zero = room_boundary (machine s) 0 [] (announcements (x 0)) (omega arith)

@@ -60,10 +60,7 @@ module _ (k : Machine) where
 
   fits_admitted : (ms : List Member) (a : Arrival) → member_named ms a.name ≡ None → k.frame % a.weight.period ≡ 0 → claimed k.frame ms + units_of a.weight k.frame ≤ k.processors * k.frame
       → arrival k ms a.name a.weight ≡ Admitted
-  fits_admitted ms a free divides room =
-      ap (λ b. if b then Refused NameTaken else if not (k.frame % a.weight.period == 0) then Refused PeriodOutsideFrame else if nat_lt (k.processors * k.frame) (claimed k.frame ms + units_of a.weight k.frame) then Refused NoRoom else Admitted) (ap is_some free)
-      ∙ ap (λ b. if not b then Refused PeriodOutsideFrame else if nat_lt (k.processors * k.frame) (claimed k.frame ms + units_of a.weight k.frame) then Refused NoRoom else Admitted) (eq-eqb (k.frame % a.weight.period) 0 divides)
-      ∙ ap (λ b. if b then Refused NoRoom else Admitted) (le-ltb (k.processors * k.frame) (claimed k.frame ms + units_of a.weight k.frame) room)
+  fits_admitted ms a free divides room = grind (arith, eq-eqb, le-ltb)
 
   -- it is there after it was admitted
   admitted_joins : (ms : List Member) (a : Arrival) → NoneLeaves ms → arrival k ms a.name a.weight ≡ Admitted → decided k 0 ms (announced a) ≡ ms ++ joins a ∷ []
@@ -119,9 +116,7 @@ unpaired (x ∷ said) (d ∷ ds) long all = (all.0, unpaired said ds (omega arit
 
 -- such arrivals are all that has to have weights
 pub says_weights : (x : Replica) (arrivals : List Arrival) → SaysOnly x arrivals → AllByRecursion (λ (a : Arrival). IsWeight a.weight.cost a.weight.period) arrivals → HaveWeights (said x)
-says_weights x arrivals says weights zero a h =
-    let p = among_map announced arrivals a (subst (λ l. Among l a) says.first h) in
-    subst IsWeighed (sym p.2) (among_all (λ (b : Arrival). IsWeight b.weight.cost b.weight.period) arrivals weights p.0 p.1)
+says_weights x arrivals says weights zero a h = grind (arith, among_map, among_all)
 says_weights x arrivals says weights (suc t) a h = absurd (subst (λ l. Among (announcements l) a) (says.later (suc t) (omega arith)) h)
 
 -- all that arrivals leave are members that have just joined
@@ -130,14 +125,7 @@ IsFirst m = m ≡ newcomer 0 m.name m.weight m.early
 
 firsts : (mc : Machine) (arrivals : List Arrival) (ms : List Member) → ((m : Member) → Among ms m → IsFirst m) → (m : Member) → Among (all_decided mc 0 ms (map announced arrivals)) m → IsFirst m
 firsts mc [] ms all m h = all m h
-firsts mc (a ∷ more) ms all m h = firsts mc more (decided mc 0 ms (announced a))
-    (λ n among. one (arrival mc ms a.name a.weight) n (among_filter (λ (l : Member). not (is_freed 0 l.freed_at)) (effect 0 ms (announced a) (arrival mc ms a.name a.weight)) n among).0) m h
-  where
-    one : (d : Decision) (n : Member) → Among (effect 0 ms (announced a) d) n → IsFirst n
-    one Admitted n among = ⊎_elim (λ l. all n l) (λ r. ⊎_elim (λ e. subst IsFirst (sym e) refl) (λ no. absurd no) r) (among_append ms (joins a ∷ []) n among)
-    one (Departing slot) n among = all n among
-    one Delayed n among = all n among
-    one (Refused refusal) n among = all n among
+firsts mc (a ∷ more) ms all m h = grind (arith, firsts mc more (decided mc 0 ms (announced a)), among_filter, among_append)
 
 module _ (s : Settings) (x : Replica) (arrivals : List Arrival) (says : SaysOnly x arrivals) where
   pub is_first : (m : Member) → Among (world None s (said x) 0) m → IsFirst m

@@ -71,12 +71,7 @@ chosen_runs s x t m h = any_from_among (λ (r : Pick). name_eq m.name r.name) (t
 
 -- one table more
 pub next_more : (s : Settings) (x : Story) (t : ℕ) (m : Member) → m.joined ≤ t → next_index (tables_before s x (suc t)) m ≡ next_index (tables_before s x t) m + cond (runs s x t m) 1 0
-next_more s x t m joined =
-    let long = long_history None s x t in
-    let more : quanta (tables_before s x (suc t)) m ≡ quanta (tables_before s x t) m + cond (runs s x t m) 1 0 =
-    ap (count_by (names_task m.name)) (drop-append-le m.joined (tables_before s x t) (table None s x t ∷ []) (omega arith))
-    ∙ sum_by_push (λ ts. cond (names_task m.name ts) 1 0) (drop m.joined (tables_before s x t)) (table None s x t) in
-    omega arith
+next_more s x t m joined = grind (arith, long_history, drop-append-le, sum_by_push)
 
 -- who joins has had no quantum
 pub next_new : (s : Settings) (x : Story) (t : ℕ) (m : Member) → m.joined ≡ t → next_index (tables_before s x t) m ≡ 1
@@ -97,26 +92,11 @@ on_next s x t m here = let more = next_more s x t m here.by_now in let was = her
 
 -- who is departing doesn't run
 pub departing_rests : (s : Settings) (x : Story) (t : ℕ) (m : Member) → Among (world None s x t) m → is_departing m ≡ true → runs s x t m ≡ false
-departing_rests s x t m h d = ⊎_elim
-    (λ named. absurd (
-    let p = and_parts (not (is_departing m)) (nat_le (eligible_from m m.next) t) (runs_chosen s x t m h named).0 in
-    true≢false (sym d ∙ not-true (is_departing m) p.0)))
-    (λ e. e)
-    (cases_Bool (runs s x t m))
+departing_rests s x t m h d = grind (arith, and_parts, runs_chosen, not-true, cases_Bool)
 
 module _ (s : Settings) (x : Story) (weights : HaveWeights x) where
   on_sound : (t : ℕ) (m : Member) → Among (world None s x t) m → IsHere s x t m → IsSound s.frame (on s x t m)
-  on_sound t m h here = record { weight = here.sound.weight; period = here.sound.period; claim = λ slot e. kept slot e (here.sound.claim slot e) }
-    where
-      still : (slot : ℕ) → m.freed_at ≡ Some slot → (on s x t m).next ≡ m.next
-      still slot e =
-          let rests : cond {A = ℕ} (runs s x t m) 1 0 ≡ 0 = ap (λ b. cond {A = ℕ} b 1 0) (departing_rests s x t m h (ap is_some e)) in
-          let more = on_next s x t m here in
-          omega arith
-
-      kept : (slot : ℕ) → m.freed_at ≡ Some slot → (m.next ≡ 1) ⊎ (busy_until m (m.next - 1) ≤ slot) → ((on s x t m).next ≡ 1) ⊎ (busy_until m ((on s x t m).next - 1) ≤ slot)
-      kept slot e (inl first) = inl (still slot e ∙ first)
-      kept slot e (inr busy) = inr (subst (λ n. busy_until m (n - 1) ≤ slot) (sym (still slot e)) busy)
+  on_sound t m h here = grind (arith, departing_rests, on_next)
 
   all_on_sound : (t : ℕ) → ((m : Member) → Among (world None s x t) m → IsHere s x t m) → AllSound s.frame (counted (tables_before s x (suc t)) (world None s x t))
   all_on_sound t here n h =
