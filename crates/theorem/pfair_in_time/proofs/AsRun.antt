@@ -34,13 +34,7 @@ pub find_task : (a : Task) (ms : List Member) → ((m : Member) × (find (is_tas
 find_task a [] = inr (refl, λ m h e. h)
 find_task a (m ∷ ms) = elim (cases_Bool (is_task a m)) [
   | inl is ↦ inl (m, ap (λ b. cond b (Some m) (find (is_task a) ms)) is, inl refl, (task_exact (task_of m) a).0 is)
-  | inr not_it ↦ elim (find_task a ms) [
-    | inl p ↦ inl (p.0, ap (λ b. cond b (Some m) (find (is_task a) ms)) not_it ∙ p.1, inr p.2, p.3)
-    | inr none ↦ inr (
-      ap (λ b. cond b (Some m) (find (is_task a) ms)) not_it ∙ none.0,
-      λ n h e. ⊎_elim (λ here. true≢false (sym ((task_exact (task_of m) a).1 (sym (ap task_of here) ∙ e)) ∙ not_it)) (λ rest. none.1 n rest e) h,
-    )
-  ]
+  | inr not_it ↦ grind (arith, find_task a ms, here, task_exact)
 ]
 
 -- the task as it is in the last slot below n that has it
@@ -89,8 +83,7 @@ row_is s x t m h = ap (λ (o : Option Member). record { task = record { name = m
 pub row_member : (s : Settings) (x : Story) (n t : ℕ) (z : Subtask) → is_row (as_run s x n) t z ≡ true → (m : Member) × Among (world None s x t) m × (runs s x t m ≡ true) × (z ≡ subtask_of m)
 row_member s x n t z row =
     let p = among_map (row_of (world None s x t)) (keys_at s x t) z (among_test same_subtask subtask_exact (map (row_of (world None s x t)) (keys_at s x t)) z row) in
-    let q = chosen_member s t (world None s x t) (named_world s x t) p.0 p.1 in
-    (q.0, q.1, chosen_runs s x t q.0 (subst (λ k. Among (keys_at s x t) k) q.3 p.1), p.2 ∙ ap (row_of (world None s x t)) q.3 ∙ row_is s x t q.0 q.1)
+    grind (arith, chosen_member, named_world, chosen_runs, row_is)
 
 pub member_row : (s : Settings) (x : Story) (n t : ℕ) (m : Member) → Among (world None s x t) m → runs s x t m ≡ true → is_row (as_run s x n) t (subtask_of m) ≡ true
 member_row s x n t m h named =
@@ -123,10 +116,7 @@ module _ (s : Settings) (x : Story) (weights : HaveWeights x) where
       omega arith,
       line_of s x weights n u m p.0 h p.2 (omega arith) (ap (λ (a : Task). a.name) p.3) (ap (λ (a : Task). a.joined) p.3),
     )
-    | inr none ↦ elim (cases_eq u n) [
-      | inl now ↦ absurd (none.1 m (subst (λ k. Among (world None s x k) m) now h) refl)
-      | inr other ↦ (let p = last_line n u m h (omega (arith, other)) in (p.0, p.1, ap (λ o. or_else o (last_of s x n (task_of m))) none.0 ∙ p.2, p.3, p.4, p.5))
-    ]
+    | inr none ↦ grind (arith, last_line n u m h, cases_eq)
   ]
 
   -- the weight, and the offsets that don't change any more, are those that stand in the end
@@ -146,10 +136,7 @@ module _ (s : Settings) (x : Story) (weights : HaveWeights x) where
         weight = ap weight_in e ∙ line.weight;
         rises = λ i. (let at = offset i in let up = line.rises i in omega arith);
         stays = λ i frozen. offset i ∙ line.stays i frozen;
-        stays_run = λ i named low. offset i ∙ (elim (cases_eq u v) [
-          | inl now ↦ (let same = same_member s x u l m (subst (λ k. Among (world None s x k) l) (sym now) there) h line.name in ap (λ (k : Member). theta k i) same)
-          | inr other ↦ line.stays_run i (omega (arith, other)) named low
-        ]);
+        stays_run = λ i named low. grind (arith, cases_eq, same_member);
       }
         where
           offset : (i : ℕ) → (as_run s x n).offset (task_of m) i ≡ theta l i
@@ -164,10 +151,7 @@ module _ (s : Settings) (x : Story) (weights : HaveWeights x) where
   pub all_before_ran : (n t : ℕ) (m : Member) (i : ℕ) → Among (world None s x t) m → 1 ≤ i → i < m.next → has_run (as_run s x n) (record { task = task_of m; index = i }) t ≡ true
   all_before_ran n zero m i h first less = absurd (
       let at = here s x weights 0 m h in
-      let joined = at.by_now in
-      let next = at.next in
-      let new = next_new s x 0 m (omega arith) in
-      omega arith)
+      grind (arith, next_new))
   all_before_ran n (suc t) m i h first less =
       elim (came_from s x weights t m h) [
         | inr new ↦ absurd (let one = new.next in omega arith)
@@ -199,5 +183,4 @@ module _ (s : Settings) (x : Story) (weights : HaveWeights x) where
       let joined = ap (λ (z : Subtask). z.task.joined) q.3 in
       let index : i ≡ q.0.next = ap (λ (z : Subtask). z.index) q.3 in
       let line = line_of s x weights t p.0 q.0 m q.1 h (omega arith) name joined in
-      let up = line.ran p.1 q.2 in
-      omega arith
+      grind arith

@@ -26,14 +26,7 @@ freeing_descends : (t : ℕ) (m : Member) → is_departing m ≡ false → (slot
 freeing_descends t m active slot = record { name = refl; weight = refl; early = refl; joined = refl; next = refl; rises = λ i. omega arith; stays = λ i _. refl; departing = λ d. absurd (true≢false (sym d ∙ active)) }
 
 freeing_sound : (frame t : ℕ) (m : Member) (slot : ℕ) → slot ≡ freeing_slot m t → IsSound frame m → IsSound frame (with_freeing slot m)
-freeing_sound frame t m slot is s = record {
-  weight = s.weight;
-  period = s.period;
-  claim = λ f e. elim (cases_eq m.next 1) [
-    | inl first ↦ inl first
-    | inr ran ↦ inr (let from = freed_from_claim m t ran in let same = same_Some slot f e in omega arith)
-  ];
-}
+freeing_sound frame t m slot is s = grind (arith, cases_eq, freed_from_claim, same_Some)
 
 -- releases rise with the index
 release_rises : (m : Member) (i j : ℕ) → 0 < m.weight.cost → i ≤ j → release_of m.weight i (theta m i) ≤ release_of m.weight j (theta m j)
@@ -41,16 +34,7 @@ release_rises m i j some le = grind (arith, theta_rises, mul-le, le_refl, of_rel
 
 -- the late release of one that isn't departing, of a subtask that is to come
 delay_descends : (t index by : ℕ) (m : Member) → 0 < m.weight.cost → is_departing m ≡ false → t ≤ release_of m.weight index (theta m index) → m.next ≤ index → Descends t m (with_delay index by m)
-delay_descends t index by m some active released to_come = record {
-  name = refl;
-  weight = refl;
-  early = refl;
-  joined = refl;
-  next = refl;
-  rises = λ i. grind (arith, cases_lt i index, theta_earlier, theta_later);
-  stays = λ i h. theta_earlier m index by i (below i h);
-  departing = λ d. absurd (true≢false (sym d ∙ active));
-}
+delay_descends t index by m some active released to_come = grind (arith, cases_lt, theta_earlier, theta_later, below)
   where
     below : (i : ℕ) → (i < m.next) ⊎ (release_of m.weight i (theta m i) < t) → i < index
     below i (inl ran) = omega arith
@@ -126,8 +110,7 @@ effect_step machine t ms a apart sound weight =
     (λ name index by is late. one_changes machine t ms name (with_delay index by) sound (λ m h e.
     (let p = is_late t (member_named ms name) index (ap (decision machine t ms) (sym is) ∙ late) in
     let same : p.0 ≡ m = same_Some p.0 m (sym p.1 ∙ named_is ms name m apart h e) in
-    let active = sym (ap is_departing same) ∙ p.2 in
-    (delay_descends t index by m ((sound m h).weight.some_cost) active (subst (λ (k : Member). t ≤ release_of k.weight index (theta k index)) same p.3) (subst (λ (k : Member). k.next ≤ index) same p.4), delay_sound machine.frame index by m active (sound m h)))))
+    grind (arith, delay_descends, sound, delay_sound))))
 
 -- ---- all decisions
 

@@ -30,9 +30,7 @@ bound_le_claim m i j h le =
       | inr heavy ↦
           let is : busy_until m j ≡ group_deadline_of m.weight j (theta m j) + 1 = ap (λ b. if b then deadline_of m.weight j (theta m j) + b_bit_of m.weight j else group_deadline_of m.weight j (theta m j) + 1) (le-ltb (2 * m.weight.cost) m.weight.period heavy) in
           let up = group_deadline_rises m.weight i j (theta m i) h le in
-          let on = group_moves m.weight j (theta m i) (theta m j) h moved in
-          let late = group_deadline_not_before m.weight i (theta m i) h heavy in
-          omega arith
+          grind (arith, group_moves, group_deadline_not_before)
     ]
 
 -- if a key isn't among the first, these are as many as there may be, and each goes before it
@@ -65,6 +63,4 @@ past_first m keys k once inside out =
         let own = more.at_rank i (get_or (first_by_rank pd2_cmp (suc (rank pd2_cmp keys k)) keys) i k) at in
         let first = by_rank_first keys_total m keys once in
         let there = first.complete (get_or (first_by_rank pd2_cmp (suc (rank pd2_cmp keys k)) keys) i k) own.0 (let r = own.1 in omega arith) in
-        let within = slice_get_within (first_by_rank pd2_cmp m keys) (rank pd2_cmp keys (get_or (first_by_rank pd2_cmp (suc (rank pd2_cmp keys k)) keys) i k)) (get_or (first_by_rank pd2_cmp (suc (rank pd2_cmp keys k)) keys) i k) there in
-        let r = own.1 in
-        omega arith
+        grind (arith, slice_get_within)

@@ -79,9 +79,7 @@ module _ (s : Settings) (x : Story) (frame : 0 < s.frame) (weights : HaveWeights
       let q = row_member s x n t z other in
       let same : subtask_of q.0 ≡ subtask_of p.0 = sym q.3 ∙ p.3 in
       let line = line_of s x weights t u p.0 q.0 p.1 q.1 (omega arith) (ap (λ (y : Subtask). y.task.name) same) (ap (λ (y : Subtask). y.task.joined) same) in
-      let up = line.ran less p.2 in
-      let index : q.0.next ≡ p.0.next = ap (λ (y : Subtask). y.index) same in
-      omega arith
+      grind arith
 
   -- the subtask that a member is at is its next
   pub at_next : (t : ℕ) (m : Member) (i : ℕ) → Among (world None s x t) m → m.next ≡ i → IsNext (as_run s x n) (record { task = task_of m; index = i }) t
@@ -108,18 +106,7 @@ module _ (s : Settings) (x : Story) (frame : 0 < s.frame) (weights : HaveWeights
           gone : (l : Member) → IsGone s x weights u t m l → ⊥
           gone l g =
               let f = final s x weights n u m h less in
-              let up = g.line.ran g.since named in
-              let bound : busy_bound (as_run s x n) z ≡ busy_bound_of l.weight m.next (theta l m.next) =
-              ap (busy_bound (as_run s x n)) e
-              ∙ ap (λ (w : Share). busy_bound_of w m.next ((as_run s x n).offset (task_of m) m.next)) (f.weight ∙ sym g.line.weight)
-              ∙ ap (λ (o : ℕ). busy_bound_of l.weight m.next o) (f.stays_run m.next named (omega arith) ∙ sym (g.line.stays_run m.next g.since named (omega arith))) in
-              let claim = bound_le_claim l m.next (l.next - 1) g.sound.weight (omega arith) in
-              let by_then = g.by_then in
-              let counted = next_counted s x weights u m h in
-              elim (g.sound.claim g.freed_at g.freed) [
-                | inl first ↦ omega arith
-                | inr busy ↦ omega arith
-              ]
+              grind (arith, bound_le_claim, next_counted)
 
   -- ---- the order
 
@@ -138,10 +125,7 @@ module _ (s : Settings) (x : Story) (frame : 0 < s.frame) (weights : HaveWeights
             let ran = all_before_ran s x weights n t m z.index p.1 counted lower in
             let now = ran_more (as_run s x n) (record { task = task_of m; index = z.index }) t (suc t) (omega arith) ran in
             true≢false (sym (subst (λ y. has_run (as_run s x n) y (suc t) ≡ true) (sym (z_at z.index refl)) now) ∙ not_run))
-        | inr (inr higher) ↦ absurd (elim next.follows [
-          | inl one ↦ omega arith
-          | inr ran ↦ none_after_ran s x weights n t m (z.index - 1) p.1 (omega arith) (subst (λ a. has_run (as_run s x n) (record { task = a; index = z.index - 1 }) t ≡ true) (sym p.2) ran)
-        ])
+        | inr (inr higher) ↦ grind (arith, none_after_ran)
       ] in
       let is_it = z_at m.next index in
       let f = final s x weights n t m p.1 less in
@@ -176,11 +160,7 @@ module _ (s : Settings) (x : Story) (frame : 0 < s.frame) (weights : HaveWeights
     offsets_start = λ a i _. (fit a).starts i;
     offsets_rise = λ a i _. (fit a).rises i;
     rows_apart = λ t _. rows_apart s x n t;
-    rows_once = λ u t z _ _ one other. elim (cases_order u t) [
-      | inl e ↦ e
-      | inr (inl less) ↦ absurd (not_later u t z less one other)
-      | inr (inr more) ↦ absurd (not_later t u z more other one)
-    ];
+    rows_once = grind (arith, cases_order, not_later);
     rows_follow = λ t z _ row. (let p = row_member s x n t z row in subst (λ y. IsNext (as_run s x n) y t) (sym p.3) (at_next t p.0 p.0.next p.1 refl));
     rows_active = λ t z _ row.
         (let p = row_member s x n t z row in

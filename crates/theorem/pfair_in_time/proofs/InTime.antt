@@ -14,10 +14,7 @@ open_from t m able when = grind (arith, leb-true, and_parts, eligible_not_early,
 
 -- up to the end of slot t a member is the last one of its task
 last_now : (s : Settings) (x : Story) (t : ℕ) (m : Member) → Among (world None s x t) m → last_of s x (suc t) (task_of m) ≡ Some m
-last_now s x t m h = elim (find_task (task_of m) (world None s x t)) [
-  | inl p ↦ ap (λ o. or_else o (last_of s x t (task_of m))) p.1 ∙ ap Some (same_member s x t p.0 m p.2 h (ap (λ (a : Task). a.name) p.3))
-  | inr none ↦ absurd (none.1 m h refl)
-]
+last_now s x t m h = grind (arith, find_task, same_member)
 
 -- so its deadlines in the run are its own
 own_deadline : (s : Settings) (x : Story) (t : ℕ) (m : Member) (i : ℕ) → Among (world None s x t) m → deadline (as_run s x (suc t)) (record { task = task_of m; index = i }) ≡ deadline_of m.weight i (theta m i)
@@ -36,13 +33,7 @@ module _ (s : Settings) (x : Story) (frame : 0 < s.frame) (weights : HaveWeights
               let c : cond {A = ℕ} (runs s x t m) 1 0 ≡ 1 = ap (λ b. cond {A = ℕ} b 1 0) named in
               let index : m.next ≡ index_after s x t m - 1 = omega arith in
               inr (subst (λ i. has_run (as_run s x (suc t)) (record { task = task_of m; index = i }) (suc t) ≡ true) index (ran_by (as_run s x (suc t)) (subtask_of m) t (suc t) (omega arith) (member_row s x (suc t) t m h named)))
-          | inr rests ↦
-              let c : cond {A = ℕ} (runs s x t m) 1 0 ≡ 0 = ap (λ b. cond {A = ℕ} b 1 0) rests in
-              elim (cases_eq (index_after s x t m) 1) [
-                | inl first ↦ inl first
-                | inr other ↦ inr (ran_more (as_run s x (suc t)) (record { task = task_of m; index = index_after s x t m - 1 }) t (suc t) (omega arith)
-                    (all_before_ran s x weights (suc t) t m (index_after s x t m - 1) h (omega (arith, other)) (omega (arith, other))))
-              ]
+          | inr rests ↦ grind (arith, cases_eq, ran_more, all_before_ran)
         ];
       }
 
@@ -59,11 +50,7 @@ module _ (s : Settings) (x : Story) (frame : 0 < s.frame) (weights : HaveWeights
           | inr now ↦
               let at : p.0 ≡ t = omega arith in
               let q = row_member s x (suc t) t (record { task = task_of m; index = index_after s x t m }) (subst (λ u. is_row (as_run s x (suc t)) u (record { task = task_of m; index = index_after s x t m }) ≡ true) at p.2) in
-              let same : m ≡ q.0 = same_member s x t m q.0 h q.1 (ap (λ (z : Subtask). z.task.name) q.3) in
-              let named : runs s x t m ≡ true = ap (runs s x t) same ∙ q.2 in
-              let c : cond {A = ℕ} (runs s x t m) 1 0 ≡ 1 = ap (λ b. cond {A = ℕ} b 1 0) named in
-              let index : index_after s x t m ≡ m.next = ap (λ (z : Subtask). z.index) q.3 ∙ ap (λ (l : Member). l.next) (sym same) in
-              omega arith
+              grind (arith, same_member)
         ])
   ]
 
@@ -77,5 +64,4 @@ module _ (s : Settings) (x : Story) (frame : 0 < s.frame) (weights : HaveWeights
   pub in_time : (t : ℕ) (m : Member) → Among (world None s x t) m → runs s x t m ≡ true → t < deadline_of m.weight m.next (theta m m.next)
   in_time t m h named =
       let early = beginning_in_time (as_run s x (suc t)) (suc t) t (subtask_of m) (is_run s x frame weights (suc t)) (omega arith) (member_row s x (suc t) t m h named) in
-      let own = own_deadline s x t m m.next h in
-      omega arith
+      grind (arith, own_deadline)

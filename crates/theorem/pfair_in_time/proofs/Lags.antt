@@ -28,9 +28,7 @@ module _ (s : Settings) (x : Story) (weights : HaveWeights x) (t : ℕ) (m : Mem
       let all = all_counted (λ slot. nat_lt slot (slots_since t m)) (slots_of s x t m) (all_among (λ slot. nat_lt slot (slots_since t m) ≡ true) (slots_of s x t m) (λ k among. lt-ltb k (slots_since t m) (among_below (slots_since t m) k (among_filter (runs_at s x m) (numbers_below (slots_since t m)) k among).0))) in
       let ran = quanta_passing s x m (slots_since t m) in
       let now : m.joined + slots_since t m ≡ suc t = omega arith in
-      let same = ap (λ u. quanta (tables_before s x u) m) now in
-      let quanta_are : quanta_before (slots_of s x t m) (slots_since t m) ≡ 1 + quanta (tables_before s x (suc t)) m - 1 = omega arith in
-      ap (λ n. pos (m.weight.cost * (suc t - m.joined)) -ℤ pos (m.weight.period * n)) quanta_are
+      grind (arith, pos)
 
   first_within : LagsKeepWindows → LagsKeepDeadlines → 0 < s.frame → is_departing m ≡ false → IsUndelayed m → IsWithinOne (suc t) (on s x t m)
   first_within by_windows by_deadlines frame active undelayed =
@@ -55,13 +53,7 @@ lags_stay_within_one by_windows by_deadlines earlier s x run t m among active un
     let later = has.later in
     let before = among_map (on s long (slot_of o t)) (world None s long (slot_of o t)) has.long has.among in
     let still = subst IsUndelayed before.2 (long_undelayed (suc (slot_of o t)) has.jobs has.long m later (no_offset_all m undelayed)) in
-    let staying = ap (λ (n : Member). is_departing n) (sym before.2) ∙ ap is_some (sym later.freed) ∙ active in
-    let first = subst (IsWithinOne (suc (slot_of o t))) (sym before.2) (first_within s long (weights earlier s x run t) (slot_of o t) before.0 before.1 by_windows by_deadlines run.frame staying still) in
-    let lag = later.lag (suc (slot_of o t)) (le_refl (suc (slot_of o t))) in
-    record {
-      below = subst (λ (q : ℤ × Share). q.0 <ℤ pos q.1.period) (λ i. (sym lag i, sym later.weight i)) first.below;
-      above = λ early. subst (λ (q : ℤ × Share). neg_ℤ (pos q.1.period) <ℤ q.0) (λ i. (sym lag i, sym later.weight i)) (first.above (sym later.early ∙ early));
-    }
+    grind (arith, first_within, weights, le_refl, pos, neg_ℤ)
 
 -- ---- in books
 
@@ -74,6 +66,4 @@ books_show_lags earlier s x run t =
     let is = begun_after s earlier run.replicas in
     let joined = each (HasBegun (slot_of o 0)) (HasJoined (slot_of o 0)) (begun_joined (slot_of o 0)) (members_before o) is.begun in
     let after = after_all o s (said x) is.named joined (first_book o) (begins_after o s (said x) is.named joined) t in
-    ap (λ (b : Book). map lag_shown b.entered) (over_slots o s (said x) is.named joined (first_book o) t)
-    ∙ ap (map lag_shown) after.entered_is
-    ∙ map-map lag_shown (shown (slot_of o t)) (filter is_staying (history o s (said x) t).members)
+    grind (arith, over_slots, map-map)

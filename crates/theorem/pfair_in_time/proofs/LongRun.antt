@@ -90,15 +90,7 @@ later_on slot j k l m n a b = record {
   joined = (let was = a.joined in let is = b.joined in let more = ap (λ (w : Share). k * w.period) a.weight in omega (arith, was, is, more));
   by_now = b.by_now;
   next = (let was = a.next in let is = b.next in let more = ap (λ (w : Share). k * w.cost) a.weight in omega (arith, was, is, more));
-  offsets = λ i first reaches.
-      (let cost = ap (λ (w : Share). k * w.cost) a.weight in
-      let period = ap (λ (w : Share). k * w.period) a.weight in
-      let next = b.next in
-      let near = b.offsets i first reaches in
-      let far = a.offsets (i + k * m.weight.cost) (omega (arith, first)) (omega (arith, reaches, next)) in
-      let index : i + k * m.weight.cost + j * l.weight.cost ≡ i + (j + k) * l.weight.cost = omega (arith, cost) in
-      let same = ap (theta l) index in
-      omega (arith, near, far, same, period));
+  offsets = grind arith;
   lag = λ time now. b.lag time now ∙ a.lag time now;
   key = b.key ∙ a.key;
 }
@@ -184,9 +176,7 @@ through_alike s [] one other n u same less = table_alike None s one other n u sa
 through_alike s (r ∷ earlier) one other n u same less =
     let o = origin_after s (r ∷ earlier) in
     elim (cases_lt u (slot_of o 0)) [
-      | inl before ↦
-          let test = lt-ltb u (slot_of o 0) before in
-          ap (λ b. if b then table_through s earlier (said r.contents) u else table o s one (u - slot_of o 0)) test ∙ sym (ap (λ b. if b then table_through s earlier (said r.contents) u else table o s other (u - slot_of o 0)) test)
+      | inl before ↦ grind (arith, lt-ltb)
       | inr late ↦
           through_late s (r ∷ earlier) one u late ∙ table_alike o s one other n (u - slot_of o 0) same (omega (arith, less, late)) ∙ sym (through_late s (r ∷ earlier) other u late)
     ]
@@ -219,8 +209,7 @@ by_names name (p ∷ rows) = ap (λ b. name_eq name p.name || b) (by_names name 
 
 -- a task runs in a slot of all runs if it does so in the long run
 pub runs_long : (s : Settings) (earlier : List Past) (story : Story) → AreReplicas earlier → IsWeighedStory story → (name : Name) (u : ℕ) → names_task name (table_through s earlier story u) ≡ names_task name (table None s (long_story s earlier story) u)
-runs_long s earlier story h weights name u =
-    by_names name (table_through s earlier story u) ∙ ap (λ ns. list_any (λ n. name_eq name n) ns) (names_long s earlier story h weights u) ∙ sym (by_names name (table None s (long_story s earlier story) u))
+runs_long s earlier story h weights name u = grind (arith, by_names, name, names_long)
 
 pub runs_in_long : (s : Settings) (earlier : List Past) (story : Story) → AreReplicas earlier → IsWeighedStory story → (name : Name) (t : ℕ) → names_task name (table (origin_after s earlier) s story t) ≡ names_task name (table None s (long_story s earlier story) (slot_of (origin_after s earlier) t))
 runs_in_long s earlier story h weights name t =

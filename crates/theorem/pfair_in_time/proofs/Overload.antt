@@ -36,10 +36,7 @@ named_within : (arrivals : List Arrival) → NamesApart (λ (a : Arrival). a.nam
 named_within arrivals apart rows =
     let named = filter (λ (a : Arrival). names_task a.name rows) arrivals in
     let most = length-le_from_is_member nat_list_eq_equiv (map (λ (a : Arrival). a.name) named) (names_of rows) (apart_filter (λ (a : Arrival). a.name) (λ a. names_task a.name rows) arrivals apart) has in
-    let all = length-filter (λ (a : Arrival). names_task a.name rows) arrivals in
-    let names = length-map named (λ (a : Arrival). a.name) in
-    let long = length-map rows (λ (r : Pick). r.name) in
-    omega arith
+    grind (arith, length-filter, length-map)
   where
     has : (q : List ℕ) → list_any (name_eq q) (map (λ (a : Arrival). a.name) (filter (λ (a : Arrival). names_task a.name rows) arrivals)) ≡ true → list_any (name_eq q) (names_of rows) ≡ true
     has q h =
@@ -61,9 +58,7 @@ all_within processors tables arrivals apart (suc n) few =
     let split = parts_within (λ (a : Arrival). quanta_before tables a.name (suc n)) (λ (a : Arrival). quanta_before tables a.name n) (is_named_in (tables n))
     (λ a. (let more = quanta_more tables a.name n in omega arith)) arrivals in
     let slot = named_within arrivals apart (tables n) in
-    let rows = few n (omega arith) in
-    let product = mul-suc processors n in
-    omega arith
+    grind (arith, mul-suc)
 
 -- ---- what is due by the end of the frame
 

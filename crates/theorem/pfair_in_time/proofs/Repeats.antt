@@ -45,9 +45,7 @@ stands name w early i = record (newcomer 0 name w early) { next = i }
 module _ (name : List ℕ) (w : Share) (early : Bool) (i k : ℕ) (h : IsWeight w.cost w.period) (first : 1 ≤ i) where
   -- k jobs later it is eligible k periods later
   eligible_repeats : (t : ℕ) → is_eligible (t + k * w.period) (stands name w early (i + k * w.cost)) ≡ is_eligible t (stands name w early i)
-  eligible_repeats t =
-      ap (λ b. nat_le (if not early || (b || false) then release_of w (i + k * w.cost) 0 else 0) (t + k * w.period)) (starts_job_repeats w i k first)
-      ∙ choose (not early || (starts_job_of w i || false))
+  eligible_repeats t = grind (arith, starts_job_repeats, choose)
     where
       choose : (b : Bool) → nat_le (if b then release_of w (i + k * w.cost) 0 else 0) (t + k * w.period) ≡ nat_le (if b then release_of w i 0 else 0) t
       choose true = ap (λ r. nat_le r (t + k * w.period)) (release_repeats w i k 0 h.some_cost first) ∙ le_later (release_of w i 0) t (k * w.period)
@@ -88,11 +86,7 @@ module _ (s : Settings) (x : Replica) (arrivals : List Arrival) (frame : 0 < s.f
       jobs = h / m.weight.period
 
       all_jobs : jobs * m.weight.period ≡ h
-      all_jobs =
-          let rest = mod-eq-sub-div-mul h m.weight.period in
-          let low = div-mul-le_self h m.weight.period in
-          let none = common m among in
-          omega arith
+      all_jobs = grind (arith, mod-eq-sub-div-mul, div-mul-le_self)
 
       units_are : units_of m.weight h ≡ jobs * m.weight.cost
       units_are = mul_comm m.weight.cost jobs
@@ -106,8 +100,7 @@ module _ (s : Settings) (x : Replica) (arrivals : List Arrival) (frame : 0 < s.f
           let joined = joined_first m among in
           let exact = exactly s (said x) frame weights h jobs l (member_at s x arrivals says h m among) (ap is_departing (is_first s x arrivals says m among)) (no_offset_all l (ap (λ (n : Member). n.delays) (is_first s x arrivals says m among))) 1 (omega arith) in
           let ran = quanta_passing s (said x) l (jobs * m.weight.period) in
-          let same = ap (λ t. quanta (tables_before s (said x) t) m) (let at : m.joined + jobs * m.weight.period ≡ h = omega arith in at) in
-          omega arith
+          grind arith
 
     -- the index of the next subtask is by so much greater
     abbrev IsAhead : ℕ → Type 0
@@ -163,10 +156,7 @@ module _ (s : Settings) (x : Replica) (arrivals : List Arrival) (frame : 0 < s.f
           each (Some m) = refl
 
           index : index_of (member_named (map then_ (world None s (said x) 0)) k.name) ≡ index_of (member_named (map now (world None s (said x) 0)) k.name) + quanta_in h (member_named (world None s (said x) 0) k.name)
-          index =
-              ap index_of (find_mapped (is_named k.name) then_ (λ m. refl) (world None s (said x) 0))
-              ∙ each (member_named (world None s (said x) 0) k.name)
-              ∙ ap (λ o. index_of o + quanta_in h (member_named (world None s (said x) 0) k.name)) (sym (find_mapped (is_named k.name) now (λ m. refl) (world None s (said x) 0)))
+          index = grind (arith, find_mapped)
 
       repeats_if : table None s (said x) (t + h) ≡ map (later_row h (world None s (said x) 0)) (table None s (said x) t)
       repeats_if =
@@ -183,9 +173,7 @@ module _ (s : Settings) (x : Replica) (arrivals : List Arrival) (frame : 0 < s.f
     ahead_at zero m among =
         let new = next_new s (said x) 0 m (joined_first m among) in
         let had = quanta_are m among in
-        let at : 0 + h ≡ h = omega arith in
-        let same = ap (λ n. next_index (tables_before s (said x) n) m) at in
-        omega arith
+        grind arith
     ahead_at (suc t) m among =
         let before = ahead_at t m among in
         let joined = joined_first m among in
@@ -214,8 +202,4 @@ repeats_by_periods s x arrivals h frame says are common t =
     times q p k whole = (let spread : q * h ≡ q * (k * p) = ap (λ n. q * n) (sym whole) in ap (λ n. n % p) (spread ∙ (omega arith)) ∙ mul-mod_left (q * k) p)
 
     multiple : IsCommonMultiple (t / h * h) (world None s (said x) 0)
-    multiple m among = times (t / h) m.weight.period (h / m.weight.period) (
-        let rest = mod-eq-sub-div-mul h m.weight.period in
-        let low = div-mul-le_self h m.weight.period in
-        let none_left = common m among in
-        omega arith)
+    multiple m among = grind (arith, times, mod-eq-sub-div-mul, div-mul-le_self)

@@ -43,10 +43,7 @@ unnamed name [] none = refl
 unnamed name (m ∷ ms) none = ap (λ b. cond b (Some m) (find (is_named name) ms)) (none m (inl refl)) ∙ unnamed name ms (λ n h. none n (inr h))
 
 others_on : (ms : List Member) (a : Arrival) (more : List Arrival) → NamesApart (λ (b : Arrival). b.name) (a ∷ more) → AreOthers ms (a ∷ more) → AreOthers (ms ++ joins a ∷ []) more
-others_on ms a more apart others b h m among = ⊎_elim
-    (λ l. others b (inr h) m l)
-    (λ r. ⊎_elim (λ e. ap (is_named b.name) e ∙ differ) (λ none_left. absurd none_left) r)
-    (among_append ms (joins a ∷ []) m among)
+others_on ms a more apart others b h m among = grind (arith, differ, among_append)
   where
     differ : name_eq b.name a.name ≡ false
     differ = elim (cases_Bool (name_eq b.name a.name)) [
@@ -91,11 +88,7 @@ module _ (k : Machine) where
   all_fit ms [] none room all = omega arith
   all_fit ms (a ∷ more) none room all =
       let sum = sum_by-cons (λ (b : Arrival). units_of b.weight k.frame) a more in
-      let claim = claimed_arrived k.frame 0 ms a.name a.weight a.early in
-      let fits = admitted_room k ms a.name a.weight (sym all.0) in
-      let is = admitted_joins ms a none all.0 in
-      let rest = all_fit (ms ++ joins a ∷ []) more (with_one ms a none) (omega arith) (subst (λ l. AllByRecursion (λ d. d ≡ Admitted) (all_decisions k 0 l (map announced more))) is all.1) in
-      omega arith
+      grind (arith, all_fit (ms ++ joins a ∷ []) more (with_one ms a none), claimed_arrived, admitted_room, admitted_joins, with_one)
 
 -- ---- with what was said
 
@@ -145,9 +138,7 @@ module _ (s : Settings) (x : Replica) (arrivals : List Arrival) (says : SaysOnly
       ∙ all_present (suc t) (counted (tables_before s (said x) (suc t)) (world None s (said x) 0)) none_leaves
     where
       none_leaves : NoneLeaves (counted (tables_before s (said x) (suc t)) (world None s (said x) 0))
-      none_leaves n among =
-          let p = among_map (counted_one (tables_before s (said x) (suc t))) (world None s (said x) 0) n among in
-          ap (λ (l : Member). l.freed_at) p.2 ∙ ap (λ (l : Member). l.freed_at) (is_first p.0 p.1)
+      none_leaves n among = grind (arith, among_map, is_first)
 
   pub member_at : (t : ℕ) (m : Member) → Among (world None s (said x) 0) m → Among (world None s (said x) t) (counted_one (tables_before s (said x) t) m)
   member_at t m among = subst (λ l. Among l (counted_one (tables_before s (said x) t) m)) (sym (world_is t)) (map_among (counted_one (tables_before s (said x) t)) (world None s (said x) 0) m among)
@@ -163,17 +154,13 @@ module _ (s : Settings) (x : Replica) (arrivals : List Arrival) (frame : 0 < s.f
   as_many =
       let one = one_each (machine s) 0 [] (map announced arrivals) in
       let same = ap length says.first in
-      let long = length-map (said x 0) (λ (q : Said). q.announcement) in
-      omega arith
+      grind (arith, length-map)
 
   room_admits : units_wanted s.frame arrivals ≤ s.processors * s.frame → AllJoin (machine s) [] arrivals
   room_admits room = all_join (machine s) [] arrivals (λ m none_there. absurd none_there) (λ a h m none_there. absurd none_there) are.names are.periods (omega arith)
 
   admitted : AllByRecursion IsAdmitted (decisions None s (said x) 0) ↔ (units_wanted s.frame arrivals ≤ s.processors * s.frame)
-  admitted = (
-    λ all. (let fit = all_fit (machine s) [] arrivals (λ m none_there. absurd none_there) (omega arith) (unpaired (said x 0) (all_decisions (machine s) 0 [] (map announced arrivals)) as_many (subst (AllByRecursion IsAdmitted) decisions_are all)) in omega arith),
-    λ room. subst (AllByRecursion IsAdmitted) (sym decisions_are) (paired (said x 0) (all_decisions (machine s) 0 [] (map announced arrivals)) (room_admits room).decisions),
-  )
+  admitted = grind (arith, all_fit, unpaired, as_many, decisions_are, paired, room_admits)
 
   -- who is admitted is there in each slot, and has had by then what was due
   all_served : units_wanted s.frame arrivals ≤ s.processors * s.frame → (a : Arrival) → Among arrivals a → (t : ℕ) → IsServed (table None s (said x)) t a

@@ -21,10 +21,7 @@ pub long_undelayed : (slot k : ℕ) (l m : Member) → IsLater slot k l m → Is
 long_undelayed slot k l m later undelayed i =
     let j = max (max 1 m.next) i in
     let far = later.offsets j (omega arith) (omega arith) in
-    let here = undelayed j in
-    let joined = later.joined in
-    let up = theta_rises l i (j + k * l.weight.cost) (omega arith) in
-    omega (arith, far, here, joined, up)
+    grind (arith, here, theta_rises)
 
 module _ (s : Settings) (x : Story) (frame : 0 < s.frame) (weights : HaveWeights x) (t k : ℕ) (l : Member) (among : Among (world None s x t) l) (active : is_departing l ≡ false) (undelayed : IsUndelayed l) where
   some : 0 < l.weight.cost
@@ -55,8 +52,7 @@ module _ (s : Settings) (x : Story) (frame : 0 < s.frame) (weights : HaveWeights
           let index : 1 + ran_in slot ≡ k * l.weight.cost + 1 = (let had = p.before in omega (arith, had)) in
           let from = kept.released (inr (ap (starts_job_of l.weight) index ∙ starts_after_jobs l.weight k)) in
           let released = ap (λ i. release_of l.weight i 0) index ∙ job_released l.weight k 0 some in
-          let below = p.below in
-          omega (arith, from, released, below))
+          grind arith)
     ]
 
     -- and no fewer, since the last one is due where they end
@@ -90,19 +86,14 @@ module _ (s : Settings) (x : Story) (frame : 0 < s.frame) (weights : HaveWeights
           let now = ap ran_in at in
           let long = one_more (runs_at s x l) (before + slots) in
           let short = one_more f slots in
-          let one = ap (λ b. cond {A = ℕ} b 1 0) (same slots) in
-          let was = ran_behind slots in
-          omega (arith, now, long, short, one, was)
+          grind (arith, ran_behind slots, same)
 
       kept_on : (i : ℕ) → 1 ≤ i → i ≤ length (passing f horizon) → IsKept l (before + get_or (passing f horizon) (i - 1) 0) (i + k * l.weight.cost)
       kept_on i first inside =
           let p = at_place f horizon (i - 1) (omega (arith, first, inside)) in
           let slot = get_or (passing f horizon) (i - 1) 0 in
           let kept = kept_in (before + slot) (let below = p.below in omega (arith, below, until)) (sym (same slot) ∙ p.passes) in
-          let had = p.before in
-          let behind = ran_behind slot in
-          let index : 1 + ran_in (before + slot) ≡ i + k * l.weight.cost = omega (arith, had, behind, first) in
-          subst (IsKept l (before + slot)) index kept
+          grind (arith, ran_behind)
 
       pub meets : MeetsDeadlines l.weight (passing f horizon) horizon
       meets = record {
@@ -113,9 +104,7 @@ module _ (s : Settings) (x : Story) (frame : 0 < s.frame) (weights : HaveWeights
         served = λ i first due.
             (let repeats = deadline_repeats l.weight i k 0 some in
             let many = served s x frame weights t l among active undelayed (i + k * l.weight.cost) (omega (arith, first)) (omega (arith, due, repeats, until)) in
-            let behind = ran_behind horizon in
-            let alike = ap ran_in until in
-            omega (arith, many, behind, alike));
+            grind (arith, ran_behind, until));
       }
 
       pub within : l.early ≡ false → InWindows l.weight (passing f horizon) horizon
@@ -194,10 +183,7 @@ module _ (earlier : List Past) (s : Settings) (x : Replica) (run : IsRunAfter ea
     ran k = names_task m.name (table_through s earlier (said x) (m.joined + k))
 
     same : (k : ℕ) → ran k ≡ runs_at s long l.long (l.jobs * l.long.weight.period + k)
-    same k =
-        let joined = l.later.joined in
-        let at : m.joined + k ≡ l.long.joined + (l.jobs * l.long.weight.period + k) = omega (arith, joined) in
-        runs_long s earlier (said x) run.replicas weighed m.name (m.joined + k) ∙ (λ i. names_task (l.later.name i) (table None s long (at i)))
+    same k = grind (arith, runs_long, weighed)
 
     until : l.jobs * l.long.weight.period + slots_since slot m ≡ slots_since slot l.long
     until = (let joined = l.later.joined in let by = l.later.by_now in omega (arith, joined, by))
@@ -209,18 +195,10 @@ module _ (earlier : List Past) (s : Settings) (x : Replica) (run : IsRunAfter ea
     still = long_undelayed slot l.jobs l.long m l.later (no_offset_all m undelayed)
 
     pub deadlines_kept : KeepsDeadlines m.weight (slots_run s earlier (said x) slot m) (slots_since slot m)
-    deadlines_kept = record {
-      weight = subst (λ (w : Share). IsWeight w.cost w.period) (sym l.later.weight) (here s long weights slot l.long l.among).sound.weight;
-      are_picks = passing_rise ran (slots_since slot m);
-      deadlines = subst (λ w. MeetsDeadlines w (slots_run s earlier (said x) slot m) (slots_since slot m)) (sym l.later.weight) (meets s long run.frame weights slot l.jobs l.long l.among staying still (slots_since slot m) until ran same);
-    }
+    deadlines_kept = grind (arith, here, weights, passing_rise, meets, staying, still, until, same)
 
     pub windows_kept : m.early ≡ false → KeepsWindows m.weight (slots_run s earlier (said x) slot m) (slots_since slot m)
-    windows_kept early = record {
-      weight = deadlines_kept.weight;
-      are_picks = deadlines_kept.are_picks;
-      windows = subst (λ w. InWindows w (slots_run s earlier (said x) slot m) (slots_since slot m)) (sym l.later.weight) (within s long run.frame weights slot l.jobs l.long l.among staying still (slots_since slot m) until ran same (sym l.later.early ∙ early));
-    }
+    windows_kept early = grind (arith, deadlines_kept, within, weights, staying, still, until, same)
 
 pub none_misses : NoneMisses
 none_misses earlier s x run t = served_after earlier s x run t

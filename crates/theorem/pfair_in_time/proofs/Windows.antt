@@ -25,8 +25,7 @@ quanta_passing s x m (suc slot) =
     let before = quanta_passing s x m slot in
     let passes = one_more (runs_at s x m) slot in
     let at : suc (m.joined + slot) ≡ m.joined + suc slot = omega arith in
-    let same = ap (λ t. quanta (tables_before s x t) m) at in
-    omega arith
+    grind arith
 
 -- without delays the offset is the joining slot
 pub no_offset : (m : Member) (i : ℕ) → m.delays ≡ [] → theta m i ≡ m.joined
@@ -52,9 +51,7 @@ module _ (s : Settings) (x : Story) (frame : 0 < s.frame) (weights : HaveWeights
         let early = in_time s x frame weights (m.joined + slot) l h named in
         let same = ap (λ (w : Share). deadline_of w l.next (theta l l.next)) line.weight in
         let is = ap (λ i. deadline_of m.weight i 0) next in
-        let up = line.rises l.next in
-        let offset = undelayed l.next in
-        omega arith);
+        grind arith);
     released = λ e. from (open_from (m.joined + slot) l (runs_chosen s x (m.joined + slot) l h named).0 (⊎_map (λ early. sym line.early ∙ early) (λ starts. (λ i. starts_job_of (sym line.weight i) (next i)) ∙ starts) e));
   }
     where

@@ -26,8 +26,7 @@ index_after s x t m = next_index (tables_before s x (suc t)) m
 pub same_member : (s : Settings) (x : Story) (t : ℕ) (m n : Member) → Among (world None s x t) m → Among (world None s x t) n → m.name ≡ n.name → m ≡ n
 same_member s x t m n here there e =
     let one = named_is (world None s x t) m.name m (named_world s x t) here (name_itself m.name) in
-    let other = named_is (world None s x t) m.name n (named_world s x t) there (subst (λ k. name_eq m.name k ≡ true) e (name_itself m.name)) in
-    same_Some m n (sym one ∙ other)
+    grind (arith, named_is, named_world, name_itself, same_Some)
 
 -- ---- who runs
 
@@ -43,8 +42,7 @@ chosen_member s t ms apart k h =
     let first = by_rank_first keys_total s.processors (eligible t ms) (once_from_names (eligible t ms) (eligible_apart t ms apart)) in
     let at = place_of (chosen s t ms) k (among_contains (chosen s t ms) k h) in
     let p = among_map next_key (filter (is_eligible t) ms) k (contains_among (eligible t ms) k (first.at_rank at.0 k at.1).0) in
-    let q = among_filter (is_eligible t) ms p.0 p.1 in
-    (p.0, q.0, q.1, p.2)
+    grind (arith, among_filter)
 
 abbrev pub runs : Settings → Story → ℕ → Member → Bool
 runs s x t m = names_task m.name (table None s x t)
@@ -56,8 +54,7 @@ runs_chosen s x t m here named =
     let q = among_map (pick (world None s x t)) (keys_at s x t) p.0 p.1 in
     let n = chosen_member s t (world None s x t) (named_world s x t) q.0 q.1 in
     let name : m.name ≡ n.0.name = name_exact m.name p.0.name p.2 ∙ ap (λ (r : Pick). r.name) q.2 ∙ ap (λ (k : Key). k.name) n.3 in
-    let same = same_member s x t m n.0 here n.1 name in
-    (ap (is_eligible t) same ∙ n.2, subst (λ k. Among (keys_at s x t) k) (n.3 ∙ ap next_key (sym same)) q.1)
+    grind (arith, same_member, here)
 
 pub any_from_among : {A : Type 0} (p : A → Bool) (xs : List A) (x : A) → Among xs x → p x ≡ true → list_any p xs ≡ true
 any_from_among p [] x h e = absurd h
@@ -99,9 +96,7 @@ module _ (s : Settings) (x : Story) (weights : HaveWeights x) where
   on_sound t m h here = grind (arith, departing_rests, on_next)
 
   all_on_sound : (t : ℕ) → ((m : Member) → Among (world None s x t) m → IsHere s x t m) → AllSound s.frame (counted (tables_before s x (suc t)) (world None s x t))
-  all_on_sound t here n h =
-      let p = among_map (counted_one (tables_before s x (suc t))) (world None s x t) n h in
-      subst (IsSound s.frame) (sym p.2) (on_sound t p.0 p.1 (here p.0 p.1))
+  all_on_sound t here n h = grind (arith, among_map, on_sound, here)
 
   apart_on : (t : ℕ) → NamesApart (λ (m : Member). m.name) (counted (tables_before s x (suc t)) (world None s x t))
   apart_on t = apart_map (λ (m : Member). m.name) (λ (m : Member). m.name) (counted_one (tables_before s x (suc t))) (λ m. refl) (world None s x t) (named_world s x t)
