@@ -48,10 +48,7 @@ module _ (x : Schedule) (n : ℕ) where
     periods = is.periods;
     offsets_start = is.offsets_start;
     offsets_rise = is.offsets_rise;
-    rows_apart = λ t. elim (cases_lt t (suc n)) [
-      | inl less ↦ subst (NoneTwice same_subtask) (sym (cut_table t less)) (is.rows_apart t less)
-      | inr after ↦ subst (λ b. NoneTwice same_subtask (cond b (x.table t) [])) (sym (le-ltb t (suc n) after)) tt
-    ];
+    rows_apart = grind (arith, cases_lt, cut_table, le-ltb);
     rows_once = λ s t z here there. grind (arith, cut_row);
     rows_follow = λ t z row. grind (arith, cut_row, cut_next);
     rows_active = λ t z row. grind (arith, cut_row, active_cut);

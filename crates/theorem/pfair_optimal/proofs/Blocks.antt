@@ -71,10 +71,7 @@ module _ (x : Schedule) (is : IsRun x) (td : ℕ) (missed : Subtask) (m : IsFirs
         | inl served ↦
             let some = picked_some a n served in
             let pays = mul-le (x.weight a).period 1 (x.weight a).period (picked x td missed a n) (le_refl (x.weight a).period) some in
-            elim (cases_lt (start x td missed n) n) [
-              | inl within ↦ (let here = carry_within a n within in omega arith)
-              | inr first ↦ (let here = carry_first a n first in omega arith)
-            ]
+            grind (arith, cases_lt, carry_within, carry_first)
         | inr alone ↦ elim (cases_lt (start x td missed n) n) [
           | inl within ↦
               let here = carry_within a n within in

@@ -166,12 +166,7 @@ busy_opens w i k theta later h bit after offsets before =
             let none : i + 0 ≡ i = omega arith in
             let whole = cascade_after w i 0 h bit (let e : closing w (i + 0) ≡ closing w i = ap (closing w) none in omega arith) (ap (b_bit_of w) none ∙ bit) in
             let less = opens_less w i k h bit after (omega arith) in
-            let one = first_share w k later (release_of w k later) h refl in
-            let other = first_share w (i + 1) theta (release_of w (i + 1) theta) h refl in
-            let opens : opening w (i + 1) * w.cost ≡ next_opening w i * w.cost = ap (λ (n : ℕ). n * w.cost) next in
-            let close : (next_opening w i + 1) * w.cost ≡ closing w i * w.cost = let e : next_opening w i + 1 ≡ closing w i = omega arith in ap (λ (n : ℕ). n * w.cost) e in
-            let back : (i + 1 - 1) * w.period ≡ i * w.period = let e : i + 1 - 1 ≡ i = omega arith in ap (λ (n : ℕ). n * w.period) e in
-            omega arith
+            grind (arith, first_share)
       ]
     ]
 

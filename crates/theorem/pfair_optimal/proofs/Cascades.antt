@@ -19,10 +19,7 @@ ends_there w i h below bit =
     let later = index_le_closing w i h in
     let same : next_opening w i * w.cost ≡ closing w i * w.cost = (let e : next_opening w i ≡ closing w i = omega arith in ap (λ n. n * w.cost) e) in
     let slots = whole_slots (closing w i) i (closing w i - i) (w.period - w.cost) w.cost w.period (omega arith) (omega arith) (omega arith) in
-    ap (λ n. div_ceil (div_ceil n w.period * w.period) (w.period - w.cost)) slots
-    ∙ ap (λ n. div_ceil (n * w.period) (w.period - w.cost)) (div_ceil_of_multiple (closing w i - i) w.period (omega arith))
-    ∙ ap (λ n. div_ceil n (w.period - w.cost)) (sym slots)
-    ∙ div_ceil_of_multiple (closing w i) (w.period - w.cost) (omega arith)
+    grind (arith, div_ceil, div_ceil_of_multiple)
 
 -- ---- with b-bit 1
 
@@ -39,9 +36,7 @@ module _ (w : Share) (i theta : ℕ) (h : IsWeight w.cost w.period) (heavy : IsH
   after : deadline_of w i theta < group_deadline_of w i theta
   after =
       let none : i + 0 ≡ i = omega arith in
-      let due : deadline_of w (i + 0) theta ≡ deadline_of w i theta + 0 = (let e = ap (λ n. deadline_of w n theta) none in omega arith) in
-      let late = group_deadline_ends w i 0 theta h heavy bit due (ap (b_bit_of w) none ∙ bit) in
-      omega arith
+      grind (arith, group_deadline_ends)
 
   -- the subtask that is due at the group deadline, or a slot later
   at_end : (n : ℕ) → 1 ≤ n → deadline_of w i theta + n ≡ group_deadline_of w i theta → EndsCascade w theta (group_deadline_of w i theta)

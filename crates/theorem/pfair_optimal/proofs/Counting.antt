@@ -136,9 +136,7 @@ module _ (x : Schedule) (is : IsRun x) (td : ℕ) (missed : Subtask) (m : IsFirs
       let most = total_all_le claim (λ a. units_of (x.weight a) x.frame) (x.members n) (λ a. within a (is_among same_task (x.members n) a)) in
       let sum_is = total_sum (λ a. units_of (x.weight a) x.frame) (x.members n) in
       let w = full_some x is td missed m n full in
-      let rows = (full_rows x is td missed m w.0 n less w.1 w.2).0 in
-      let all : length (picks x td missed n) * x.frame ≡ x.processors * x.frame = ap (λ (k : ℕ). k * x.frame) (ap length (picks_full x is td missed m n less full) ∙ rows) in
-      omega arith
+      grind (arith, full_rows, picks_full)
     where
       claim : Task → ℕ
       claim a = cond (is_among same_task (x.members n) a) (units_of (x.weight a) x.frame) 0

@@ -32,9 +32,7 @@ share_in_window w i theta v h first = (inside, some)
         let ends = pinned w i h.some_cost in
         let low = grow (opening w i + 1) (v + 1 - theta) w.cost (omega arith) in
         let high = grow (v - theta + 1) (closing w i) w.cost (omega arith) in
-        let same : (v + 1 - theta) * w.cost ≡ (v - theta + 1) * w.cost = let e : v + 1 - theta ≡ v - theta + 1 = omega arith in ap (λ (n : ℕ). n * w.cost) e in
-        let step = one_less i w.period first in
-        part_rises w.period w.cost ((v - theta) * w.cost) ((i - 1) * w.period) _ (omega arith) (omega arith) (omega arith) (omega arith) (omega arith)
+        grind (arith, one_less, part_rises)
 
 -- fluid never falls
 pub fluid_rises : (w : Share) (i theta v : ℕ) → fluid_of w i theta v ≤ fluid_of w i theta (v + 1)

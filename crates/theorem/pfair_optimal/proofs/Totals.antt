@@ -69,9 +69,7 @@ module _ {A : Type 0} (same : A → A → Bool) (exact : (a b : A) → (same a b
         | inl some ↦
             let here = h x (among_here same exact xs x) some in
             let without = total_without f x ys here in
-            let rest = total_among f xs (filter (λ b. not (same x b)) ys) apart.1 (λ a i s.
-            filter_among same exact (λ b. not (same x b)) ys a (h a (among_more same exact x xs a i) s) (other a i (cases_Bool (same x a)))) in
-            omega arith
+            grind (arith, total_among f xs, filter_among, among_more, other, cases_Bool)
         | inr none ↦ (let rest = total_among f xs ys apart.1 (λ a i s. h a (among_more same exact x xs a i) s) in omega arith)
       ]
     where
