@@ -30,7 +30,8 @@ abbrev pub is_task : Task → Member → Bool
 is_task a m = same_task (task_of m) a
 
 -- the member that is a task, if one is
-pub find_task : (a : Task) (ms : List Member) → ((m : Member) × (find (is_task a) ms ≡ Some m) × Among ms m × (task_of m ≡ a)) ⊎ ((find (is_task a) ms ≡ None) × ((m : Member) → Among ms m → task_of m ≡ a → ⊥))
+pub find_task : (a : Task) (ms : List Member)
+    → ((m : Member) × (find (is_task a) ms ≡ Some m) × Among ms m × (task_of m ≡ a)) ⊎ ((find (is_task a) ms ≡ None) × ((m : Member) → Among ms m → task_of m ≡ a → ⊥))
 find_task a [] = inr (refl, λ m h e. h)
 find_task a (m ∷ ms) = elim (cases_Bool (is_task a m)) [
   | inl is ↦ inl (m, ap (λ b. cond b (Some m) (find (is_task a) ms)) is, inl refl, (task_exact (task_of m) a).0 is)
@@ -78,7 +79,8 @@ as_run s x n = record {
 -- ---- rows
 
 row_is : (s : Settings) (x : Story) (t : ℕ) (m : Member) → Among (world None s x t) m → row_of (world None s x t) (next_key m) ≡ subtask_of m
-row_is s x t m h = ap (λ (o : Option Member). record { task = record { name = m.name; joined = joined_in o }; index = index_of o }) (found_own (world None s x t) (named_world s x t) m h)
+row_is s x t m h =
+    ap (λ (o : Option Member). record { task = record { name = m.name; joined = joined_in o }; index = index_of o }) (found_own (world None s x t) (named_world s x t) m h)
 
 pub row_member : (s : Settings) (x : Story) (n t : ℕ) (z : Subtask) → is_row (as_run s x n) t z ≡ true → (m : Member) × Among (world None s x t) m × (runs s x t m ≡ true) × (z ≡ subtask_of m)
 row_member s x n t z row =
@@ -94,13 +96,15 @@ once_named : (zs : List Subtask) → NamesApart (λ (z : Subtask). z.task.name) 
 once_named [] apart = tt
 once_named (z ∷ zs) apart = (
   false_from_ne_true (is_among same_subtask zs z) (λ twice.
-      let other = among_all (λ (y : Subtask). name_eq z.task.name y.task.name ≡ false) zs (apart_head (λ (y : Subtask). y.task.name) z zs apart) z (among_test same_subtask subtask_exact zs z twice) in
+      let apart_from = apart_head (λ (y : Subtask). y.task.name) z zs apart in
+      let other = among_all (λ (y : Subtask). name_eq z.task.name y.task.name ≡ false) zs apart_from z (among_test same_subtask subtask_exact zs z twice) in
       true≢false (sym (name_itself z.task.name) ∙ other)),
   once_named zs (apart_tail (λ (y : Subtask). y.task.name) z zs apart),
 )
 
 pub rows_apart : (s : Settings) (x : Story) (n t : ℕ) → NoneTwice same_subtask ((as_run s x n).table t)
-rows_apart s x n t = once_named ((as_run s x n).table t) (apart_map (λ (k : Key). k.name) (λ (z : Subtask). z.task.name) (row_of (world None s x t)) (λ k. refl) (keys_at s x t) (first_names s.processors (eligible t (world None s x t)) (keys_apart s x t)))
+rows_apart s x n t = once_named ((as_run s x n).table t)
+    (apart_map (λ (k : Key). k.name) (λ (z : Subtask). z.task.name) (row_of (world None s x t)) (λ k. refl) (keys_at s x t) (first_names s.processors (eligible t (world None s x t)) (keys_apart s x t)))
 
 module _ (s : Settings) (x : Story) (weights : HaveWeights x) where
   -- ---- in the end
@@ -167,7 +171,8 @@ module _ (s : Settings) (x : Story) (weights : HaveWeights x) where
                 | inl e ↦
                     let c : cond {A = ℕ} (runs s x t l) 1 0 ≡ 1 = ap (λ b. cond {A = ℕ} b 1 0) e in
                     let at : l.next ≡ i = omega arith in
-                    ran_by (as_run s x n) (record { task = task_of l; index = i }) t (suc t) (omega arith) (subst (λ k. is_row (as_run s x n) t (record { task = task_of l; index = k }) ≡ true) at (member_row s x n t l p.1 e))
+                    ran_by (as_run s x n) (record { task = task_of l; index = i }) t (suc t) (omega arith)
+                    (subst (λ k. is_row (as_run s x n) t (record { task = task_of l; index = k }) ≡ true) at (member_row s x n t l p.1 e))
                 | inr e ↦ absurd (let c : cond {A = ℕ} (runs s x t l) 1 0 ≡ 0 = ap (λ b. cond {A = ℕ} b 1 0) e in omega arith)
               ]
             ])

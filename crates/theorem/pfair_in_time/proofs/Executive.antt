@@ -52,8 +52,10 @@ module _ (s : Settings) (x : Story) (frame : 0 < s.frame) (weights : HaveWeights
           record { weight = p.0.weight; period = p.0.period; starts = λ i. omega arith; rises = λ i. theta_rises m i (i + 1) (omega arith) }
 
   -- a member's next subtask, if its offset doesn't change any more
-  key_is : (t : ℕ) (m : Member) → IsFinal s x weights n t m → (as_run s x n).offset (task_of m) m.next ≡ theta m m.next → key_in (as_run s x n) (subtask_of m) ≡ next_key m
-  key_is t m f offset = λ i. record { d = deadline_of (f.weight i) m.next (offset i); b = b_bit_of (f.weight i) m.next; group = group_deadline_of (f.weight i) m.next (offset i); name = m.name }
+  key_is : (t : ℕ) (m : Member) → IsFinal s x weights n t m
+      → (as_run s x n).offset (task_of m) m.next ≡ theta m m.next → key_in (as_run s x n) (subtask_of m) ≡ next_key m
+  key_is t m f offset = λ i.
+      record { d = deadline_of (f.weight i) m.next (offset i); b = b_bit_of (f.weight i) m.next; group = group_deadline_of (f.weight i) m.next (offset i); name = m.name }
 
   -- who is active
   active_member : (a : Task) (t : ℕ) → (as_run s x n).is_active a t ≡ true → (m : Member) × Among (world None s x t) m × (task_of m ≡ a) × (is_departing m ≡ false)
@@ -134,8 +136,10 @@ module _ (s : Settings) (x : Story) (frame : 0 < s.frame) (weights : HaveWeights
       let up = f.rises m.next in
       omega arith) in
       let by_then = eligible_no_later m m.next in
-      let may_run : is_eligible t m ≡ true = and_from (not (is_departing m)) (nat_le (eligible_from m m.next) t) (not_from_false (is_departing m) p.3) (le-leb (eligible_from m m.next) t (omega (arith, by_then, released))) in
-      let among = among_contains (eligible t (world None s x t)) (next_key m) (map_among next_key (filter (is_eligible t) (world None s x t)) m (filter_among (is_eligible t) (world None s x t) m p.1 may_run)) in
+      let may_run : is_eligible t m ≡ true =
+      and_from (not (is_departing m)) (nat_le (eligible_from m m.next) t) (not_from_false (is_departing m) p.3) (le-leb (eligible_from m m.next) t (omega (arith, by_then, released))) in
+      let among = among_contains (eligible t (world None s x t)) (next_key m)
+      (map_among next_key (filter (is_eligible t) (world None s x t)) m (filter_among (is_eligible t) (world None s x t) m p.1 may_run)) in
       let out : Contains (keys_at s x t) (next_key m) → ⊥ = λ c.
       (let row = member_row s x n t m p.1 (chosen_runs s x t m (contains_among (keys_at s x t) (next_key m) c)) in
       let ran = ran_by (as_run s x n) (subtask_of m) t (suc t) (omega arith) row in
@@ -148,8 +152,10 @@ module _ (s : Settings) (x : Story) (frame : 0 < s.frame) (weights : HaveWeights
             let g = final s x weights n t l q.1 less in
             let before = past.before (next_key l) (among_contains (keys_at s x t) (next_key l) (runs_chosen s x t l q.1 q.2).1) in
             let keys : GoesBefore (key_in (as_run s x n) (subtask_of l)) (key_in (as_run s x n) (subtask_of m)) =
-            subst (λ (k : Key × Key). GoesBefore k.0 k.1) (λ i. (sym (key_is t l g (g.stays_run l.next q.2 (omega arith))) i, sym (key_is t m f (f.stays m.next (inr released))) i)) before in
-            subst (λ (y : Subtask × Subtask). GoesFirst (as_run s x n) y.0 y.1) (λ i. (sym q.3 i, sym is_it i)) (goes_first (as_run s x n) (subtask_of l) (subtask_of m) keys)),
+            subst (λ (k : Key × Key). GoesBefore k.0 k.1)
+            (λ i. (sym (key_is t l g (g.stays_run l.next q.2 (omega arith))) i, sym (key_is t m f (f.stays m.next (inr released))) i)) before in
+            subst (λ (y : Subtask × Subtask). GoesFirst (as_run s x n) y.0 y.1) (λ i. (sym q.3 i, sym is_it i))
+            (goes_first (as_run s x n) (subtask_of l) (subtask_of m) keys)),
       )
 
   pub is_run : IsRunBelow (as_run s x n) n

@@ -9,7 +9,8 @@ use Rattle.pfair_in_time.proofs.AsRun.{task_of, subtask_of, last_of, or_else, of
 use Rattle.pfair_in_time.proofs.Executive.{is_run, member_active}
 
 -- who may run in a slot, and isn't early or starts a job, is released by then
-pub open_from : (t : ℕ) (m : Member) → is_eligible t m ≡ true → (m.early ≡ false) ⊎ (starts_job_of m.weight m.next ≡ true) → release_of m.weight m.next (theta m m.next) ≤ t
+pub open_from : (t : ℕ) (m : Member) → is_eligible t m ≡ true
+    → (m.early ≡ false) ⊎ (starts_job_of m.weight m.next ≡ true) → release_of m.weight m.next (theta m m.next) ≤ t
 open_from t m able when = grind (arith, leb-true, and_parts, eligible_not_early, eligible_at_job)
 
 -- up to the end of slot t a member is the last one of its task

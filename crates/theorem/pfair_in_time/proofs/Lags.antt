@@ -25,7 +25,9 @@ module _ (s : Settings) (x : Story) (weights : HaveWeights x) (t : ℕ) (m : Mem
   same_lag : lag_numerator m.weight (slots_of s x t m) (slots_since t m) ≡ lag_at (suc t) (counted_one (tables_before s x (suc t)) m)
   same_lag =
       let joined = (here s x weights t m h).by_now in
-      let all = all_counted (λ slot. nat_lt slot (slots_since t m)) (slots_of s x t m) (all_among (λ slot. nat_lt slot (slots_since t m) ≡ true) (slots_of s x t m) (λ k among. lt-ltb k (slots_since t m) (among_below (slots_since t m) k (among_filter (runs_at s x m) (numbers_below (slots_since t m)) k among).0))) in
+      let all = all_counted (λ slot. nat_lt slot (slots_since t m)) (slots_of s x t m)
+      (all_among (λ slot. nat_lt slot (slots_since t m) ≡ true) (slots_of s x t m)
+      (λ k among. lt-ltb k (slots_since t m) (among_below (slots_since t m) k (among_filter (runs_at s x m) (numbers_below (slots_since t m)) k among).0))) in
       let ran = quanta_passing s x m (slots_since t m) in
       let now : m.joined + slots_since t m ≡ suc t = omega arith in
       grind (arith, pos)

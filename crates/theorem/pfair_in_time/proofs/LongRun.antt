@@ -125,7 +125,8 @@ long_story s (r ∷ earlier) story = long_story s earlier (both_stories (origin_
 pub long_weights : (s : Settings) (earlier : List Past) (story : Story) → AreReplicas earlier → IsWeighedStory story → IsWeighedStory (long_story s earlier story)
 long_weights s [] story h weights = weights
 long_weights s (r ∷ earlier) story h weights =
-    long_weights s earlier (both_stories (origin_after s earlier) s (said r.contents) r.slots story) h.1 (both_weights (origin_after s earlier) s (said r.contents) r.slots story (said_weighed r.contents h.0) weights)
+    long_weights s earlier (both_stories (origin_after s earlier) s (said r.contents) r.slots story) h.1
+    (both_weights (origin_after s earlier) s (said r.contents) r.slots story (said_weighed r.contents h.0) weights)
 
 -- each member of a slot's world is one of the long run's
 pub world_long : (s : Settings) (earlier : List Past) (story : Story) → AreReplicas earlier → IsWeighedStory story → (t : ℕ) (m : Member) → Among (world (origin_after s earlier) s story t) m
@@ -211,8 +212,10 @@ by_names name (p ∷ rows) = ap (λ b. name_eq name p.name || b) (by_names name 
 pub runs_long : (s : Settings) (earlier : List Past) (story : Story) → AreReplicas earlier → IsWeighedStory story → (name : Name) (u : ℕ) → names_task name (table_through s earlier story u) ≡ names_task name (table None s (long_story s earlier story) u)
 runs_long s earlier story h weights name u = grind (arith, by_names, name, names_long)
 
-pub runs_in_long : (s : Settings) (earlier : List Past) (story : Story) → AreReplicas earlier → IsWeighedStory story → (name : Name) (t : ℕ) → names_task name (table (origin_after s earlier) s story t) ≡ names_task name (table None s (long_story s earlier story) (slot_of (origin_after s earlier) t))
+pub runs_in_long : (s : Settings) (earlier : List Past) (story : Story) → AreReplicas earlier → IsWeighedStory story → (name : Name) (t : ℕ)
+    → names_task name (table (origin_after s earlier) s story t) ≡ names_task name (table None s (long_story s earlier story) (slot_of (origin_after s earlier) t))
 runs_in_long s earlier story h weights name t =
     let o = origin_after s earlier in
     let at : t ≡ slot_of o t - slot_of o 0 = grind arith in
-    ap (λ u. names_task name (table o s story u)) at ∙ ap (names_task name) (sym (through_late s earlier story (slot_of o t) (grind arith))) ∙ runs_long s earlier story h weights name (slot_of o t)
+    ap (λ u. names_task name (table o s story u)) at
+    ∙ ap (names_task name) (sym (through_late s earlier story (slot_of o t) (grind arith))) ∙ runs_long s earlier story h weights name (slot_of o t)

@@ -35,10 +35,12 @@ is_named_in rows a = cond (names_task a.name rows) 1 0
 named_within : (arrivals : List Arrival) → NamesApart (λ (a : Arrival). a.name) arrivals → (rows : Table) → sum_by (is_named_in rows) arrivals ≤ length rows
 named_within arrivals apart rows =
     let named = filter (λ (a : Arrival). names_task a.name rows) arrivals in
-    let most = length-le_from_is_member nat_list_eq_equiv (map (λ (a : Arrival). a.name) named) (names_of rows) (apart_filter (λ (a : Arrival). a.name) (λ a. names_task a.name rows) arrivals apart) has in
+    let most = length-le_from_is_member nat_list_eq_equiv (map (λ (a : Arrival). a.name) named) (names_of rows)
+    (apart_filter (λ (a : Arrival). a.name) (λ a. names_task a.name rows) arrivals apart) has in
     grind (arith, length-filter, length-map)
   where
-    has : (q : List ℕ) → list_any (name_eq q) (map (λ (a : Arrival). a.name) (filter (λ (a : Arrival). names_task a.name rows) arrivals)) ≡ true → list_any (name_eq q) (names_of rows) ≡ true
+    has : (q : List ℕ) → list_any (name_eq q) (map (λ (a : Arrival). a.name) (filter (λ (a : Arrival). names_task a.name rows) arrivals)) ≡ true
+        → list_any (name_eq q) (names_of rows) ≡ true
     has q h =
         let n = any_among (name_eq q) (map (λ (a : Arrival). a.name) (filter (λ (a : Arrival). names_task a.name rows) arrivals)) h in
         let a = among_map (λ (a : Arrival). a.name) (filter (λ (a : Arrival). names_task a.name rows) arrivals) n.0 n.1 in

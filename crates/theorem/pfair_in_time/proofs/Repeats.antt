@@ -98,7 +98,8 @@ module _ (s : Settings) (x : Replica) (arrivals : List Arrival) (frame : 0 < s.f
           let whole = all_jobs in
           let units = units_are in
           let joined = joined_first m among in
-          let exact = exactly s (said x) frame weights h jobs l (member_at s x arrivals says h m among) (ap is_departing (is_first s x arrivals says m among)) (no_offset_all l (ap (λ (n : Member). n.delays) (is_first s x arrivals says m among))) 1 (omega arith) in
+          let exact = exactly s (said x) frame weights h jobs l (member_at s x arrivals says h m among)
+          (ap is_departing (is_first s x arrivals says m among)) (no_offset_all l (ap (λ (n : Member). n.delays) (is_first s x arrivals says m among))) 1 (omega arith) in
           let ran = quanta_passing s (said x) l (jobs * m.weight.period) in
           grind arith
 

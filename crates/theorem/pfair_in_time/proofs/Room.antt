@@ -3,7 +3,8 @@ use Rattle.std.proofs.Common.{◌≡◌, ℕ, zero, suc, List, [], ◌∷◌, ar
 use Rattle.pfair_in_time.proofs.Common.{sum_by-cons, units_of, Member, announcements, room_boundary, Settings, machine, counted, counted_one, Story, history, world, world_counted, Among}
 use Rattle.pfair_admission.specs.Laws.{HaveRoom}
 
-pub sum_same : {A : Type 0} (f : A → ℕ) (h : Member → A) (g : Member → ℕ) (ms : List Member) → ((m : Member) → Among ms m → f (h m) ≡ g m) → sum_by f (map h ms) ≡ sum_by g ms
+pub sum_same : {A : Type 0} (f : A → ℕ) (h : Member → A) (g : Member → ℕ) (ms : List Member)
+    → ((m : Member) → Among ms m → f (h m) ≡ g m) → sum_by f (map h ms) ≡ sum_by g ms
 sum_same f h g [] same = refl
 sum_same f h g (m ∷ ms) same = grind (arith, sum_same f h g ms, sum_by-cons)
 

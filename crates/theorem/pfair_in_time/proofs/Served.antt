@@ -171,11 +171,14 @@ module _ (s : Settings) (x : Replica) (arrivals : List Arrival) (frame : 0 < s.f
         let m = counted_one (tables_before s (said x) (due - 1)) (joins a) in
         let weight = among_all (λ (b : Arrival). IsWeight b.weight.cost b.weight.period) arrivals are.weights a h in
         let some = window_not_empty a.weight i 0 weight (omega (arith, other)) in
-        let joined = subst (λ l. Among l (joins a)) (sym (ap (λ l. all_decided (machine s) 0 [] l) says.first ∙ (room_admits room).members)) (map_among joins arrivals a h) in
-        let had = served s (said x) frame weights (due - 1) m (member_at s x arrivals says (due - 1) (joins a) joined) refl (no_offset_all m refl) i (omega (arith, other)) (omega (arith, some)) in
+        let joined = subst (λ l. Among l (joins a))
+        (sym (ap (λ l. all_decided (machine s) 0 [] l) says.first ∙ (room_admits room).members)) (map_among joins arrivals a h) in
+        let had = served s (said x) frame weights (due - 1) m (member_at s x arrivals says (due - 1) (joins a) joined)
+        refl (no_offset_all m refl) i (omega (arith, other)) (omega (arith, some)) in
         let none : (k : ℕ) → 0 + k ≡ k = λ k. omega arith in
         let slots : slots_since (due - 1) m ≡ due = omega (arith, some) in
-        let same = length-filter (runs_at s (said x) m) (numbers_below (slots_since (due - 1) m)) ∙ (λ j. count_by (λ k. names_task a.name (table None s (said x) (none k j))) (numbers_below (slots j))) in
+        let same = length-filter (runs_at s (said x) m) (numbers_below (slots_since (due - 1) m))
+        ∙ (λ j. count_by (λ k. names_task a.name (table None s (said x) (none k j))) (numbers_below (slots j))) in
         omega (arith, had, same)
   ]
 

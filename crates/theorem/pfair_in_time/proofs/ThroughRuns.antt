@@ -138,8 +138,10 @@ module _ (earlier : List Past) (s : Settings) (x : Replica) (run : IsRunAfter ea
   has : (m : Member) → Among (world o s (said x) t) m → HasLater slot (world None s long slot) m
   has = world_long s earlier (said x) run.replicas weighed t
 
-  pub has_after : (m : Member) → Among (history o s (said x) (suc t)).members m → HasLater (suc slot) (counted (tables_before s long (suc slot)) (world None s long slot)) m
-  has_after m h = subst (λ ms. HasLater (suc slot) ms m) (counted_on s long slot) (subst (λ u. HasLater u (history None s long u).members m) (slot_more o t) (history_long s earlier (said x) run.replicas weighed (suc t) m h))
+  pub has_after : (m : Member) → Among (history o s (said x) (suc t)).members m
+      → HasLater (suc slot) (counted (tables_before s long (suc slot)) (world None s long slot)) m
+  has_after m h = subst (λ ms. HasLater (suc slot) ms m) (counted_on s long slot)
+      (subst (λ u. HasLater u (history None s long u).members m) (slot_more o t) (history_long s earlier (said x) run.replicas weighed (suc t) m h))
 
   -- ---- no admitted task misses
 
@@ -150,9 +152,12 @@ module _ (earlier : List Past) (s : Settings) (x : Replica) (run : IsRunAfter ea
       let key = among_map (pick S) (chosen s slot S) p h in
       let (m, among, able, key_is) = chosen_member s slot S apart key.0 key.1 in
       let is : p ≡ pick S (next_key m) = key.2 ∙ ap (pick S) key_is in
-      let named : names_task m.name (table o s (said x) t) ≡ true = any_from_among (λ (r : Pick). name_eq m.name r.name) (table o s (said x) t) p h (subst (λ (r : Pick). name_eq m.name r.name ≡ true) (sym is) (name_itself m.name)) in
+      let named : names_task m.name (table o s (said x) t) ≡ true =
+      any_from_among (λ (r : Pick). name_eq m.name r.name) (table o s (said x) t) p h
+      (subst (λ (r : Pick). name_eq m.name r.name ≡ true) (sym is) (name_itself m.name)) in
       let l = has m among in
-      let due = in_time s long run.frame weights slot l.long l.among ((λ i. names_task (sym l.later.name i) (table None s long slot)) ∙ sym (runs_in_long s earlier (said x) run.replicas weighed m.name t) ∙ named) in (
+      let due = in_time s long run.frame weights slot l.long l.among
+      ((λ i. names_task (sym l.later.name i) (table None s long slot)) ∙ sym (runs_in_long s earlier (said x) run.replicas weighed m.name t) ∙ named) in (
         m,
         among,
         record {

@@ -52,7 +52,8 @@ module _ (s : Settings) (x : Story) (frame : 0 < s.frame) (weights : HaveWeights
         let same = ap (λ (w : Share). deadline_of w l.next (theta l l.next)) line.weight in
         let is = ap (λ i. deadline_of m.weight i 0) next in
         grind arith);
-    released = λ e. from (open_from (m.joined + slot) l (runs_chosen s x (m.joined + slot) l h named).0 (⊎_map (λ early. sym line.early ∙ early) (λ starts. (λ i. starts_job_of (sym line.weight i) (next i)) ∙ starts) e));
+    released = λ e. from (open_from (m.joined + slot) l (runs_chosen s x (m.joined + slot) l h named).0
+        (⊎_map (λ early. sym line.early ∙ early) (λ starts. (λ i. starts_job_of (sym line.weight i) (next i)) ∙ starts) e));
   }
     where
       named : runs s x (m.joined + slot) l ≡ true

@@ -37,7 +37,8 @@ pub keys_apart : (s : Settings) (x : Story) (t : ℕ) → NamesApart (λ (k : Ke
 keys_apart s x t = eligible_apart t (world None s x t) (named_world s x t)
 
 -- a key that is chosen is that of an eligible member
-pub chosen_member : (s : Settings) (t : ℕ) (ms : List Member) → NamesApart label ms → (k : Key) → Among (chosen s t ms) k → (m : Member) × Among ms m × (is_eligible t m ≡ true) × (k ≡ next_key m)
+pub chosen_member : (s : Settings) (t : ℕ) (ms : List Member) → NamesApart label ms → (k : Key) → Among (chosen s t ms) k
+    → (m : Member) × Among ms m × (is_eligible t m ≡ true) × (k ≡ next_key m)
 chosen_member s t ms apart k h =
     let first = by_rank_first keys_total s.processors (eligible t ms) (once_from_names (eligible t ms) (eligible_apart t ms apart)) in
     let at = place_of (chosen s t ms) k (among_contains (chosen s t ms) k h) in

@@ -78,10 +78,7 @@ module _ (x : Schedule) (is : IsRun x) (td : ℕ) (missed : Subtask) (m : IsFirs
   reached_from t v from to holes zero s z le near h = absurd (omega arith)
   reached_from t v from to holes (suc n) s z le near h =
       let rest : (u : ℕ) (y : Subtask) → s < u → u ≤ t → In (picks x td missed u) y → IsReached x t v y = λ u y a b i. reached_from t v from to holes n u y b (omega (arith, a)) i in
-      elim (cases_eq s t) [
-        | inl same ↦ at_hole (subst (λ u. In (picks x td missed u) z) same h)
-        | inr other ↦ before_hole s z (omega (arith, other)) h rest (cases_Bool (is_full x td missed s))
-      ]
+      grind (arith, cases_eq, at_hole, before_hole, cases_Bool)
     where
       hole : is_full x td missed t ≡ false
       hole = holes t (omega arith) from

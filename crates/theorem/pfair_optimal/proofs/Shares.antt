@@ -70,9 +70,7 @@ module _ (x : Schedule) (is : IsRun x) (td : ℕ) (missed : Subtask) (m : IsFirs
       let here = among_here same_subtask subtask_exact (subtask_of a j ∷ []) (subtask_of a i) in
       let next = among_more same_subtask subtask_exact (subtask_of a i) (subtask_of a j ∷ []) (subtask_of a j) (among_here same_subtask subtask_exact [] (subtask_of a j)) in
       let two = shares_listed a v zs (λ k h s. ⊎_elim (λ e. subst (λ n. In zs (subtask_of a n)) (sym e) here) (λ e. subst (λ n. In zs (subtask_of a n)) (sym e) next) (only k h s)) in
-      let le = own_le x a v (subtask_of a i) in
-      let other = own_le x a v (subtask_of a j) in
-      omega arith
+      grind (arith, own_le)
 
   -- subtasks of a task that both have a share of a slot are neighbours
   near : (a : Task) (v i j : ℕ) → 1 ≤ i → 0 < share x (subtask_of a i) v → 0 < share x (subtask_of a j) v → j ≤ i + 1
