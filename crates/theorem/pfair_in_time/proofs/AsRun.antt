@@ -1,10 +1,10 @@
 -- The executive as a run: who is which task, and with which offsets in the end.
-use Rattle.std.proofs.Common.{◌≡◌, ℕ, zero, suc, ◌<◌, ◌≤◌, Bool, true, false, cond, List, [], ◌∷◌, Option, Some, None, arith, ap, refl, sym, ◌∙◌, subst, inl, inr, ⊎_elim, ◌⊎◌, not, ◌&&◌, map, ◌↔◌}
-use Rattle.pfair_in_time.proofs.Common.{find, list_any, true≢false, cases_lt, cases_eq, cases_Bool, or_left, or_right, Share, NamesApart, release_of, apart_head, apart_tail, name_itself, name_eq, Key, Among, among_map, map_among, among_all, Member, theta, is_departing, next_key, member_named, Settings, eligible, Story, world, named_world, any_among, index_of, apart_map}
+use Rattle.std.proofs.Common.{◌≡◌, ℕ, zero, suc, ◌<◌, ◌≤◌, Bool, true, false, cond, List, [], ◌∷◌, Option, Some, None, arith, ap, refl, sym, ◌∙◌, subst, inl, inr, ◌⊎◌, not, ◌&&◌, map, ◌↔◌}
+use Rattle.pfair_in_time.proofs.Common.{find, list_any, true≢false, cases_lt, cases_eq, cases_Bool, Share, NamesApart, release_of, apart_head, apart_tail, name_itself, name_eq, Key, Among, among_map, map_among, among_all, Member, theta, is_departing, next_key, member_named, Settings, eligible, Story, world, named_world, any_among, index_of, apart_map}
 use Rattle.pfair_order.proofs.NamesApart.{first_names}
 use Rattle.pfair_optimal.specs.Schedule.{Task, Subtask, Schedule, is_among, NoneTwice, same_task, same_subtask, is_row, has_run}
 use Rattle.pfair_optimal.proofs.Past.{task_exact, subtask_exact, ran_at, ran_by, ran_more}
-use Rattle.pfair_in_time.proofs.Worlds.{runs, on, on_next, keys_at, keys_apart, same_member, chosen_member, runs_chosen, chosen_runs, next_new, here, came_from, HaveWeights, any_from_among}
+use Rattle.pfair_in_time.proofs.Worlds.{runs, on_next, keys_at, keys_apart, same_member, chosen_member, runs_chosen, chosen_runs, next_new, here, came_from, HaveWeights, any_from_among}
 use Rattle.pfair_in_time.proofs.Lines.{IsLine, line_of}
 use Rattle.std.proofs.lemmas.Bool.{false_from_ne_true}
 use Rattle.pfair_table.proofs.FirstSubtasks.{found_own}

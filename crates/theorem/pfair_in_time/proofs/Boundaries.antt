@@ -1,10 +1,9 @@
 -- What boundaries make of members.
-use Rattle.std.proofs.Common.{◌≡◌, ℕ, ◌-◌, ◌*◌, ◌%◌, ◌<◌, ◌≤◌, Bool, true, false, List, [], ◌∷◌, ◌++◌, Option, Some, None, arith, ap, refl, sym, ◌∙◌, subst, inl, inr, ⊎_elim, ◌⊎◌, not, nat_lt, ◌||◌, is_some, if◌then◌else◌}
+use Rattle.std.proofs.Common.{◌≡◌, ℕ, ◌%◌, ◌<◌, ◌≤◌, Bool, true, false, List, [], ◌∷◌, ◌++◌, Option, Some, None, arith, ap, refl, sym, ◌∙◌, subst, inl, inr, ⊎_elim, ◌⊎◌, not, is_some, if◌then◌else◌}
 use Rattle.pfair_in_time.proofs.Common.{true≢false, false≢true, cases_lt, cases_Bool, or_parts, ltb-false, leb-true, not_from_false, same_Some, NamesApart, Share, IsWeight, release_of, name_exact, Among, among_left, among_append, among_filter, filter_among, among_map, map_among, Member, theta, is_departing, freeing_slot, Machine, is_named, member_named, departure, late_release, decision, newcomer, with_freeing, with_delay, change, effect, is_freed, present, decided, all_decided, boundary, Descends, IsSound, IsNew, theta_earlier, cases_eq, theta_rises, le_refl}
 use Rattle.pfair_entry.specs.declared.entry.Announcement.{Announcement}
 use Rattle.pfair_entry.specs.Entry.{IsWeighed}
-use Rattle.pfair_admission.specs.declared.decision.Decision.TheVariants.{Departing, Delayed, Refused}
-use Rattle.pfair_admission.specs.declared.decision.Refusal.TheVariants.{AlreadyDeparting, AlreadyReleased}
+use Rattle.pfair_admission.specs.declared.decision.Decision.TheVariants.{Departing, Delayed}
 use Rattle.pfair_admission.proofs.Effects.{by_effect}
 use Rattle.pfair_admission.proofs.NamesKept.{apart_effect, apart_present}
 use Rattle.pfair_table.proofs.FirstSubtasks.{found_own}

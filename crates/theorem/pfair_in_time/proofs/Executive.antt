@@ -1,9 +1,8 @@
 -- The executive keeps the premises of a run.
-use Rattle.std.proofs.Common.{◌≡◌, ℕ, zero, suc, ◌+◌, ◌-◌, ◌*◌, ◌%◌, ◌<◌, ◌≤◌, true, false, Option, Some, None, length, arith, ap, refl, sym, ◌∙◌, subst, inl, inr, ◌⊎◌, not, map, filter, nat_le, sum_by}
-use Rattle.pfair_in_time.proofs.Common.{Contains, true≢false, cases_lt, cases_eq, cases_order, cases_Bool, and_parts, and_from, not-true, not_from_false, le-leb, length-map, Share, IsWeight, units_of, release_of, deadline_of, b_bit_of, group_deadline_of, b_bit_at_most_one, Key, Among, among_contains, contains_among, filter_among, map_among, Member, theta, is_departing, eligible_from, next_key, Settings, eligible, is_eligible, Story, world, IsSound, theta_rises, any_among, eligible_no_later, same_Some}
-use Rattle.pfair_order.specs.Order.{GoesBefore, earlier_deadline, greater_b_bit, later_group, smaller_name, smaller_group}
+use Rattle.std.proofs.Common.{◌≡◌, ℕ, zero, suc, ◌+◌, ◌%◌, ◌<◌, ◌≤◌, true, false, Option, Some, None, length, arith, ap, refl, sym, ◌∙◌, subst, inl, inr, ◌⊎◌, not, map, filter, nat_le}
+use Rattle.pfair_in_time.proofs.Common.{Contains, true≢false, cases_lt, cases_eq, cases_order, and_parts, and_from, not-true, not_from_false, le-leb, length-map, Share, IsWeight, units_of, release_of, deadline_of, b_bit_of, group_deadline_of, b_bit_at_most_one, Key, Among, among_contains, contains_among, filter_among, map_among, Member, theta, is_departing, eligible_from, next_key, Settings, eligible, is_eligible, Story, world, IsSound, theta_rises, any_among, eligible_no_later, same_Some}
+use Rattle.pfair_order.specs.Order.{GoesBefore}
 use Rattle.pfair_order.proofs.NamesApart.{once_from_names}
-use Rattle.pfair_optimal.specs.Fluid.{busy_bound_of}
 use Rattle.pfair_optimal.specs.Schedule.{Task, Subtask, Schedule, is_among, same_task, release, deadline, b_bit, group_deadline, busy_bound, is_row, has_run, IsNext, GoesFirst}
 use Rattle.pfair_optimal.specs.Beginning.{IsRunBelow}
 use Rattle.pfair_optimal.proofs.Past.{task_exact, ran_by, ran_more}
@@ -11,7 +10,7 @@ use Rattle.pfair_in_time.proofs.Worlds.{any_from_among, runs, keys_at, keys_apar
 use Rattle.pfair_in_time.proofs.Lines.{line_of, back_to, on_to, IsGone}
 use Rattle.pfair_in_time.proofs.AsRun.{test_among, task_of, subtask_of, is_task, last_of, or_else, weight_in, offset_in, is_running, row_of, as_run, row_member, member_row, rows_apart, IsFinal, final, next_counted, all_before_ran, none_after_ran, find_task}
 use Rattle.pfair_in_time.proofs.Room.{room_world, sum_same}
-use Rattle.pfair_in_time.proofs.Claims.{bound_le_claim, IsPast, past_first}
+use Rattle.pfair_in_time.proofs.Claims.{bound_le_claim, past_first}
 use Rattle.std.proofs.lemmas.Bool.{false_from_ne_true}
 
 -- ---- who goes before whom

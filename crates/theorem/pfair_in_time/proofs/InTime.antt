@@ -1,11 +1,11 @@
 -- No admitted task misses.
-use Rattle.std.proofs.Common.{◌≡◌, ℕ, suc, ◌-◌, ◌<◌, ◌≤◌, true, false, cond, Option, Some, None, arith, ap, refl, sym, ◌∙◌, subst, inl, inr, not, nat_le, ⊎_elim, ◌⊎◌}
-use Rattle.pfair_in_time.proofs.Common.{cases_lt, cases_eq, cases_Bool, and_parts, leb-true, release_of, deadline_of, starts_job_of, Among, Member, theta, is_departing, eligible_from, eligible_at_job, Settings, Story, world, is_eligible, eligible_not_early}
-use Rattle.pfair_optimal.specs.Schedule.{Task, Subtask, deadline, is_row, has_run, IsNext}
+use Rattle.std.proofs.Common.{◌≡◌, ℕ, suc, ◌-◌, ◌<◌, ◌≤◌, true, false, cond, Option, Some, None, arith, ap, refl, subst, inl, inr, ◌⊎◌}
+use Rattle.pfair_in_time.proofs.Common.{cases_lt, cases_eq, cases_Bool, and_parts, leb-true, release_of, deadline_of, starts_job_of, Among, Member, theta, is_departing, eligible_at_job, Settings, Story, world, is_eligible, eligible_not_early}
+use Rattle.pfair_optimal.specs.Schedule.{deadline, is_row, has_run, IsNext}
 use Rattle.pfair_optimal.proofs.Beginnings.{beginning_none_misses, beginning_in_time}
 use Rattle.pfair_optimal.proofs.Past.{ran_at, ran_by, ran_more}
 use Rattle.pfair_in_time.proofs.Worlds.{same_member, runs, on_next, here, HaveWeights, index_after}
-use Rattle.pfair_in_time.proofs.AsRun.{task_of, subtask_of, last_of, or_else, offset_in, weight_in, as_run, row_member, member_row, next_counted, all_before_ran, none_after_ran, find_task}
+use Rattle.pfair_in_time.proofs.AsRun.{task_of, subtask_of, last_of, offset_in, weight_in, as_run, row_member, member_row, next_counted, all_before_ran, none_after_ran, find_task}
 use Rattle.pfair_in_time.proofs.Executive.{is_run, member_active}
 
 -- who may run in a slot, and isn't early or starts a job, is released by then

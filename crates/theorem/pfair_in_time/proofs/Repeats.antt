@@ -1,6 +1,6 @@
 -- A static schedule repeats after a common multiple of the periods.
-use Rattle.std.proofs.Common.{◌≡◌, ℕ, zero, suc, ◌+◌, ◌*◌, ◌/◌, ◌%◌, ◌<◌, ◌≤◌, Bool, true, false, cond, List, [], ◌∷◌, map, Option, Some, None, arith, ap, refl, sym, ◌∙◌, inl, inr, ◌||◌, not, nat_le, filter, option_map, if◌then◌else◌}
-use Rattle.pfair_in_time.proofs.Common.{AllByRecursion, find, list_any, cases_lt, mod-eq-sub-div-mul, div-mul-le_self, mul-mod_left, mul_comm, Share, IsWeight, units_of, release_of, group_deadline_of, starts_job_of, window_not_empty, name_eq, Key, Among, among_filter, map_same, Replica, said, Member, is_departing, next_key, is_named, member_named, newcomer, Pick, Settings, names_task, next_index, counted_one, is_eligible, eligible, index_of, pick, chosen, table_of, world, table, quanta}
+use Rattle.std.proofs.Common.{◌≡◌, ℕ, zero, suc, ◌+◌, ◌*◌, ◌/◌, ◌%◌, ◌<◌, ◌≤◌, Bool, true, false, cond, List, [], ◌∷◌, map, Option, Some, None, arith, ap, refl, sym, ◌∙◌, inl, inr, ◌||◌, nat_le, filter, option_map, if◌then◌else◌}
+use Rattle.pfair_in_time.proofs.Common.{AllByRecursion, find, list_any, cases_lt, mod-eq-sub-div-mul, div-mul-le_self, mul-mod_left, mul_comm, Share, IsWeight, units_of, release_of, group_deadline_of, window_not_empty, name_eq, Key, Among, among_filter, map_same, Replica, said, Member, is_departing, next_key, member_named, newcomer, Pick, Settings, names_task, next_index, counted_one, is_eligible, eligible, index_of, pick, chosen, table_of, world, table}
 use Rattle.std.proofs.lemmas.Bool.Decides.{nat_tests}
 use Rattle.std.proofs.lemmas.Nat.{div-add-mod'}
 use Rattle.std.proofs.lemmas.Simd.{map-map}

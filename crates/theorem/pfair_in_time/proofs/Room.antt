@@ -1,5 +1,5 @@
 -- The weights of the members have room in every slot.
-use Rattle.std.proofs.Common.{◌≡◌, ℕ, zero, suc, List, [], ◌∷◌, arith, refl, subst, sym, map, None, sum_by, inl, inr}
+use Rattle.std.proofs.Common.{◌≡◌, ℕ, zero, suc, List, [], ◌∷◌, arith, refl, subst, sym, map, None, sum_by}
 use Rattle.pfair_in_time.proofs.Common.{sum_by-cons, units_of, Member, announcements, room_boundary, Settings, machine, counted, counted_one, Story, history, world, world_counted, Among}
 use Rattle.pfair_admission.specs.Laws.{HaveRoom}
 

@@ -1,6 +1,6 @@
 -- The slots of all runs in which a member runs are in its windows.
 use Rattle.std.proofs.Common.{◌≡◌, ℕ, zero, suc, ◌+◌, ◌-◌, ◌*◌, ◌<◌, ◌≤◌, Bool, true, false, cond, List, [], length, get_or, max, None, arith, ap, sym, ◌∙◌, subst, inl, inr, is_some}
-use Rattle.pfair_in_time.proofs.Common.{cases_lt, Share, IsWeight, release_of, deadline_of, starts_job_of, Among, Replica, said, Member, theta, is_departing, theta_rises, Settings, Story, names_task, slot_of, world, table, Past, origin_after, table_through, IsRunAfter, IsServed, NoneMisses, Pick, Key, name_eq, name_itself, among_map, next_key, pick, chosen, index_of, named_from, history, counted, counted_on, slot_more, Origin, IsWeighedStory}
+use Rattle.pfair_in_time.proofs.Common.{cases_lt, release_of, deadline_of, starts_job_of, Among, Replica, said, Member, theta, is_departing, theta_rises, Settings, Story, names_task, slot_of, world, table, Past, origin_after, table_through, IsRunAfter, IsServed, NoneMisses, Pick, Key, name_eq, name_itself, among_map, next_key, pick, chosen, index_of, named_from, history, counted, counted_on, slot_more, Origin, IsWeighedStory}
 use Rattle.pfair_weight.specs.JobFacts.{deadline_repeats, job_due, job_released, release_repeats, starts_after_jobs}
 use Rattle.pfair_lag.specs.Picks.{InWindows, MeetsDeadlines}
 use Rattle.pfair_table.proofs.Within.{said_weighed}

@@ -1,6 +1,6 @@
 -- The members from one slot to the next.
-use Rattle.std.proofs.Common.{◌≡◌, ℕ, zero, suc, ◌+◌, ◌-◌, ◌≤◌, Bool, true, false, cond, List, [], ◌∷◌, Some, drop, arith, ap, refl, sym, ◌∙◌, subst, inl, inr, ⊎_elim, ◌⊎◌, not, is_some, filter, nat_le, count_by, None}
-use Rattle.pfair_in_time.proofs.Common.{list_any, true≢false, cases_Bool, and_parts, not-true, drop_all, drop-append-le, sum_by_push, same_Some, NamesApart, apart_nil, apart_map, name_eq, name_exact, name_itself, Key, Among, among_all, among_filter, among_map, map_among, among_contains, contains_among, Member, is_departing, busy_until, eligible_from, next_key, announcements, Settings, Table, machine, names_task, quanta, next_index, counted_one, counted, is_eligible, eligible, pick, chosen, Story, history, world, table, Pick, Descends, IsSound, IsNew, named_world, IsCounted, counted_world, long_history, world_counted, any_among, label, or_left, or_right}
+use Rattle.std.proofs.Common.{◌≡◌, ℕ, zero, suc, ◌+◌, ◌≤◌, Bool, true, false, cond, List, [], ◌∷◌, arith, ap, refl, sym, ◌∙◌, subst, inl, inr, ⊎_elim, ◌⊎◌, filter, count_by, None}
+use Rattle.pfair_in_time.proofs.Common.{list_any, cases_Bool, and_parts, not-true, drop_all, drop-append-le, sum_by_push, same_Some, NamesApart, apart_nil, apart_map, name_eq, name_exact, name_itself, Key, Among, among_all, among_filter, among_map, map_among, among_contains, contains_among, Member, is_departing, next_key, announcements, Settings, Table, machine, names_task, next_index, counted_one, counted, is_eligible, eligible, pick, chosen, Story, history, world, table, Pick, Descends, IsSound, IsNew, named_world, IsCounted, counted_world, long_history, world_counted, any_among, label, or_left, or_right}
 use Rattle.pfair_order.proofs.KeyLaws.{keys_total}
 use Rattle.pfair_order.proofs.InOrder.{by_rank_first}
 use Rattle.pfair_order.proofs.RankLemmas.{place_of}
