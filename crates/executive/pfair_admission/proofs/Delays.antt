@@ -83,9 +83,10 @@ at_key k q = grind (arith, nat_tests)
 delayed_push : (m : Member) (index by i : ℕ) → is_delayed_at (with_delay index by m) i ≡ (is_delayed_at m i || (index == i || false))
 delayed_push m index by i = list_any-append (at i) m.delays (record { index = index; by = by } ∷ [])
 
--- the next subtask is put off: its stepper is
-pub next_put_off : (m : Member) (p q : Position) (b : Bool) (coming : BTreeMap ℕ ℕ) (index by : ℕ) → index ≡ m.next → StandsAtNext m p b coming → q ≡ record p { theta = p.theta + by } → StandsAtNext (with_delay index by m) q true coming
-next_put_off m p q b coming index by next h is = grind (arith, nat_tests, theta_later, delayed_push, or-true, own_push)
+-- a subtask that isn't after the next one is put off: the stepper is
+pub now_put_off : (m : Member) (p q : Position) (b c : Bool) (coming : BTreeMap ℕ ℕ) (index by : ℕ) → index ≤ m.next → StandsAtNext m p b coming → q ≡ record p { theta = p.theta + by } → c ≡ (b || index == m.next)
+    → StandsAtNext (with_delay index by m) q c coming
+now_put_off m p q b c coming index by now h is put_off = grind (arith, nat_tests, theta_later, delayed_push, or-true, own_push)
 
 -- a later subtask is put off: its delay is still to come
 pub later_put_off : (m : Member) (p : Position) (b : Bool) (coming after : BTreeMap ℕ ℕ) (index by : ℕ) → m.next < index → StandsAtNext m p b coming
@@ -93,7 +94,7 @@ pub later_put_off : (m : Member) (p : Position) (b : Bool) (coming after : BTree
 later_put_off m p b coming after index by less h updates = grind (arith, nat_tests, theta_earlier, delayed_push, at_key, own_push)
 
 -- the stepper goes to the subtask after, and is put off by the delays with exactly its index
-pub stepped : (m : Member) (p q : Position) (b c : Bool) (coming after : BTreeMap ℕ ℕ) (delay : Option ℕ) → StandsAtNext m p b coming
+stepped : (m : Member) (p q : Position) (b c : Bool) (coming after : BTreeMap ℕ ℕ) (delay : Option ℕ) → StandsAtNext m p b coming
     → q ≡ record p { index = p.index + 1; theta = p.theta + unwrap_or delay 0 } → delay ≡ map.get nat_cmp coming (m.next + 1) → c ≡ is_some delay
     → map.Updates nat_cmp coming after (m.next + 1) None → StandsAtNext (with_quantum m) q c after
 stepped m p q b c coming after delay h is own some updates = grind (arith, theta_next, nat_tests, at_key)
@@ -114,6 +115,10 @@ pub noted : (a : Inside) (before after : Vec Delay) (p : Position) (b : Bool) (c
 noted a before after p b coming index by h fits same pushed stays stands = grind (arith, member_put_off, common_steps)
 
 -- once the next subtask has run
-pub has_run : (a : Inside) (p : Position) (b : Bool) (coming : BTreeMap ℕ ℕ) → IsIncarnation a → a.stepper.index < MAX_INDEX → p.index ≡ a.stepper.index + 1
-    → StandsAtNext (with_quantum (member_of a)) p b coming → IsIncarnation (record a { stepper = p; is_put_off = b; coming = coming })
-has_run a p b coming h more goes stands = grind arith
+pub has_run : (a : Inside) (p : Position) (b : Bool) (coming : BTreeMap ℕ ℕ) (delay : Option ℕ) → IsIncarnation a → a.stepper.index < MAX_INDEX → delay ≡ map.get nat_cmp a.coming (a.stepper.index + 1)
+    → p ≡ record a.stepper { index = a.stepper.index + 1; theta = a.stepper.theta + unwrap_or delay 0 } → b ≡ is_some delay → map.Updates nat_cmp a.coming coming (a.stepper.index + 1) None
+    → IsIncarnation (record a { stepper = p; is_put_off = b; coming = coming })
+has_run a p b coming delay h more own goes some updates =
+    let index = ap (λ (x : Position). x.index) goes in
+    let stands = stepped (member_of a) a.stepper p a.is_put_off b a.coming coming delay h.stands goes own some updates in
+    grind arith

@@ -9,9 +9,7 @@ ghost use Rattle.pfair_admission.specs.Restored.{member_in};
 ghost use Rattle.std.specs.Option.{option_map};
 
 use crate::decision::{Decision, Refusal};
-use crate::delay::{
-    Delay, add_at, carried_delays, coming_after, delay_up_to, is_delayed_at, total_delay,
-};
+use crate::delay::{Delay, carried_delays, delay_up_to, is_delayed_at, leaves_room};
 use crate::member_state::MemberState;
 use crate::members::{Members, Quantum};
 use pfair_entry::Entry;
@@ -223,48 +221,41 @@ impl Incarnation {
         if self.is_departing() {
             return Ok(Decision::Refused(Refusal::AlreadyDeparting));
         }
-        if index < self.next() || self.is_released_before(slot, index) {
+        // Its offset is at least that of the next subtask: only if this doesn't settle it are the
+        // delays summed.
+        if index < self.next()
+            || release(self.weight, index, self.stepper.theta()) < slot
+                && release(self.weight, index, self.theta(index)) < slot
+        {
             return Ok(Decision::Refused(Refusal::AlreadyReleased));
         }
         self.put_off(index, by)?;
         Ok(Decision::Delayed)
     }
 
-    // Its offset is at least that of the next subtask: only if this doesn't settle it are the
-    // delays summed.
-    fn is_released_before(&self, slot: u64, index: u64) -> bool
-        requires later { self.now.next ≤ index }
-        requires last { index ≤ MAX_INDEX }
-        ensures { result ≡ nat_lt (release_of self.now.weight index (theta self.now index)) slot }
-    {
-        if release(self.weight, index, self.stepper.theta()) >= slot {
-            return false;
-        }
-        release(self.weight, index, self.theta(index)) < slot
-    }
-
     // Subtask `index` and all after it come so many slots later.
     fn put_off(&mut self, index: u64, by: u64) -> Result<(), AllocError>
-        requires later { self.old.next ≤ index }
-        requires room { last_offset self.old + by ≤ MAX_OFFSET }
+        requires { last_offset self.old + by ≤ MAX_OFFSET }
         ensures ok { OnOk result (self.new ≡ with_delay index by self.old) }
         ensures err { OnErr result (self.new ≡ self.old) }
     {
         self.delays.reserve(1)?;
-        if index == self.stepper.index() {
-            self.stepper.delay(by);
-            self.is_put_off = true;
+        let next = self.stepper.index();
+        if index > next {
+            let so_far = self.coming.get(&index).copied().unwrap_or(0);
+            self.coming.insert(index, so_far + by)?;
         } else {
-            add_at(&mut self.coming, index, by)?;
+            self.stepper.delay(by);
+            self.is_put_off |= index == next;
         }
         self.delays.push(Delay { index, by })?;
         Ok(())
     }
 
-    /// Counts a quantum and returns its subtask's index, or `None` if it is departing.
-    pub(crate) fn run(&mut self) -> Option<u64>
+    /// Counts a quantum at this seat and returns it, or `None` if it is departing.
+    pub(crate) fn run_on(&mut self, seat: usize) -> Option<Quantum>
         requires { self.old.next < MAX_INDEX }
-        ensures index { result ≡ option_map (λ m. m.next) (running (Some self.old)) }
+        ensures quantum { option_map seatless result ≡ option_map quantum_of (running (Some self.old)) }
         ensures member { self.new ≡ after_quantum self.old }
     {
         if self.is_departing() {
@@ -274,19 +265,7 @@ impl Incarnation {
         self.stepper.advance();
         let delay = self.coming.remove(&(index + 1));
         self.is_put_off = delay.is_some();
-        if let Some(by) = delay {
-            self.stepper.delay(by);
-        }
-        Some(index)
-    }
-
-    /// Counts a quantum at this seat and returns it, or `None` if it is departing.
-    pub(crate) fn run_on(&mut self, seat: usize) -> Option<Quantum>
-        requires { self.old.next < MAX_INDEX }
-        ensures quantum { option_map seatless result ≡ option_map quantum_of (running (Some self.old)) }
-        ensures member { self.new ≡ after_quantum self.old }
-    {
-        let index = self.run()?;
+        self.stepper.delay(delay.unwrap_or(0));
         let (next_from, next_key) = self.next_subtask();
         Some(Quantum {
             index,
@@ -300,9 +279,8 @@ impl Incarnation {
     pub(crate) fn can_be_carried(&self) -> bool
         ensures { IsTrue result ↔ CanBeCarried self.now }
     {
-        let periods = self.jobs_done() * self.weight.period();
-        let offset = self.joined + total_delay(&self.delays) + periods;
-        self.weight.cost() <= Entry::LAST_INDEX && offset <= Members::LAST_SLOT
+        let joined = self.joined + self.jobs_done() * self.weight.period();
+        self.weight.cost() <= Entry::LAST_INDEX && leaves_room(&self.delays, joined)
     }
 
     /// The member of a next run, with its indexes lowered by whole jobs.
@@ -330,21 +308,19 @@ impl Incarnation {
         requires { IsMember (member_in state) }
         ensures { IfOk result (λ m. m ≡ member_in state) }
     {
-        let theta = state.joined + delay_up_to(&state.delays, state.next);
-        let stepper = Stepper::at(state.weight, state.next, theta);
-        let is_put_off = is_delayed_at(&state.delays, state.next);
-        let coming = coming_after(alloc, &state.delays, state.next)?;
-        Ok(Incarnation {
-            name: state.name,
-            weight: state.weight,
-            early: state.early,
-            joined: state.joined,
-            delays: state.delays,
-            stepper,
-            is_put_off,
-            coming,
-            freed_at: state.freed_at,
-        })
+        let mut member = Incarnation::new(
+            alloc,
+            state.name,
+            state.weight,
+            state.early,
+            state.joined,
+        );
+        member.stepper = Stepper::at(state.weight, state.next, state.joined);
+        member.freed_at = state.freed_at;
+        for delay in &state.delays {
+            member.put_off(delay.index, delay.by)?;
+        }
+        Ok(member)
     }
 
     // The whole jobs before that of the last subtask that ran.
@@ -362,24 +338,16 @@ impl Incarnation {
         ensures { result ≡ freeing_slot self.now slot }
     {
         if self.next() == 1 {
-            slot
-        } else {
-            slot.max(self.busy_until(self.next() - 1))
+            return slot;
         }
-    }
-
-    // The slot at which a member's claim ends if its last subtask was `index`.
-    fn busy_until(&self, index: u64) -> u64
-        requires first { 1 ≤ index }
-        requires last { index ≤ MAX_INDEX }
-        ensures { result ≡ busy_until self.now index }
-    {
-        let theta = self.theta(index);
-        if self.weight.is_heavy() {
-            group_deadline(self.weight, index, theta) + 1
+        let last = self.next() - 1;
+        let theta = self.theta(last);
+        let busy_until = if self.weight.is_heavy() {
+            group_deadline(self.weight, last, theta) + 1
         } else {
-            deadline(self.weight, index, theta) + b_bit(self.weight, index)
-        }
+            deadline(self.weight, last, theta) + b_bit(self.weight, last)
+        };
+        slot.max(busy_until)
     }
 }
 
@@ -387,8 +355,5 @@ impl Incarnation {
 pub(crate) fn has_come(freed_at: Option<u64>, slot: u64) -> bool
     ensures { result ≡ is_freed slot freed_at }
 {
-    match freed_at {
-        Some(freed_at) => freed_at <= slot,
-        None => false,
-    }
+    freed_at.is_some_and(|freed_at| freed_at <= slot)
 }

@@ -5,9 +5,8 @@ ghost use Rattle.pfair_weight.specs.Share.{IsWeight};
 ghost use Rattle.pfair_admission.specs.Restored.{is_left_at, is_summed_up, member_in};
 
 use crate::decision::Refusal;
-use crate::delay::Delay;
+use crate::delay::{Delay, leaves_room};
 use crate::incarnation::has_come;
-use crate::members::Members;
 use pfair_entry::Entry;
 use pfair_weight::{TaskName, Weight};
 use std::alloc::AllocError;
@@ -70,8 +69,7 @@ impl MemberState {
         if self.joined >= slot || has_come(self.freed_at, slot - 1) {
             return false;
         }
-        is_summed_up(&self.delays, self.next)
-            && ends_by(&self.delays, self.joined, Members::LAST_SLOT)
+        is_summed_up(&self.delays, self.next) && leaves_room(&self.delays, self.joined)
     }
 }
 
@@ -92,21 +90,4 @@ fn are_to_come(delays: &[Delay], next: u64) -> bool
     ensures { result ≡ list_all (λ d. nat_le next d.index) delays.now }
 {
     delays.iter().all(|d| d.index >= next)
-}
-
-// Whether a slot put off by all delays is at most the last.
-fn ends_by(delays: &[Delay], begin: u64, last: u64) -> bool
-    ensures { result ≡ nat_le (begin + sum_by (λ d. d.by) delays.now) last }
-{
-    if begin > last {
-        return false;
-    }
-    let mut room = last - begin;
-    for delay in delays {
-        if delay.by > room {
-            return false;
-        }
-        room -= delay.by;
-    }
-    true
 }
