@@ -5,7 +5,7 @@ pub use Rattle.pfair_admission.specs.Admission.{Machine, all_decided, all_decisi
 pub use Rattle.pfair_admission.specs.Carried.{CanBeCarried, all_raised, as_one, carried, carried_delays, coming_delays, delays_from, jobs_done, lowered, passed_delays, raised, subtasks_done, subtasks_of, taken_off}
 pub use Rattle.pfair_admission.specs.Incarnation.{IsIncarnation, StandsAtNext, member_of, own_delay}
 pub use Rattle.pfair_admission.specs.Laws.{AreInFrame, HaveRoom}
-pub use Rattle.pfair_admission.specs.Ledger.{IsFound, IsLedger, IsNamedIn, IsNumberOf, IsOnly, IsPlace, IsRegister, IsUnswept, Numbered, after_all, decisions_on, has_number, is_there, listed, membership, whole}
+pub use Rattle.pfair_admission.specs.Ledger.{IsDecided, IsFound, IsLedger, IsNamedIn, IsNumberOf, IsOnly, IsPlace, IsRegister, IsUnswept, CanJoin, Numbered, after_all, decisions_on, has_number, is_there, listed, membership, whole}
 pub use Rattle.pfair_admission.specs.Member.{IsMember, Member, busy_until, eligible_from, freeing_slot, is_delayed_at, is_departing, lag_at, last_offset, next_key, theta}
 pub use Rattle.pfair_admission.specs.Membership.{Membership}
 pub use Rattle.pfair_admission.specs.Removal.{IsNotBefore, NoneFreed, NoneFreedBefore, earlier_of}
@@ -40,7 +40,7 @@ pub use Rattle.std.proofs.lemmas.Grind.{common_steps}
 pub use Rattle.std.proofs.lemmas.List.{append-nil, map-append, take_more}
 pub use Rattle.std.proofs.lemmas.List.Elements.{filter-append}
 pub use Rattle.std.proofs.lemmas.List.Folds.{list_any-append}
-pub use Rattle.std.proofs.lemmas.List.Sums.{sum_by-append, sum_by-cons, sum_by_more, sum_by_more_le, sum_by_push}
+pub use Rattle.std.proofs.lemmas.List.Sums.{sum_by-append, sum_by-cons, sum_by_more_le, sum_by_push}
 pub use Rattle.std.proofs.lemmas.Option.{none-some, same_Some, slice_get-get_or, slice_get_within}
 pub use Rattle.std.specs.BTreeMap.{BTreeMap}
 pub use Rattle.std.specs.Cmp.Lexicographic.{nat_list_eq_equiv}

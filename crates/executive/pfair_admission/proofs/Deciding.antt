@@ -1,11 +1,15 @@
 -- What is left when an announcement is decided.
-use Rattle.pfair_admission.proofs.Common.{sum_by_push, cases_lt, nat_tests, same_Some, Share, units_of, MAX_OFFSET, Arrive, Depart, Late, Decision, Admitted, LONGEST_DELAY, MAX_PROCESSORS, MAX_FRAME, Member, last_offset, Machine, member_named, claimed, arrival, departure, late_release, newcomer, effect, present, decided, NoneFreed, EachHasRoom, is_there, Membership, ◌≡◌, ℕ, ◌+◌, ◌*◌, ◌≤◌, Bool, List, [], ◌∷◌, ◌++◌, Option, Some, None, Result, Ok, Err, IfOk, OnOk, OnErr, sym, ap, ◌∙◌, arith}
+use Rattle.pfair_admission.proofs.Common.{filter-append, sum_by_push, cases_lt, nat_tests, same_Some, Share, units_of, MAX_OFFSET, Arrive, Depart, Late, Decision, Admitted, LONGEST_DELAY, MAX_PROCESSORS, MAX_FRAME, Member, last_offset, Machine, member_named, claimed, arrival, departure, late_release, newcomer, effect, present, decided, NoneFreed, EachHasRoom, is_there, IsDecided, Membership, ◌≡◌, ℕ, ◌+◌, ◌*◌, ◌≤◌, Bool, List, [], ◌∷◌, ◌++◌, Option, Some, None, Result, Ok, Err, IfOk, OnOk, OnErr, sym, ap, ◌∙◌, arith}
 use Rattle.pfair_weight.specs.Options.{nothing}
-use Rattle.pfair_admission.proofs.MemberLists.{present_all, none_freed_push}
+use Rattle.pfair_admission.proofs.MemberLists.{present_all}
 use Rattle.pfair_admission.proofs.Written.{filter_again}
 
 pub product_fits : (p f : ℕ) → p ≤ MAX_PROCESSORS → f ≤ MAX_FRAME → p * f ≤ MAX_PROCESSORS * MAX_FRAME
 product_fits p f a b = grind arith
+
+-- one machine
+pub stood : (machine : Machine) {ms ns : List Member} → ms ≡ ns → ◌≡◌ {A = Membership} (record { machine = machine; members = ms }) (record { machine = machine; members = ns })
+stood machine e = ap (λ (l : List Member). record { machine = machine; members = l }) e
 
 -- ---- arrivals
 
@@ -18,12 +22,15 @@ pub admitted_room : (machine : Machine) (ms : List Member) (name : List ℕ) (w 
 admitted_room machine ms name w is = grind (arith, cases_lt, nat_tests)
 
 -- a newcomer comes after all others
-pub arrived : (machine : Machine) (t : ℕ) (ms : List Member) (name : List ℕ) (w : Share) (early : Bool) → NoneFreed t ms → Admitted ≡ arrival machine ms name w → ms ++ newcomer t name w early ∷ [] ≡ decided machine t ms (Arrive name w early)
-arrived machine t ms name w early h is = grind (arith, present_all, none_freed_push)
+pub arrived : (machine : Machine) (t : ℕ) (ms : List Member) (name : List ℕ) (w : Share) (early : Bool) → Admitted ≡ arrival machine (present t ms) name w → present t (ms ++ newcomer t name w early ∷ []) ≡ decided machine t (present t ms) (Arrive name w early)
+arrived machine t ms name w early is = grind (arith, filter-append, filter_again)
 
 -- or all is as it was
-pub not_arrived : (machine : Machine) (t : ℕ) (ms : List Member) (name : List ℕ) (w : Share) (early : Bool) (d : Decision) → NoneFreed t ms → (d ≡ Admitted → ⊥) → d ≡ arrival machine ms name w → ms ≡ decided machine t ms (Arrive name w early)
-not_arrived machine t ms name w early d h other is = grind (arith, present_all)
+pub not_arrived : {E : Type 0} (machine : Machine) (t : ℕ) (ms : List Member) (name : List ℕ) (w : Share) (early : Bool) (d : Decision) → NoneFreed t ms → (d ≡ Admitted → ⊥) → d ≡ arrival machine ms name w
+    → IsDecided {E = E} t (Arrive name w early) (record { machine = machine; members = ms }) (record { machine = machine; members = ms }) (Ok d)
+not_arrived machine t ms name w early d h other is =
+    let same : ms ≡ decided machine t ms (Arrive name w early) = grind (arith, present_all) in
+    record { decision = is; members = stood machine same; err = tt }
 
 pub claimed_arrived : (frame t : ℕ) (ms : List Member) (name : List ℕ) (w : Share) (early : Bool) → claimed frame (ms ++ newcomer t name w early ∷ []) ≡ claimed frame ms + units_of w frame
 claimed_arrived frame t ms name w early = sum_by_push (λ (m : Member). units_of m.weight frame) ms (newcomer t name w early)
@@ -35,10 +42,7 @@ pub room_of_named : (ms : List Member) (name : List ℕ) (m : Member) → EachHa
 room_of_named [] name m h found = absurd (cc)
 room_of_named (x ∷ ms) name m h found = grind (arith, same_Some, room_of_named ms name m h.1)
 
--- ---- one machine
-
-pub stood : (machine : Machine) {ms ns : List Member} → ms ≡ ns → ◌≡◌ {A = Membership} (record { machine = machine; members = ms }) (record { machine = machine; members = ns })
-stood machine e = ap (λ (l : List Member). record { machine = machine; members = l }) e
+-- ---- nobody has the name
 
 -- if nobody has the name nothing changes
 pub none_departs : (t : ℕ) (ms : List Member) (name : List ℕ) → member_named (present t ms) name ≡ None → present t ms ≡ present t (effect t (present t ms) (Depart name) (departure t (member_named (present t ms) name)))

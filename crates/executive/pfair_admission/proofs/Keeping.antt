@@ -1,11 +1,11 @@
 -- What boundaries and quanta keep.
 use Rattle.std.proofs.Common.{◌==◌, ◌||◌, max}
-use Rattle.pfair_admission.proofs.Common.{common_steps, filter, nat_tests, all_by_recursion_push, append-nil, sum_by-cons, sum_by_push, Share, units_of, Announcement, Decision, Admitted, Refused, Delay, Member, theta, busy_until, freeing_slot, is_delayed_at, eligible_from, Machine, all_decided, arrival, change, claimed, newcomer, with_delay, with_freeing, with_quantum, effect, is_freed, present, decision, decided, all_decisions, boundary, boundary_decisions, ran, carried, NoneFreed, ◌≡◌, ◌≢◌, ℕ, suc, ◌+◌, ◌-◌, ◌%◌, ◌<◌, ◌≤◌, Bool, true, false, cond, List, [], ◌∷◌, ◌++◌, length, get_or, map, refl, sym, ap, ◌∙◌, arith, not, if◌then◌else◌, or-true, release_of, Refusal, AreInFrame, HaveRoom}
+use Rattle.pfair_admission.proofs.Common.{common_steps, filter, nat_tests, all_by_recursion_push, append-nil, sum_by_push, Share, Announcement, Decision, Admitted, Refused, Delay, Member, theta, busy_until, freeing_slot, is_delayed_at, eligible_from, Machine, all_decided, arrival, change, newcomer, with_delay, with_freeing, with_quantum, effect, is_freed, present, decision, decided, all_decisions, boundary, boundary_decisions, ran, carried, NoneFreed, ◌≡◌, ◌≢◌, ℕ, suc, ◌+◌, ◌-◌, ◌%◌, ◌<◌, ◌≤◌, Bool, true, false, cond, List, [], ◌∷◌, ◌++◌, length, get_or, map, refl, sym, ap, ◌∙◌, arith, not, if◌then◌else◌, or-true, release_of, Refusal, AreInFrame, HaveRoom}
 use Rattle.std.proofs.lemmas.List.Kept.{AllPairs-filter}
 use Rattle.std.proofs.lemmas.List.Quantifiers.{all_pairs_push}
 use Rattle.pfair_weight.specs.Window.{starts_job_of}
 use Rattle.pfair_admission.specs.Laws.{JoinedInOrder}
-use Rattle.pfair_admission.proofs.MemberLists.{present_all, claimed_change, claimed_present, none_freed_present}
+use Rattle.pfair_admission.proofs.MemberLists.{claimed_carried, present_all, claimed_change, claimed_present, none_freed_present}
 use Rattle.pfair_admission.proofs.Each.{each_at, each_filter, each_map}
 use Rattle.pfair_admission.proofs.Effects.{by_boundary, by_effect, each_change}
 use Rattle.pfair_admission.proofs.Deciding.{admitted_room, claimed_arrived}
@@ -23,15 +23,6 @@ room_boundary machine t = by_boundary (HaveRoom machine) machine t (λ ms h. (le
 
 pub room_ran : (machine : Machine) (name : List ℕ) (ms : List Member) → HaveRoom machine ms → HaveRoom machine (ran name ms)
 room_ran machine name ms h = room_change machine name with_quantum (λ _. refl) ms h
-
-claimed_carried : (frame : ℕ) (ms : List Member) → claimed frame (map carried ms) ≡ claimed frame ms
-claimed_carried frame [] = refl
-claimed_carried frame (m ∷ ms) =
-    let units : Member → ℕ = λ (x : Member). units_of x.weight frame in
-    let more = sum_by-cons units (carried m) (map carried ms) in
-    let was = sum_by-cons units m ms in
-    let same = claimed_carried frame ms in
-    omega (arith, more, was, same)
 
 pub room_carried : (machine : Machine) (ms : List Member) → HaveRoom machine ms → HaveRoom machine (map carried ms)
 room_carried machine ms h = (let same = claimed_carried machine.frame ms in omega (arith, same, h))

@@ -1,9 +1,10 @@
 -- What the ledger keeps when a member is written.
 use Rattle.std.proofs.Common.{filter}
-use Rattle.pfair_admission.proofs.Common.{common_steps, all_by_recursion_push, sum_by_push, nat_tests, insert_entry, with_value_at, IsDistinct, keys_of, values_of, lookup, filter-append, name_eq, Share, units_of, Admitted, Member, Machine, arrival, claimed, member_named, newcomer, present, earlier_of, IsNotBefore, NoneFreed, NoneFreedBefore, is_there, listed, IsLedger, IsUnswept, Numbered, ◌≡◌, ℕ, ◌+◌, ◌≤◌, ◌<◌, Bool, true, cond, List, [], ◌∷◌, ◌++◌, Option, Some, None, refl, sym, ap, subst, ◌∙◌, arith, nat_eq, slice_get, Ledger}
+use Rattle.std.proofs.Common.{◌^◌}
+use Rattle.pfair_admission.proofs.Common.{whole, CanJoin, common_steps, all_by_recursion_push, sum_by_push, nat_tests, insert_entry, with_value_at, IsDistinct, keys_of, values_of, lookup, filter-append, name_eq, units_of, Admitted, Member, arrival, claimed, earlier_of, IsNotBefore, NoneFreed, NoneFreedBefore, is_there, listed, IsLedger, IsUnswept, Numbered, ◌≡◌, ℕ, ◌+◌, ◌≤◌, ◌<◌, Bool, true, cond, List, [], ◌∷◌, ◌++◌, Some, sym, ap, subst, ◌∙◌, arith, nat_eq, slice_get, Ledger}
 use Rattle.pfair_admission.proofs.Changes.{IsLike}
-use Rattle.pfair_admission.proofs.Deciding.{admitted_new, admitted_room, claimed_arrived}
-use Rattle.pfair_admission.proofs.MemberLists.{claimed_present, first_earlier, first_push, not_before_right, present_all}
+use Rattle.pfair_admission.proofs.Deciding.{admitted_new, admitted_room}
+use Rattle.pfair_admission.proofs.MemberLists.{claimed_present, first_earlier, not_before_own, present_all}
 use Rattle.pfair_admission.proofs.Registers.{register_more, register_written}
 use Rattle.pfair_admission.proofs.Written.{claimed_written, filter_all, first_at, first_written, values_written}
 use Rattle.pfair_admission.proofs.Each.{each}
@@ -38,7 +39,7 @@ ledger_left t a place slot claim m n k at there name weight freed sum =
       total = omega (arith, was, values, sum, k.total);
       first = subst (NoneFreedBefore (earlier_of a.first_freeing (Some slot))) (sym (values_written a.members.entries place n))
           (first_written (earlier_of a.first_freeing (Some slot)) (listed a) place n (first_earlier a.first_freeing (Some slot) (listed a) k.first)
-          (subst (IsNotBefore (earlier_of a.first_freeing (Some slot))) (sym freed) (not_before_right a.first_freeing slot)));
+          (subst (IsNotBefore (earlier_of a.first_freeing (Some slot))) (sym freed) (not_before_own a.first_freeing (Some slot))));
     }
 
 -- the units of a member that is freed at once
@@ -48,59 +49,34 @@ gone_units t slot units n freed now = grind (arith, nat_tests)
 pub held_units : (t slot units : ℕ) (n : Member) → n.freed_at ≡ Some slot → t < slot → cond (is_there t n) 0 units ≡ 0
 held_units t slot units n freed later = grind (arith, nat_tests)
 
--- a newcomer
-pub values_pushed : (es : Numbered) (k : ℕ) (m : Member) → values_of (es ++ (k, m) ∷ []) ≡ values_of es ++ m ∷ []
-values_pushed es k m = grind (arith, common_steps)
+-- ---- a member that stands behind all others
 
--- comes after those that are left
-pub present_pushed : (t : ℕ) (es es' : Numbered) (k : ℕ) (name : List ℕ) (w : Share) (early : Bool) → es' ≡ es ++ (k, newcomer t name w early) ∷ [] → present t (values_of es') ≡ present t (values_of es) ++ newcomer t name w early ∷ []
-present_pushed t es es' k name w early made = grind (arith, values_pushed, filter-append)
+pub values_pushed : (es es' : Numbered) (k : ℕ) (m : Member) → es' ≡ es ++ (k, m) ∷ [] → values_of es' ≡ values_of es ++ m ∷ []
+values_pushed es es' k m made = grind (arith, common_steps)
 
-pub ledger_more : (t : ℕ) (a b : Ledger) (name : List ℕ) (w : Share) (early : Bool) → IsLedger (is_there t) a → Admitted ≡ arrival (record { processors = a.processors; frame = a.frame }) (present t (listed a)) name w
-    → b.members.entries ≡ a.members.entries ++ (a.admitted, newcomer t name w early) ∷ [] → IsDistinct nat_eq (keys_of b.members.entries) → b.names.entries ≡ insert_entry name_eq a.names.entries name a.admitted
-    → ((q : List ℕ) → lookup (name_eq q) b.names.entries ≡ cond (name_eq name q) (Some a.admitted) (lookup (name_eq q) a.names.entries))
-    → IsLedger (is_there t) (record a { members = b.members; names = b.names; admitted = a.admitted + 1; claim = a.claim + units_of w a.frame })
-ledger_more t a b name w early k is made unique entered updates =
-    let machine : Machine = record { processors = a.processors; frame = a.frame } in
-    let sum = claimed_arrived a.frame t (present t (listed a)) name w early in
-    let all = ap (claimed a.frame) (present_pushed t a.members.entries b.members.entries a.admitted name w early made) in
-    let fits = admitted_room machine (present t (listed a)) name w is in
-    record {
-      register = register_more (is_there t) a.admitted a.members.entries b.members.entries a.names.entries b.names.entries (newcomer t name w early) k.register (admitted_new machine (present t (listed a)) name w is) made unique entered updates;
-      few_processors = k.few_processors;
-      short_frame = k.short_frame;
-      room = omega (arith, fits, k.total);
-      total = omega (arith, sum, all, k.total);
-      first = subst (NoneFreedBefore a.first_freeing) (sym (ap (λ (l : Numbered). values_of l) made ∙ values_pushed a.members.entries a.admitted (newcomer t name w early)))
-          (first_push a.first_freeing (listed a) (newcomer t name w early) refl k.first);
-    }
-
--- a member that stands behind all others
-not_before_own : (first slot : Option ℕ) → IsNotBefore (earlier_of first slot) slot
-not_before_own first None = tt
-not_before_own first (Some slot) = not_before_right first slot
-
-pub ledger_joined : (a b : Ledger) (m : Member) → IsLedger (λ _. true) a → Admitted ≡ arrival (record { processors = a.processors; frame = a.frame }) (listed a) m.name m.weight
+pub ledger_joined : (counts : Member → Bool) (a b : Ledger) (m : Member) → CanJoin counts a m
     → b.members.entries ≡ a.members.entries ++ (a.admitted, m) ∷ [] → IsDistinct nat_eq (keys_of b.members.entries) → b.names.entries ≡ insert_entry name_eq a.names.entries m.name a.admitted
     → ((q : List ℕ) → lookup (name_eq q) b.names.entries ≡ cond (name_eq m.name q) (Some a.admitted) (lookup (name_eq q) a.names.entries))
-    → IsLedger (λ _. true) (record a { members = b.members; names = b.names; admitted = a.admitted + 1; claim = a.claim + units_of m.weight a.frame; first_freeing = earlier_of a.first_freeing m.freed_at })
-ledger_joined a b m k is made unique entered updates =
-    let machine : Machine = record { processors = a.processors; frame = a.frame } in
-    let values = ap (λ (l : Numbered). values_of l) made ∙ values_pushed a.members.entries a.admitted m in
-    let sum = sum_by_push (λ (x : Member). units_of x.weight a.frame) (listed a) m in
-    let all = ap (claimed a.frame) (filter_all (listed b) ∙ values) in
-    let was = ap (claimed a.frame) (filter_all (listed a)) in
-    let fits = admitted_room machine (listed a) m.name m.weight is in
+    → IsLedger counts (record a { members = b.members; names = b.names; admitted = a.admitted + 1; claim = a.claim + units_of m.weight a.frame; first_freeing = earlier_of a.first_freeing m.freed_at })
+ledger_joined counts a b m can made unique entered updates =
+    let k = can.kept in
+    let values = values_pushed a.members.entries b.members.entries a.admitted m made in
+    let all = ap (λ (ms : List Member). claimed a.frame (filter counts ms)) values ∙ ap (claimed a.frame) (filter-append counts (listed a) (m ∷ []))
+    ∙ ap (λ b. claimed a.frame (filter counts (listed a) ++ cond b (m ∷ []) [])) can.counted ∙ sum_by_push (λ (x : Member). units_of x.weight a.frame) (filter counts (listed a)) m in
     record {
-      register = register_more (λ _. true) a.admitted a.members.entries b.members.entries a.names.entries b.names.entries m k.register
-          (ap (λ (l : List Member). member_named l m.name) (filter_all (listed a)) ∙ admitted_new machine (listed a) m.name m.weight is) made unique entered updates;
+      register = register_more counts a.admitted a.members.entries b.members.entries a.names.entries b.names.entries m k.register can.free made unique entered updates;
       few_processors = k.few_processors;
       short_frame = k.short_frame;
-      room = omega (arith, fits, was, k.total);
-      total = omega (arith, sum, all, was, k.total);
+      room = can.room;
+      total = omega (arith, all, k.total);
       first = subst (NoneFreedBefore (earlier_of a.first_freeing m.freed_at)) (sym values)
           (all_by_recursion_push (λ x. IsNotBefore (earlier_of a.first_freeing m.freed_at) x.freed_at) (listed a) m (first_earlier a.first_freeing m.freed_at (listed a) k.first) (not_before_own a.first_freeing m.freed_at));
     }
+
+pub can_join : (counts : Member → Bool) (a : Ledger) (m : Member) → IsLedger counts a → a.admitted + 1 < 2 ^ 64 → counts m ≡ true → Admitted ≡ arrival (whole a).machine (filter counts (listed a)) m.name m.weight → CanJoin counts a m
+can_join counts a m k numbers counted is =
+    let fits = admitted_room (whole a).machine (filter counts (listed a)) m.name m.weight is in
+    record { kept = k; numbers = numbers; counted = counted; free = admitted_new (whole a).machine (filter counts (listed a)) m.name m.weight is; room = omega (arith, fits, k.total) }
 
 -- ---- before and after a boundary
 

@@ -1,5 +1,5 @@
 -- Lists of members: who is freed, and what they claim.
-use Rattle.pfair_admission.proofs.Common.{common_steps, same_Some, slice_get-get_or, slice_get_within, sum_by-cons, sum_by_more, sum_by_more_le, nat_tests, units_of, Member, claimed, change, is_freed, present, earlier_of, IsNotBefore, NoneFreedBefore, NoneFreed, ◌≡◌, ℕ, ◌+◌, ◌≤◌, false, cond, List, [], ◌∷◌, ◌++◌, get_or, take, Option, Some, None, refl, sym, ap, subst, ◌∙◌, arith, not, slice_get}
+use Rattle.pfair_admission.proofs.Common.{AllByRecursion, all_by_recursion_push, sum_by_push, take_more, map, carried, common_steps, same_Some, slice_get-get_or, slice_get_within, sum_by-cons, sum_by_more_le, nat_tests, units_of, Member, claimed, change, is_freed, present, earlier_of, IsNotBefore, NoneFreedBefore, NoneFreed, ◌≡◌, ℕ, ◌+◌, ◌≤◌, false, cond, List, [], ◌∷◌, ◌++◌, get_or, take, Option, Some, refl, sym, ap, subst, ◌∙◌, arith, not, slice_get}
 use Rattle.pfair_admission.proofs.Sums.{sum_filter}
 
 -- ---- who is freed
@@ -14,9 +14,6 @@ pub none_freed_present : (t : ℕ) (ms : List Member) → NoneFreed t (present t
 none_freed_present t [] = tt
 none_freed_present t (m ∷ ms) = grind (arith, none_freed_present t ms)
 
-pub none_freed_push : (t : ℕ) (ms : List Member) (m : Member) → NoneFreed t ms → is_freed t m.freed_at ≡ false → NoneFreed t (ms ++ m ∷ [])
-none_freed_push t ms m h stays = grind (arith, common_steps)
-
 -- before the first freeing slot nobody is freed
 later_stays : (t : ℕ) (first slot : Option ℕ) → is_freed t first ≡ false → IsNotBefore first slot → is_freed t slot ≡ false
 later_stays t first slot before not_before = grind (arith, nat_tests)
@@ -30,15 +27,25 @@ none_freed_before t first (m ∷ ms) before h = (later_stays t first m.freed_at 
 pub not_before_left : (first other slot : Option ℕ) → IsNotBefore first slot → IsNotBefore (earlier_of first other) slot
 not_before_left first other slot h = grind arith
 
-pub not_before_right : (first : Option ℕ) (slot : ℕ) → IsNotBefore (earlier_of first (Some slot)) (Some slot)
-not_before_right first slot = grind arith
+pub not_before_own : (first slot : Option ℕ) → IsNotBefore (earlier_of first slot) slot
+not_before_own first slot = grind arith
 
 pub first_earlier : (first other : Option ℕ) (ms : List Member) → NoneFreedBefore first ms → NoneFreedBefore (earlier_of first other) ms
 first_earlier first other [] h = tt
 first_earlier first other (m ∷ ms) h = (not_before_left first other m.freed_at h.0, first_earlier first other ms h.1)
 
-pub first_push : (first : Option ℕ) (ms : List Member) (m : Member) → m.freed_at ≡ None → NoneFreedBefore first ms → NoneFreedBefore first (ms ++ m ∷ [])
-first_push first ms m none h = grind (arith, common_steps)
+-- ---- one member more
+
+pub take_one : (ms : List Member) (place : ℕ) (m : Member) → slice_get ms place ≡ Some m → take (place + 1) ms ≡ take place ms ++ m ∷ []
+take_one ms place m at =
+    let inside = slice_get_within ms place m at in
+    take_more ms place m inside ∙ ap (λ (x : Member). take place ms ++ x ∷ []) (same_Some (get_or ms place m) m (sym (slice_get-get_or ms place m inside) ∙ at))
+
+pub each_more : (P : Member → Type 0) (ms : List Member) (place : ℕ) (m : Member) → slice_get ms place ≡ Some m → P m → AllByRecursion P (take place ms) → AllByRecursion P (take (place + 1) ms)
+each_more P ms place m at own before = subst (AllByRecursion P) (sym (take_one ms place m at)) (all_by_recursion_push P (take place ms) m before own)
+
+pub first_more : (first : Option ℕ) (ms : List Member) (place : ℕ) (m : Member) → slice_get ms place ≡ Some m → NoneFreedBefore first (take place ms) → NoneFreedBefore (earlier_of first m.freed_at) (take (place + 1) ms)
+first_more first ms place m at h = each_more (λ x. IsNotBefore (earlier_of first m.freed_at) x.freed_at) ms place m at (not_before_own first m.freed_at) (first_earlier first m.freed_at (take place ms) h)
 
 -- ---- what is claimed
 
@@ -46,14 +53,16 @@ first_push first ms m none h = grind (arith, common_steps)
 pub claimed_change : (frame : ℕ) (name : List ℕ) (f : Member → Member) → ((m : Member) → (f m).weight ≡ m.weight) → (ms : List Member) → claimed frame (change name f ms) ≡ claimed frame ms
 claimed_change frame name f keeps ms = grind (arith, sum_by-cons, common_steps)
 
+-- and so does carrying
+pub claimed_carried : (frame : ℕ) (ms : List Member) → claimed frame (map carried ms) ≡ claimed frame ms
+claimed_carried frame ms = grind (arith, sum_by-cons, map, common_steps)
+
 pub claimed_present : (frame t : ℕ) (ms : List Member) → claimed frame (present t ms) ≤ claimed frame ms
 claimed_present frame t ms = sum_filter (λ (m : Member). units_of m.weight frame) (λ (m : Member). not (is_freed t m.freed_at)) ms
 
 -- one member more
 pub claimed_more : (frame : ℕ) (ms : List Member) (place : ℕ) (m : Member) → slice_get ms place ≡ Some m → claimed frame (take (place + 1) ms) ≡ claimed frame (take place ms) + units_of m.weight frame
-claimed_more frame ms place m at =
-    let is = same_Some (get_or ms place m) m (sym (slice_get-get_or ms place m (slice_get_within ms place m at)) ∙ at) in
-    sum_by_more (λ (x : Member). units_of x.weight frame) ms place m (slice_get_within ms place m at) ∙ ap (λ (x : Member). claimed frame (take place ms) + units_of x.weight frame) is
+claimed_more frame ms place m at = ap (claimed frame) (take_one ms place m at) ∙ sum_by_push (λ (x : Member). units_of x.weight frame) (take place ms) m
 
 pub claimed_part : (frame : ℕ) (ms : List Member) (place : ℕ) (m : Member) → slice_get ms place ≡ Some m → claimed frame (take place ms) + units_of m.weight frame ≤ claimed frame ms
 claimed_part frame ms place m at =

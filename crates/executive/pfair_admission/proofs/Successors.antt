@@ -1,16 +1,19 @@
 -- The members of a next run, numbered anew.
-use Rattle.std.proofs.Common.{filter}
-use Rattle.pfair_admission.proofs.Common.{common_steps, AllByRecursion, IsDistinct, keys_of, values_of, lookup, all_by_recursion_push, map-append, take_more, sum_by-cons, same_Some, none-some, slice_get-get_or, slice_get_within, insert_entry, NameValue, name_eq, LONGEST_DELAY, LAST_SLOT, Member, last_offset, claimed, is_named, member_named, carried, CanBeCarried, listed, IsLedger, IsRegister, Numbered, IsNotBefore, NoneFreedBefore, EachBounded, ◌≡◌, ℕ, zero, suc, ◌+◌, ◌*◌, ◌<◌, ◌≤◌, true, cond, List, [], ◌∷◌, ◌++◌, get_or, length, map, take, Some, None, refl, sym, ap, subst, ◌∙◌, arith, nat_eq, slice_get, Ledger}
+use Rattle.std.proofs.Common.{filter, ◌^◌}
+use Rattle.pfair_admission.proofs.MemberLists.{claimed_carried, claimed_part, take_one}
+use Rattle.pfair_admission.proofs.Common.{CanJoin, Membership, whole, units_of, length-append, common_steps, AllByRecursion, keys_of, values_of, lookup, map-append, same_Some, none-some, name_eq, LONGEST_DELAY, LAST_SLOT, Member, last_offset, claimed, is_named, member_named, carried, CanBeCarried, listed, IsLedger, IsRegister, Numbered, EachBounded, ◌≡◌, ℕ, zero, suc, ◌+◌, ◌*◌, ◌<◌, ◌≤◌, true, List, [], ◌∷◌, ◌++◌, length, map, take, Some, None, refl, sym, ap, ◌∙◌, arith, slice_get, Ledger}
 use Rattle.pfair_admission.proofs.Each.{each_map}
-use Rattle.pfair_admission.proofs.Kept.{values_pushed}
-use Rattle.pfair_admission.proofs.Registers.{number_at, one_place, register_more, same_name, Names}
+use Rattle.pfair_admission.proofs.Registers.{number_at, one_place, same_name, Names}
 use Rattle.pfair_order.proofs.RankLemmas.{at_each}
 use Rattle.pfair_admission.proofs.Written.{filter_all, others_named}
 
--- the first members are carried, each under the number of its place
-pub record AreCarried (all : List Member) (place : ℕ) (members : Numbered) (names : Names) : Type 0 where
-  pub listed : values_of members ≡ map carried (take place all)
-  pub register : IsRegister (λ _. true) place members names
+-- the first members are carried
+pub record AreCarried (a : Ledger) (place : ℕ) (next : Ledger) : Type 0 where
+  pub members : listed next ≡ map carried (take place (listed a))
+  pub processors : next.processors ≡ a.processors
+  pub frame : next.frame ≡ a.frame
+  pub admitted : next.admitted ≡ place
+  pub kept : IsLedger (λ _. true) next
 
 -- ---- no name stands twice
 
@@ -39,20 +42,36 @@ unnamed admitted es names place m r here = grind (arith, others_named, map, carr
 
 -- ---- one more is carried
 
-pub carried_more : (admitted : ℕ) (es : Numbered) (ns : Names) (place : ℕ) (m : Member) (now after : Numbered) (names names' : Names)
-    → IsRegister (λ _. true) admitted es ns → slice_get (values_of es) place ≡ Some m → AreCarried (values_of es) place now names
-    → after ≡ now ++ (place, carried m) ∷ [] → IsDistinct nat_eq (keys_of after) → names' ≡ insert_entry name_eq names m.name place
-    → ((q : NameValue) → lookup (name_eq q) names' ≡ cond (name_eq m.name q) (Some place) (lookup (name_eq q) names)) → AreCarried (values_of es) (place + 1) after names'
-carried_more admitted es ns place m now after names names' r here so_far made unique entered updates =
-    let ms : List Member = values_of es in
-    let inside : place < length ms = slice_get_within ms place m here in
-    let is = same_Some (get_or ms place m) m (sym (slice_get-get_or ms place m inside) ∙ here) in
-    let none = ap (λ (l : List Member). member_named (filter (λ _. true) l) m.name) so_far.listed ∙ unnamed admitted es ns place m r here in
+pub carried_joins : (a next : Ledger) (place : ℕ) (m n : Member) → IsLedger (λ _. true) a → slice_get (listed a) place ≡ Some m → n ≡ carried m → place + 1 < 2 ^ 64 → AreCarried a place next → CanJoin (λ _. true) next n
+carried_joins a next place m n k here is few s =
+    rw is (record {
+      kept = s.kept;
+      numbers = omega (arith, few, s.admitted);
+      counted = refl;
+      free = ap (λ (l : List Member). member_named (filter (λ _. true) l) m.name) s.members ∙ unnamed a.admitted a.members.entries a.names.entries place m k.register here;
+      room =
+          (let part = claimed_part a.frame (listed a) place m here in
+          let all = ap (claimed a.frame) (filter_all (listed a)) in
+          let now : claimed next.frame (filter (λ _. true) (listed next)) ≡ claimed a.frame (take place (listed a)) = (λ i. claimed (s.frame i) (filter_all (listed next) i)) ∙ ap (claimed a.frame) s.members ∙ claimed_carried a.frame (take place (listed a)) in
+          let units = ap (λ n. units_of m.weight n) s.frame in
+          let most : next.processors * next.frame ≡ a.processors * a.frame = λ i. s.processors i * s.frame i in
+          omega (arith, part, all, now, units, most, k.total, k.room, s.kept.total));
+    })
+
+pub carried_more : (a next after : Ledger) (place : ℕ) (m n : Member) → slice_get (listed a) place ≡ Some m → n ≡ carried m → AreCarried a place next → whole after ≡ record (whole next) { members = listed next ++ n ∷ [] }
+    → after.admitted + length (listed next) ≡ next.admitted + length (listed after) → IsLedger (λ _. true) after → AreCarried a (place + 1) after
+carried_more a next after place m n here is s all numbers kept =
+    let ms : List Member = listed a in
+    let members = ap (λ (x : Membership). x.members) all in
+    let longer = ap (λ (l : List Member). length l) members in
     record {
-      listed =
-          ap (λ (l : Numbered). values_of l) made ∙ values_pushed now place (carried m) ∙ ap (λ (l : List Member). l ++ carried m ∷ []) so_far.listed
-          ∙ sym (ap (map carried) (take_more ms place m inside ∙ ap (λ (x : Member). take place ms ++ x ∷ []) is) ∙ map-append carried (take place ms) (m ∷ []));
-      register = register_more (λ _. true) place now after names names' (carried m) so_far.register none made unique entered updates;
+      members =
+          members ∙ (λ i. s.members i ++ is i ∷ [])
+          ∙ sym (ap (map carried) (take_one ms place m here) ∙ map-append carried (take place ms) (m ∷ []));
+      processors = ap (λ (x : Membership). x.machine.processors) all ∙ s.processors;
+      frame = ap (λ (x : Membership). x.machine.frame) all ∙ s.frame;
+      admitted = omega (arith, longer, length-append (listed next) (n ∷ []), numbers, s.admitted);
+      kept = kept;
     }
 
 -- ---- who can be carried
@@ -60,37 +79,9 @@ carried_more admitted es ns place m now after names names' r here so_far made un
 pub able_at : (ms : List Member) (place : ℕ) (m : Member) → slice_get ms place ≡ Some m → AllByRecursion CanBeCarried ms → CanBeCarried m
 able_at ms place m at able = at_each CanBeCarried ms place m able at
 
-pub able_more : (ms : List Member) (place : ℕ) (m : Member) → slice_get ms place ≡ Some m → CanBeCarried m → AllByRecursion CanBeCarried (take place ms) → AllByRecursion CanBeCarried (take (place + 1) ms)
-able_more ms place m at able before =
-    let inside = slice_get_within ms place m at in
-    let is = same_Some (get_or ms place m) m (sym (slice_get-get_or ms place m inside) ∙ at) in
-    subst (AllByRecursion CanBeCarried) (sym (take_more ms place m inside ∙ ap (λ (x : Member). take place ms ++ x ∷ []) is)) (all_by_recursion_push CanBeCarried (take place ms) m before able)
-
 -- all are listed
 pub all_listed : (es : Numbered) (n : ℕ) → n ≡ length es → take n (values_of es) ≡ values_of es
 all_listed es n is = grind (arith, common_steps)
-
--- ---- what the ledger of a next run keeps
-
--- they claim what they claimed
-pub claimed_carried : (frame : ℕ) (ms : List Member) → claimed frame (map carried ms) ≡ claimed frame ms
-claimed_carried frame ms = grind (arith, sum_by-cons, map, common_steps)
-
-pub ledger_carried : (a b : Ledger) (admitted : ℕ) → IsLedger (λ _. true) a → listed b ≡ map carried (listed a) → IsRegister (λ _. true) admitted b.members.entries b.names.entries
-    → IsLedger (λ _. true) (record a { members = b.members; names = b.names; admitted = admitted })
-ledger_carried a b admitted k is register =
-    let now = ap (claimed a.frame) (filter_all (listed b) ∙ is) in
-    let same = claimed_carried a.frame (listed a) in
-    let was = ap (claimed a.frame) (filter_all (listed a)) in
-    record {
-      register = register;
-      few_processors = k.few_processors;
-      short_frame = k.short_frame;
-      room = k.room;
-      total = omega (arith, now, same, was, k.total);
-      first = subst (NoneFreedBefore a.first_freeing) (sym is)
-          (each_map (λ (m : Member). IsNotBefore a.first_freeing m.freed_at) (λ (m : Member). IsNotBefore a.first_freeing m.freed_at) carried (λ m h. h) (listed a) k.first);
-    }
 
 -- with no announcement counted the offsets are within the last slot of a boundary
 pub bounded_carried : (ms : List Member) → AllByRecursion CanBeCarried ms → EachBounded 0 (map carried ms)

@@ -3,7 +3,7 @@ use Rattle.std.specs.Prelude.{ℕ, ◌≡◌, ◌≤◌, ◌<◌, ◌+◌, ◌-�
 use Rattle.std.specs.List.{AllByRecursion, IsDistinct}
 use Rattle.std.specs.Map.{keys_of, values_of, lookup}
 use Rattle.pfair_weight.specs.Name.{NameValue, name_eq}
-use Rattle.pfair_weight.specs.Share.{Share}
+use Rattle.pfair_weight.specs.Share.{Share, units_of}
 use Rattle.pfair_entry.specs.declared.entry.Announcement.{Announcement}
 use Rattle.pfair_admission.specs.declared.decision.Decision.{Decision}
 use Rattle.pfair_admission.specs.Member.{Member}
@@ -107,6 +107,14 @@ pub record IsLedger (counts : Member → Bool) (a : Ledger) : Type 0 where
   pub room : a.claim ≤ a.processors * a.frame
   pub total : a.claim ≡ claimed a.frame (filter counts (listed a))
   pub first : NoneFreedBefore a.first_freeing (listed a)
+
+-- the member can be added: nobody who counts has its name, and there is room for its units
+pub record CanJoin (counts : Member → Bool) (a : Ledger) (m : Member) : Type 0 where
+  pub kept : IsLedger counts a
+  pub numbers : a.admitted + 1 < 2 ^ 64
+  pub counted : counts m ≡ true
+  pub free : member_named (filter counts (listed a)) m.name ≡ None
+  pub room : a.claim + units_of m.weight a.frame ≤ a.processors * a.frame
 
 -- before those that are gone by slot t are dropped: the claim is that of all, or without theirs
 pub record IsUnswept (t : ℕ) (a : Ledger) : Type 0 where

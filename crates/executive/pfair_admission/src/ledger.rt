@@ -11,7 +11,7 @@ ghost use Rattle.pfair_admission.specs.Carried.{carried, CanBeCarried};
 ghost use Rattle.pfair_admission.specs.Removal.{earlier_of, NoneFreed, NoneFreedBefore};
 ghost use Rattle.pfair_admission.specs.Roster.{EachHasRoom};
 ghost use Rattle.pfair_admission.specs.Restored.{member_in, CanBeRestored, IsRestoreFault};
-ghost use Rattle.pfair_admission.specs.Ledger.{after, after_all, decisions_on, has_number, is_there, listed, membership, decision_on, whole, CanDecide, HasDecided, HasRegister, IsArrivalByWeight, IsDecided, IsFound, IsLedger, IsPlace, IsUnswept};
+ghost use Rattle.pfair_admission.specs.Ledger.{after, after_all, decisions_on, has_number, is_there, listed, membership, decision_on, whole, CanDecide, CanJoin, HasDecided, HasRegister, IsArrivalByWeight, IsDecided, IsFound, IsLedger, IsPlace, IsUnswept};
 
 use crate::decision::{Decision, Refusal};
 use crate::incarnation::{Incarnation, has_come};
@@ -82,8 +82,15 @@ impl Ledger {
         }
         keep_present(&mut self.members, slot);
         keep_names(&mut self.names, &self.members);
-        self.claim = units(&self.members, self.frame);
-        self.first_freeing = first_freeing(&self.members);
+        let mut claim = 0;
+        let mut first = None;
+        for place in 0..self.members.len() {
+            let member = &self.members[place];
+            claim += claim_of(member.weight(), self.frame);
+            first = earlier(first, member.freed_at());
+        }
+        self.claim = claim;
+        self.first_freeing = first;
     }
 
     /// Decides the announcements one by one.
@@ -143,27 +150,34 @@ impl Ledger {
         ensures kept { IsLedger (is_there slot) self.new }
         ensures admitted { self.new.admitted ≤ self.old.admitted + 1 }
     {
-        let decision = self.arrival(slot, &name, weight);
+        if self.place_of(slot, &name).is_some() {
+            return Ok(Decision::Refused(Refusal::NameTaken));
+        }
+        let decision = self.arrival_by_weight(weight);
         if let Decision::Admitted = decision {
-            self.members.reserve(1)?;
-            self.names.reserve(1)?;
-            let newcomer = Incarnation::new(self.alloc, name, weight, early, slot);
-            self.members.insert(self.admitted, newcomer).unwrap();
-            self.names.insert(name, self.admitted).unwrap();
-            self.admitted += 1;
-            self.claim += claim_of(weight, self.frame);
+            self.add(Incarnation::new(self.alloc, name, weight, early, slot))?;
         }
         Ok(decision)
     }
 
-    fn arrival(&self, slot: u64, name: &TaskName, weight: Weight) -> Decision
-        requires { IsLedger (is_there slot) self.now }
-        ensures { result ≡ arrival (membership slot self.now).machine (present slot (listed self.now)) name.now weight }
+    // Adds a member behind the others.
+    fn add(&mut self, member: Incarnation) -> Result<(), AllocError>
+        requires { (counts : Member → Bool) × CanJoin counts self.old member }
+        ensures members { OnOk result (whole self.new ≡ record (whole self.old) { members = listed self.old ++ member ∷ [] }) }
+        ensures err { OnErr result (whole self.new ≡ whole self.old) }
+        ensures kept { (counts : Member → Bool) → CanJoin counts self.old member → IsLedger counts self.new }
+        ensures numbers { self.new.admitted + length (listed self.old) ≡ self.old.admitted + length (listed self.new) }
+        ensures admitted { self.new.admitted ≤ self.old.admitted + 1 }
     {
-        if self.place_of(slot, name).is_some() {
-            return Decision::Refused(Refusal::NameTaken);
-        }
-        self.arrival_by_weight(weight)
+        self.members.reserve(1)?;
+        self.names.reserve(1)?;
+        let (name, weight, freed_at) = (*member.name(), member.weight(), member.freed_at());
+        self.members.insert(self.admitted, member).unwrap();
+        self.names.insert(name, self.admitted).unwrap();
+        self.admitted += 1;
+        self.claim += claim_of(weight, self.frame);
+        self.first_freeing = earlier(self.first_freeing, freed_at);
+        Ok(())
     }
 
     // What is decided on an arrival whose name is free.
@@ -256,15 +270,7 @@ impl Ledger {
         if !state.is_left_at(slot) {
             return Err(RestoreFault::NotLeft);
         }
-        let (name, weight, freed_at) = (state.name, state.weight, state.freed_at);
-        self.members.reserve(1)?;
-        self.names.reserve(1)?;
-        let member = Incarnation::restored(self.alloc, state)?;
-        self.members.insert(self.admitted, member).unwrap();
-        self.names.insert(name, self.admitted).unwrap();
-        self.admitted += 1;
-        self.claim += claim_of(weight, self.frame);
-        self.first_freeing = earlier(self.first_freeing, freed_at);
+        self.add(Incarnation::restored(self.alloc, state)?)?;
         Ok(())
     }
 
@@ -278,25 +284,22 @@ impl Ledger {
         ensures kept { IfOk result (λ next. IsLedger (λ _. true) next) }
     {
         let tasks = self.members.len();
-        let mut members = IndexMap::new(self.alloc);
-        let mut names = IndexMap::new(self.alloc);
-        members.reserve(tasks)?;
-        names.reserve(tasks)?;
-        for place in 0..tasks {
-            let member = &self.members[place];
-            names.insert(*member.name(), place as u64)?;
-            members.insert(place as u64, member.carried(self.alloc)?)?;
-        }
-        Ok(Ledger {
+        let mut next = Ledger {
             alloc: self.alloc,
             processors: self.processors,
             frame: self.frame,
-            members,
-            names,
-            admitted: tasks as u64,
-            claim: self.claim,
-            first_freeing: self.first_freeing,
-        })
+            members: IndexMap::new(self.alloc),
+            names: IndexMap::new(self.alloc),
+            admitted: 0,
+            claim: 0,
+            first_freeing: None,
+        };
+        next.members.reserve(tasks)?;
+        next.names.reserve(tasks)?;
+        for place in 0..tasks {
+            next.add(self.members[place].carried(self.alloc)?)?;
+        }
+        Ok(next)
     }
 }
 
@@ -319,27 +322,6 @@ fn keep_names(names: &mut IndexMap<TaskName, u64>, members: &IndexMap<u64, Incar
             ensures { (result ≡ has_number number.old members.entry.now.entries) × (number.new ≡ number.old) }
         { members.contains_key(&*number) },
     );
-}
-
-fn units(members: &IndexMap<u64, Incarnation>, frame: u64) -> u64
-    requires { claimed frame (values members.now) < 2 ^ 64 }
-    ensures { result ≡ claimed frame (values members.now) }
-{
-    let mut total = 0;
-    for place in 0..members.len() {
-        total += claim_of(members[place].weight(), frame);
-    }
-    total
-}
-
-fn first_freeing(members: &IndexMap<u64, Incarnation>) -> Option<u64>
-    ensures { NoneFreedBefore result (values members.now) }
-{
-    let mut first = None;
-    for place in 0..members.len() {
-        first = earlier(first, members[place].freed_at());
-    }
-    first
 }
 
 // Returns the units of a weight whose period divides the frame.

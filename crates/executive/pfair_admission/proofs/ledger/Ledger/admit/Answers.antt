@@ -1,50 +1,46 @@
-use Rattle.pfair_admission.proofs.Common.{lookup, insert_entry, insert_entry-new, name_eq, Member, newcomer, present, listed, Numbered, rules, ◌≡◌, ◌++◌, ◌∷◌, [], Result, Ok, Err, OnOk, Some, cond, ap, ◌∙◌, nat_eq}
+use Rattle.pfair_admission.proofs.Common.{CanJoin, Member, Membership, Admitted, arrival, newcomer, member_named, present, is_there, listed, refl, whole, None, ◌≡◌, ◌++◌, ◌∷◌, [], sym, ap, ◌∙◌, arith}
 use Rattle.pfair_admission.proofs.Deciding.{arrived, not_arrived, stood}
-use Rattle.pfair_admission.proofs.Kept.{ledger_more, present_pushed}
+use Rattle.pfair_admission.proofs.Kept.{can_join}
 use Rattle.pfair_admission.proofs.MemberLists.{none_freed_present}
-use Rattle.pfair_admission.proofs.Registers.{fresh}
+use Rattle.pfair_admission.proofs.Restoring.{arrival_taken}
+use Rattle.pfair_admission.proofs.Written.{taken}
 use Rattle.pfair_admission.proofs.ledger.Ledger.admit.Goals as goal
-use Rattle.pfair_admission.proofs.ledger.Ledger.admit.Goals.{After-claim_of}
+use Rattle.pfair_admission.proofs.ledger.Ledger.admit.Goals.{After-arrival_by_weight-decision}
 
-on_ok : {A E P : Type 0} (r : Result A E) (x : A) → r ≡ Ok x → OnOk r P → P
-on_ok (Ok y) x is h = h
-on_ok (Err e) x is h = absurd (cc)
+pub returns-then-is_some-clause-decided : goal.returns-then-is_some-clause-decided
+returns-then-is_some-clause-decided c =
+    let ms = present c.args.slot (listed c.args.self.now) in
+    let some = taken (is_there c.args.slot) c.args.name (listed c.args.self.now) c.place_of.result (sym c.is_some.ensures ∙ c.if-is_some.true) c.place_of.ensures.some in
+    not_arrived (whole c.args.self.now).machine c.args.slot ms c.args.name c.args.weight c.args.early _ (none_freed_present c.args.slot (listed c.args.self.now)) (λ other. absurd (cc)) (sym (arrival_taken (whole c.args.self.now).machine ms c.args.name c.args.weight some))
 
-made : (c : After-claim_of) → c.insert.new.self.entries ≡ c.args.self.now.members.entries ++ (c.args.self.now.admitted, newcomer c.args.slot c.args.name c.args.weight c.args.early) ∷ []
-made c =
-    let a = c.args.self.now in
-    on_ok c.insert.result c.unwrap.result c.unwrap.ensures c.insert.ensures.entries
-    ∙ insert_entry-new nat_eq c.reserve.new.self a.admitted c.new-newcomer.result (ap (lookup (nat_eq a.admitted)) c.reserve.ensures.entries ∙ fresh a.admitted a.members.entries c.requires.kept.register.numbered)
-    ∙ ap (λ (es : Numbered). es ++ (a.admitted, c.new-newcomer.result) ∷ []) c.reserve.ensures.entries
-    ∙ ap (λ (m : Member). a.members.entries ++ (a.admitted, m) ∷ []) c.new-newcomer.ensures
+-- what is decided on the name and the weight
+beside : (c : After-arrival_by_weight-decision) → c.arrival_by_weight-decision.result ≡ arrival (whole c.args.self.now).machine (present c.args.slot (listed c.args.self.now)) c.args.name c.args.weight
+beside c =
+    let free : member_named (present c.args.slot (listed c.args.self.now)) c.args.name ≡ None = grind arith in
+    c.arrival_by_weight-decision.ensures (present c.args.slot (listed c.args.self.now)) c.args.name free (sym c.requires.kept.total)
 
-pub returns-in_ok-reserve-2-clause-decided : goal.returns-in_ok-reserve-2-clause-decided
-returns-in_ok-reserve-2-clause-decided c =
-    let a = c.args.self.now in
+can : (c : After-arrival_by_weight-decision) → c.arrival_by_weight-decision.result ≡ Admitted → CanJoin (is_there c.args.slot) c.args.self.now (newcomer c.args.slot c.args.name c.args.weight c.args.early)
+can c is = can_join (is_there c.args.slot) c.args.self.now (newcomer c.args.slot c.args.name c.args.weight c.args.early) c.requires.kept c.requires.numbers refl (sym is ∙ beside c)
+
+pub add-requires : goal.add-requires
+add-requires c = (is_there c.args.slot, rw c.new.ensures (can ((goal.at.add-requires c).After-arrival_by_weight-decision) c.in-Admitted.is))
+
+pub returns-in_ok-add-clause-decided : goal.returns-in_ok-add-clause-decided
+returns-in_ok-add-clause-decided c =
+    let at = (goal.at.returns-in_ok-add-clause-decided c).After-arrival_by_weight-decision in
+    let ms = listed c.args.self.now in
+    let all = c.in_ok-add.ensures.members ∙ ap (λ (m : Member). record (whole c.args.self.now) { members = ms ++ m ∷ [] }) c.new.ensures in
     record {
-      decision = search rules;
-      err = search rules;
-      members = stood _
-          (present_pushed c.args.slot a.members.entries c.insert.new.self.entries a.admitted c.args.name c.args.weight c.args.early (made ((goal.at.returns-in_ok-reserve-2-clause-decided c).After-claim_of))
-          ∙ arrived (record { processors = a.processors; frame = a.frame }) c.args.slot (present c.args.slot (listed a)) c.args.name c.args.weight c.args.early (none_freed_present c.args.slot (listed a)) c.in-Admitted.ensures);
+      decision = beside at;
+      members = ap (λ (s : Membership). record s { members = present c.args.slot s.members }) all
+          ∙ stood _ (arrived (whole c.args.self.now).machine c.args.slot ms c.args.name c.args.weight c.args.early (sym c.in-Admitted.is ∙ beside at));
+      err = tt;
     }
 
-pub returns-in_ok-reserve-2-clause-kept : goal.returns-in_ok-reserve-2-clause-kept
-returns-in_ok-reserve-2-clause-kept c =
-    let a = c.args.self.now in
-    let names = c.reserve-in-Admitted.ensures.entries in
-    rw c.claim_of.ensures.value
-    (ledger_more c.args.slot a (record a { members = c.insert.new.self; names = c.insert-in-Admitted.new.self }) c.args.name c.args.weight c.args.early c.requires.kept c.in-Admitted.ensures
-    (made ((goal.at.returns-in_ok-reserve-2-clause-kept c).After-claim_of)) c.insert.ensures.unique
-    (on_ok c.insert-in-Admitted.result c.unwrap-in-Admitted.result c.unwrap-in-Admitted.ensures c.insert-in-Admitted.ensures.entries ∙ ap (λ l. insert_entry name_eq l c.args.name a.admitted) names)
-    (λ q. (on_ok c.insert-in-Admitted.result c.unwrap-in-Admitted.result c.unwrap-in-Admitted.ensures c.insert-in-Admitted.ensures.updates).0 q ∙ ap (λ l. cond (name_eq c.args.name q) (Some a.admitted) (lookup (name_eq q) l)) names))
-
-pub returns-in_default-clause-decided : goal.returns-in_default-clause-decided
-returns-in_default-clause-decided c =
-    let a = c.args.self.now in
-    record {
-      decision = search rules;
-      err = search rules;
-      members = stood _
-          (not_arrived (record { processors = a.processors; frame = a.frame }) c.args.slot (present c.args.slot (listed a)) c.args.name c.args.weight c.args.early c.arrival-decision.result (none_freed_present c.args.slot (listed a)) c.in_default.not-Admitted c.arrival-decision.ensures);
-    }
+pub returns-in_default : goal.returns-in_default
+returns-in_default c = record {
+  decided = not_arrived (whole c.args.self.now).machine c.args.slot (present c.args.slot (listed c.args.self.now)) c.args.name c.args.weight c.args.early _ (none_freed_present c.args.slot (listed c.args.self.now)) c.in_default.not-Admitted
+      (beside ((goal.at.returns-in_default c).After-arrival_by_weight-decision));
+  kept = c.requires.kept;
+  admitted = omega arith;
+}

@@ -1,29 +1,24 @@
-use Rattle.pfair_admission.proofs.Common.{lookup, insert_entry, insert_entry-new, NameValue, name_eq, carried, listed, IsRegister, Member, ◌≡◌, ◌++◌, ◌∷◌, [], Some, cond, map, true, subst, ap, ◌∙◌, arith, nat_eq}
-use Rattle.pfair_admission.proofs.Registers.{fresh}
-use Rattle.pfair_admission.proofs.Successors.{able_at, all_listed, carried_more, ledger_carried}
+use Rattle.pfair_admission.proofs.Common.{listed, true, arith, ◌≡◌, ◌∙◌, ap, map, carried, CanJoin}
+use Rattle.pfair_admission.proofs.Successors.{able_at, all_listed, carried_joins, carried_more}
 use Rattle.pfair_admission.proofs.ledger.Ledger.carried.Goals as goal
+use Rattle.pfair_admission.proofs.ledger.Ledger.carried.Goals.{In_ok-carried}
 
 pub carried-requires : goal.carried-requires
-carried-requires c = able_at (listed c.args.self.now) c.loop-place.place c.index-member.result.now c.index-member.ensures c.requires.able
+carried-requires c = able_at (listed c.args.self.now) c.loop-place.place c.index.result.now c.index.ensures c.requires.able
+
+can : (c : In_ok-carried) → CanJoin (λ _. true) c.loop-place.next c.in_ok-carried.field-0
+can c = carried_joins c.args.self.now c.loop-place.next c.loop-place.place c.index.result.now c.in_ok-carried.field-0 c.requires.kept c.index.ensures c.in_ok-carried.ensures (omega (arith, c.loop-place-test.true, c.len-tasks.ensures.small)) c.loop-place.invariant
+
+pub add-requires : goal.add-requires
+add-requires c = (λ _. true, can ((goal.at.add-requires c).In_ok-carried))
 
 pub loop-place-preserved : goal.loop-place-preserved
 loop-place-preserved c =
-    let a = c.args.self.now in
-    let now = c.loop-place.members.entries in
-    let names = c.loop-place.names.entries in
-    let place = c.loop-place.place in
-    carried_more a.admitted a.members.entries a.names.entries place c.index-member.result.now now c.insert-in-loop-place.new.self.entries names c.insert.new.self.entries
-    c.requires.kept.register c.index-member.ensures c.loop-place.invariant
-    (c.in_ok-insert-2.ensures.entries ∙ insert_entry-new nat_eq c.loop-place.members place c.in_ok-carried.field-0 (fresh place now c.loop-place.invariant.register.numbered)
-    ∙ ap (λ (m : Member). now ++ (place, m) ∷ []) c.in_ok-carried.ensures)
-    c.in_ok-insert-2.ensures.unique
-    (c.in_ok-insert.ensures.entries ∙ ap (λ (n : NameValue). insert_entry name_eq names n place) c.name.ensures.value)
-    (λ q. c.in_ok-insert.ensures.updates.0 q ∙ ap (λ (n : NameValue). cond (name_eq n q) (Some place) (lookup (name_eq q) names)) c.name.ensures.value)
+    let can = can ((goal.at.loop-place-preserved c).In_ok-carried) in
+    carried_more c.args.self.now c.loop-place.next c.add.new.self c.loop-place.place c.index.result.now c.in_ok-carried.field-0 c.index.ensures c.in_ok-carried.ensures c.loop-place.invariant
+    c.in_ok-add.ensures.members c.in_ok-add.ensures.numbers (c.in_ok-add.ensures.kept (λ _. true) can)
 
-pub returns-clause-kept : goal.returns-clause-kept
-returns-clause-kept c =
-    let a = c.args.self.now in
+pub returns-clause-members : goal.returns-clause-members
+returns-clause-members c =
     let end : c.loop-place.place ≡ c.len-tasks.result = omega (arith, c.loop-place-test.false, c.loop-place.auto.place-end) in
-    ledger_carried a (record a { members = c.loop-place.members; names = c.loop-place.names }) c.len-tasks.result c.requires.kept
-    (c.loop-place.invariant.listed ∙ ap (map carried) (all_listed a.members.entries c.loop-place.place (end ∙ c.len-tasks.ensures.len)))
-    (subst (λ n. IsRegister (λ _. true) n c.loop-place.members.entries c.loop-place.names.entries) end c.loop-place.invariant.register)
+    c.loop-place.invariant.members ∙ ap (map carried) (all_listed c.args.self.now.members.entries c.loop-place.place (end ∙ c.len-tasks.ensures.len))

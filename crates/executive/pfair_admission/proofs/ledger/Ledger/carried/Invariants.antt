@@ -1,6 +1,5 @@
-use Rattle.pfair_admission.proofs.Common.{listed}
 use Rattle.pfair_admission.proofs.Successors.{AreCarried}
 use Rattle.pfair_admission.proofs.ledger.Ledger.carried.Given as goal
 
 abbrev pub invariant-loop-place : goal.invariant-loop-place
-invariant-loop-place l = AreCarried (listed l.self) l.place l.members.entries l.names.entries
+invariant-loop-place l = AreCarried l.self l.place l.next

@@ -1,11 +1,9 @@
-use Rattle.pfair_admission.proofs.Common.{lookup, values_of, insert_entry, insert_entry-new, name_eq, Member, arrival, claimed, Admitted, listed, whole, Numbered, member_in, ◌≡◌, true, List, ◌++◌, ◌∷◌, [], Result, Ok, Err, OnOk, Some, cond, length, length-append, refl, sym, ap, ◌∙◌, arith, nat_eq}
-use Rattle.pfair_admission.proofs.Deciding.{stood}
-use Rattle.pfair_admission.proofs.Kept.{ledger_joined, values_pushed}
+use Rattle.pfair_admission.proofs.Common.{arrival, claimed, Member, CanJoin, Refusal, Refused, Admitted, listed, whole, member_in, ◌≡◌, true, List, ◌++◌, ◌∷◌, [], refl, sym, ap, ◌∙◌}
+use Rattle.pfair_admission.proofs.Kept.{can_join}
 use Rattle.pfair_admission.proofs.Written.{filter_all}
-use Rattle.pfair_admission.proofs.Registers.{fresh}
 use Rattle.pfair_admission.proofs.Restoring.{admitted_else, arrival_taken, is_left, left_at, name_found, name_free}
 use Rattle.pfair_admission.proofs.ledger.Ledger.restore.Goals as goal
-use Rattle.pfair_admission.proofs.ledger.Ledger.restore.Goals.{After-arrival_by_weight, After-claim_of}
+use Rattle.pfair_admission.proofs.ledger.Ledger.restore.Goals.{After-arrival_by_weight, In_ok-restored}
 
 pub returns-then-is_some-clause-fault : goal.returns-then-is_some-clause-fault
 returns-then-is_some-clause-fault c =
@@ -24,47 +22,37 @@ beside c =
 pub returns-in-Refused-clause-fault : goal.returns-in-Refused-clause-fault
 returns-in-Refused-clause-fault c = sym (beside ((goal.at.returns-in-Refused-clause-fault c).After-arrival_by_weight)) ∙ c.in-Refused.is
 
-pub returns-then-not-is_left_at : goal.returns-then-not-is_left_at
-returns-then-not-is_left_at c = record {
-  fit = tt;
-  members = tt;
-  fault = λ left. (let is = is_left c.args.slot (member_in c.args.state) left in absurd (let no = sym c.is_left_at.ensures.value ∙ c.if-not-is_left_at.true in cc));
-  err = refl;
-  kept = c.requires.kept;
-  numbers = refl;
+pub returns-then-not-is_left_at-clause-fault : goal.returns-then-not-is_left_at-clause-fault
+returns-then-not-is_left_at-clause-fault c left = let is = is_left c.args.slot (member_in c.args.state) left in absurd (let no = sym c.is_left_at.ensures.value ∙ c.if-not-is_left_at.true in cc)
+
+admitted : (c : After-arrival_by_weight) → ((refusal : Refusal) → c.arrival_by_weight.result ≡ Refused refusal → ⊥) → Admitted ≡ arrival (whole c.args.self.now).machine (listed c.args.self.now) c.args.state.name c.args.state.weight
+admitted c other = admitted_else (whole c.args.self.now).machine (listed c.args.self.now) c.args.state.name c.args.state.weight c.arrival_by_weight.result (beside c) other
+
+can : (c : In_ok-restored) → Admitted ≡ arrival (whole c.args.self.now).machine (listed c.args.self.now) c.args.state.name c.args.state.weight → CanJoin (λ _. true) c.args.self.now c.in_ok-restored.field-0
+can c is =
+    let a = c.args.self.now in
+    rw c.in_ok-restored.ensures
+    (can_join (λ _. true) a (member_in c.args.state) c.requires.kept c.requires.numbers refl
+    (is ∙ ap (λ (ms : List Member). arrival (whole a).machine ms c.args.state.name c.args.state.weight) (sym (filter_all (listed a)))))
+
+pub add-requires : goal.add-requires
+add-requires c = let at = goal.at.add-requires c in (λ _. true, can at.In_ok-restored (admitted at.After-arrival_by_weight c.in_default.not-Refused))
+
+pub returns-in_err-add-clause-kept : goal.returns-in_err-add-clause-kept
+returns-in_err-add-clause-kept c =
+    let at = goal.at.returns-in_err-add-clause-kept c in
+    c.in_err-add.ensures.kept (λ _. true) (can at.In_ok-restored (admitted at.After-arrival_by_weight c.in_default.not-Refused))
+
+pub returns-clause-kept : goal.returns-clause-kept
+returns-clause-kept c =
+    let at = goal.at.returns-clause-kept c in
+    c.in_ok-add.ensures.kept (λ _. true) (can at.In_ok-restored (admitted at.After-arrival_by_weight c.in_default.not-Refused))
+
+pub returns-clause-fit : goal.returns-clause-fit
+returns-clause-fit c = record {
+  admitted = sym (admitted ((goal.at.returns-clause-fit c).After-arrival_by_weight) c.in_default.not-Refused);
+  left = left_at c.args.slot (member_in c.args.state) c.is_left_at.ensures.weight (sym c.is_left_at.ensures.value ∙ c.if-not-is_left_at.false);
 }
 
-on_ok : {A E P : Type 0} (r : Result A E) (x : A) → r ≡ Ok x → OnOk r P → P
-on_ok (Ok y) x is h = h
-on_ok (Err e) x is h = absurd (cc)
-
--- it stands behind the others
-made : (c : After-claim_of) → c.insert.new.self.entries ≡ c.args.self.now.members.entries ++ (c.args.self.now.admitted, member_in c.args.state) ∷ []
-made c =
-    let a = c.args.self.now in
-    on_ok c.insert.result c.unwrap.result c.unwrap.ensures c.insert.ensures.entries
-    ∙ insert_entry-new nat_eq c.reserve.new.self a.admitted c.in_ok-member.member (ap (lookup (nat_eq a.admitted)) c.reserve.ensures.entries ∙ fresh a.admitted a.members.entries c.requires.kept.register.numbered)
-    ∙ ap (λ (es : Numbered). es ++ (a.admitted, c.in_ok-member.member) ∷ []) c.reserve.ensures.entries
-    ∙ ap (λ (m : Member). a.members.entries ++ (a.admitted, m) ∷ []) c.in_ok-member.ensures
-
-pub returns : goal.returns
-returns c =
-    let at = (goal.at.returns c).After-claim_of in
-    let a = c.args.self.now in
-    let m = member_in c.args.state in
-    let values : values_of c.insert.new.self.entries ≡ listed a ++ m ∷ [] = ap (λ (es : Numbered). values_of es) (made at) ∙ values_pushed a.members.entries a.admitted m in
-    let is : Admitted ≡ arrival (whole a).machine (listed a) m.name m.weight =
-    (let so = beside ((goal.at.returns c).After-arrival_by_weight) in admitted_else (whole a).machine (listed a) m.name m.weight c.arrival_by_weight.result so c.in_default.not-Refused) in
-    let names = c.reserve-2.ensures.entries in
-    record {
-      fit = record { admitted = sym is; left = left_at c.args.slot m c.is_left_at.ensures.weight (sym c.is_left_at.ensures.value ∙ c.if-not-is_left_at.false) };
-      members = stood _ values;
-      fault = tt;
-      err = tt;
-      kept = rw c.claim_of.ensures.value
-          (rw c.earlier-self.ensures
-          (ledger_joined a (record a { members = c.insert.new.self; names = c.insert-2.new.self }) m c.requires.kept is (made at) c.insert.ensures.unique
-          (on_ok c.insert-2.result c.unwrap-self.result c.unwrap-self.ensures c.insert-2.ensures.entries ∙ ap (λ l. insert_entry name_eq l m.name a.admitted) names)
-          (λ q. (on_ok c.insert-2.result c.unwrap-self.result c.unwrap-self.ensures c.insert-2.ensures.updates).0 q ∙ ap (λ l. cond (name_eq m.name q) (Some a.admitted) (lookup (name_eq q) l)) names)));
-      numbers = (let more = ap (λ (l : List Member). length l) values in omega (arith, more, length-append (listed a) (m ∷ [])));
-    }
+pub returns-clause-members : goal.returns-clause-members
+returns-clause-members c = c.in_ok-add.ensures.members ∙ ap (λ (m : Member). record (whole c.args.self.now) { members = listed c.args.self.now ++ m ∷ [] }) c.in_ok-restored.ensures
