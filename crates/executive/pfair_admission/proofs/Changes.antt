@@ -1,6 +1,6 @@
 -- A member that is changed where it stands.
 use Rattle.std.proofs.Common.{filter}
-use Rattle.pfair_admission.proofs.Common.{values_of, set_value_at, option_map, Depart, Late, Decision, Departing, Member, change, effect, present, running, ran, quantum_of, seatless, Roster, is_there, IsOnly, Numbered, ◌≡◌, ℕ, Bool, true, List, Option, Some, Result, IfOk, OnErr, refl, sym, ap, ◌∙◌, arith, if◌then◌else◌}
+use Rattle.pfair_admission.proofs.Common.{values_of, set_value_at, option_map, Depart, Late, Decision, Member, change, effect, present, running, ran, quantum_of, seatless, Roster, is_there, IsOnly, Numbered, ◌≡◌, ℕ, Bool, true, List, Option, Some, Result, IfOk, OnErr, refl, sym, ap, ◌∙◌, arith, if◌then◌else◌}
 use Rattle.std.specs.Option.{is_some}
 use Rattle.pfair_admission.specs.declared.members.Quantum.{Quantum}
 use Rattle.pfair_admission.specs.Change.{after_departure, after_late_release, after_quantum}
@@ -19,9 +19,9 @@ is_written counts name es place m n is there = grind (arith, values_written, sam
 pub departed : (t : ℕ) (name : List ℕ) (m n : Member) (old new : List Member) (d : Decision) → IsWritten (is_there t) name m n old new → n ≡ after_departure d m → new ≡ present t (effect t old (Depart name) d)
 departed t name m n old new d w is = grind arith
 
--- if it doesn't depart nothing changes
-pub not_departed : (d : Decision) (m n : Member) → ((slot : ℕ) → d ≡ Departing slot → ⊥) → n ≡ after_departure d m → n ≡ m
-not_departed d m n other is = grind arith
+-- it keeps its name and its weight
+pub departed_like : (d : Decision) (m n : Member) → n ≡ after_departure d m → (n.name ≡ m.name) × (n.weight ≡ m.weight)
+departed_like d m n is = (grind arith, grind arith)
 
 -- a member that keeps its name, its weight and its freeing slot
 pub record IsLike (m n : Member) : Type 0 where

@@ -1,6 +1,6 @@
 -- What boundaries and quanta keep.
-use Rattle.std.proofs.Common.{◌==◌, ◌||◌, max}
-use Rattle.pfair_admission.proofs.Common.{common_steps, filter, nat_tests, all_by_recursion_push, append-nil, sum_by_push, Share, Announcement, Decision, Admitted, Refused, Delay, Member, theta, busy_until, freeing_slot, is_delayed_at, eligible_from, Machine, all_decided, arrival, change, newcomer, with_delay, with_freeing, with_quantum, effect, is_freed, present, decision, decided, all_decisions, boundary, boundary_decisions, ran, carried, NoneFreed, ◌≡◌, ◌≢◌, ℕ, suc, ◌+◌, ◌-◌, ◌%◌, ◌<◌, ◌≤◌, Bool, true, false, cond, List, [], ◌∷◌, ◌++◌, length, get_or, map, refl, sym, ap, ◌∙◌, arith, not, if◌then◌else◌, or-true, release_of, Refusal, AreInFrame, HaveRoom}
+use Rattle.std.proofs.Common.{◌||◌}
+use Rattle.pfair_admission.proofs.Common.{common_steps, filter, nat_tests, all_by_recursion_push, append-nil, sum_by_push, Share, Announcement, Decision, Admitted, Refused, Delay, Member, theta, freeing_slot, is_delayed_at, eligible_from, Machine, all_decided, arrival, change, newcomer, with_delay, with_freeing, with_quantum, effect, is_freed, present, decision, decided, all_decisions, boundary, boundary_decisions, ran, carried, NoneFreed, ◌≡◌, ℕ, suc, ◌+◌, ◌%◌, ◌<◌, ◌≤◌, Bool, true, false, cond, List, [], ◌∷◌, ◌++◌, length, get_or, map, refl, sym, ap, ◌∙◌, arith, not, if◌then◌else◌, or-true, release_of, Refusal, AreInFrame, HaveRoom}
 use Rattle.std.proofs.lemmas.List.Kept.{AllPairs-filter}
 use Rattle.std.proofs.lemmas.List.Quantifiers.{all_pairs_push}
 use Rattle.pfair_weight.specs.Window.{starts_job_of}
@@ -110,12 +110,6 @@ theta_earlier m index by i h = grind (arith, nat_tests, filter_push, append-nil)
 pub freed_never_ran : (m : Member) (t : ℕ) → m.next ≡ 1 → freeing_slot m t ≡ t
 freed_never_ran m t h = grind (arith, nat_tests)
 
-pub freed_from_stamp : (m : Member) (t : ℕ) → t ≤ freeing_slot m t
-freed_from_stamp m t = elim (m.next == 1) as (λ b. t ≤ (if b then t else max t (busy_until m (m.next - 1)))) [ true ↦ omega arith | false ↦ omega arith ]
-
-pub freed_from_claim : (m : Member) (t : ℕ) → m.next ≢ 1 → busy_until m (m.next - 1) ≤ freeing_slot m t
-freed_from_claim m t ran = grind (arith, nat_tests)
-
 -- ---- early release
 
 pub eligible_not_early : (m : Member) (i : ℕ) → m.early ≡ false → eligible_from m i ≡ release_of m.weight i (theta m i)
@@ -124,14 +118,5 @@ eligible_not_early m i e = ap (λ b. if not b || (starts_job_of m.weight i || is
 pub eligible_at_job : (m : Member) (i : ℕ) → starts_job_of m.weight i ≡ true → eligible_from m i ≡ release_of m.weight i (theta m i)
 eligible_at_job m i e = grind (arith, or-true)
 
-pub eligible_at_delay : (m : Member) (i : ℕ) → is_delayed_at m i ≡ true → eligible_from m i ≡ release_of m.weight i (theta m i)
-eligible_at_delay m i e = grind (arith, or-true)
-
-pub eligible_joined : (m : Member) (i : ℕ) → m.early ≡ true → starts_job_of m.weight i ≡ false → is_delayed_at m i ≡ false → eligible_from m i ≡ m.joined
-eligible_joined m i e f g = grind arith
-
 pub eligible_no_later : (m : Member) (i : ℕ) → eligible_from m i ≤ release_of m.weight i (theta m i)
 eligible_no_later m i = grind arith
-
-pub eligible_from_joining : (m : Member) (i : ℕ) → m.joined ≤ eligible_from m i
-eligible_from_joining m i = grind arith

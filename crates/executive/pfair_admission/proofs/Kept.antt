@@ -1,7 +1,7 @@
 -- What the ledger keeps when a member is written.
 use Rattle.std.proofs.Common.{filter}
 use Rattle.std.proofs.Common.{◌^◌}
-use Rattle.pfair_admission.proofs.Common.{whole, CanJoin, common_steps, all_by_recursion_push, sum_by_push, nat_tests, insert_entry, with_value_at, IsDistinct, keys_of, values_of, lookup, filter-append, name_eq, units_of, Admitted, Member, arrival, claimed, earlier_of, IsNotBefore, NoneFreed, NoneFreedBefore, is_there, listed, IsLedger, IsUnswept, Numbered, ◌≡◌, ℕ, ◌+◌, ◌≤◌, ◌<◌, Bool, true, cond, List, [], ◌∷◌, ◌++◌, Some, sym, ap, subst, ◌∙◌, arith, nat_eq, slice_get, Ledger}
+use Rattle.pfair_admission.proofs.Common.{whole, CanJoin, common_steps, all_by_recursion_push, sum_by_push, insert_entry, with_value_at, IsDistinct, keys_of, values_of, lookup, filter-append, name_eq, units_of, Admitted, Member, arrival, claimed, earlier_of, IsNotBefore, NoneFreed, NoneFreedBefore, is_there, listed, IsLedger, IsUnswept, Numbered, ◌≡◌, ℕ, ◌+◌, ◌<◌, Bool, true, cond, List, [], ◌∷◌, ◌++◌, Some, sym, ap, subst, ◌∙◌, arith, nat_eq, slice_get, Ledger}
 use Rattle.pfair_admission.proofs.Changes.{IsLike}
 use Rattle.pfair_admission.proofs.Deciding.{admitted_new, admitted_room}
 use Rattle.pfair_admission.proofs.MemberLists.{claimed_present, first_earlier, not_before_own, present_all}
@@ -25,10 +25,10 @@ ledger_written counts a place m n k at there still like =
           (first_written a.first_freeing (listed a) place n k.first (subst (IsNotBefore a.first_freeing) (sym like.freed_at) (first_at a.first_freeing (listed a) place m k.first at)));
     }
 
--- a member that departs, whose units are free if it is gone at once
-pub ledger_left : (t : ℕ) (a : Ledger) (place slot claim : ℕ) (m n : Member) → IsLedger (is_there t) a → slice_get (listed a) place ≡ Some m → is_there t m ≡ true → n.name ≡ m.name → n.weight ≡ m.weight → n.freed_at ≡ Some slot
-    → claim + cond (is_there t n) 0 (units_of m.weight a.frame) ≡ a.claim → IsLedger (is_there t) (record a { members = with_value_at a.members place n; claim = claim; first_freeing = earlier_of a.first_freeing (Some slot) })
-ledger_left t a place slot claim m n k at there name weight freed sum =
+-- a member that is freed in some slot, whose units are free if it is gone at once
+pub ledger_left : (t : ℕ) (a : Ledger) (place claim : ℕ) (m n : Member) → IsLedger (is_there t) a → slice_get (listed a) place ≡ Some m → is_there t m ≡ true → n.name ≡ m.name → n.weight ≡ m.weight
+    → claim + cond (is_there t n) 0 (units_of m.weight a.frame) ≡ a.claim → IsLedger (is_there t) (record a { members = with_value_at a.members place n; claim = claim; first_freeing = earlier_of a.first_freeing n.freed_at })
+ledger_left t a place claim m n k at there name weight sum =
     let was = claimed_written (is_there t) a.frame (listed a) place m n at there weight in
     let values = ap (λ (l : List Member). claimed a.frame (filter (is_there t) l)) (values_written a.members.entries place n) in
     record {
@@ -37,17 +37,9 @@ ledger_left t a place slot claim m n k at there name weight freed sum =
       short_frame = k.short_frame;
       room = omega (arith, sum, k.room);
       total = omega (arith, was, values, sum, k.total);
-      first = subst (NoneFreedBefore (earlier_of a.first_freeing (Some slot))) (sym (values_written a.members.entries place n))
-          (first_written (earlier_of a.first_freeing (Some slot)) (listed a) place n (first_earlier a.first_freeing (Some slot) (listed a) k.first)
-          (subst (IsNotBefore (earlier_of a.first_freeing (Some slot))) (sym freed) (not_before_own a.first_freeing (Some slot))));
+      first = subst (NoneFreedBefore (earlier_of a.first_freeing n.freed_at)) (sym (values_written a.members.entries place n))
+          (first_written (earlier_of a.first_freeing n.freed_at) (listed a) place n (first_earlier a.first_freeing n.freed_at (listed a) k.first) (not_before_own a.first_freeing n.freed_at));
     }
-
--- the units of a member that is freed at once
-pub gone_units : (t slot units : ℕ) (n : Member) → n.freed_at ≡ Some slot → slot ≤ t → cond (is_there t n) 0 units ≡ units
-gone_units t slot units n freed now = grind (arith, nat_tests)
-
-pub held_units : (t slot units : ℕ) (n : Member) → n.freed_at ≡ Some slot → t < slot → cond (is_there t n) 0 units ≡ 0
-held_units t slot units n freed later = grind (arith, nat_tests)
 
 -- ---- a member that stands behind all others
 

@@ -11,6 +11,7 @@ pub mod Each
 pub mod Effects
 pub mod Keeping
 mod Kept
+pub mod LawLemmas
 pub mod Lowered
 mod MemberLists
 pub mod NamesKept

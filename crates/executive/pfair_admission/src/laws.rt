@@ -1,6 +1,8 @@
 //! The laws of members, for every machine, slot and list of members.
 //!
 //! Each function states one law and does nothing; [`next_key_is_of_its_subtask`] returns true.
+#![tactic(auto, using(crate::proofs::LawLemmas::kept, crate::proofs::LawLemmas::of_members))]
+
 ghost use Rattle.std.specs.Prelude.{IsTrue};
 ghost use Rattle.pfair_admission.specs.Laws.{NamesStayApart, MembersKeepRoom, RefusalsChangeNothing, OrderIsKept, OneDecisionEach, DelaysMoveLaterSubtasks, LeaversHoldTheirClaim, EarlyReleaseKeepsBorders, CarriedMembersStay, CarriedMembersAreRestored, CarryingKeepsWindows, PeriodsStayInFrame, RestoredMembersAreCarried};
 
@@ -19,19 +21,16 @@ pub fn members_keep_room()
 {}
 
 /// A refused announcement changes nothing.
-#[tactic(auto, using(crate::proofs::Keeping::refused_stays))]
 pub fn refusals_change_nothing()
     ensures { RefusalsChangeNothing }
 {}
 
 /// The members stay in the order in which they joined.
-#[tactic(auto, using(crate::proofs::Keeping::order_boundary))]
 pub fn order_is_kept()
     ensures { OrderIsKept }
 {}
 
 /// Each announcement gets one decision.
-#[tactic(auto, using(crate::proofs::Keeping::one_each))]
 pub fn one_decision_each()
     ensures { OneDecisionEach }
 {}

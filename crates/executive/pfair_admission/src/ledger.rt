@@ -206,13 +206,11 @@ impl Ledger {
         let Some(place) = self.place_of(slot, name) else {
             return Decision::Refused(Refusal::NoSuchTask);
         };
-        let weight = self.members[place].weight();
-        let decision = self.members[place].depart(slot);
-        if let Decision::Departing { freed_at } = decision {
-            self.first_freeing = earlier(self.first_freeing, Some(freed_at));
-            if freed_at <= slot {
-                self.claim -= claim_of(weight, self.frame);
-            }
+        let member = &mut self.members[place];
+        let decision = member.depart(slot);
+        self.first_freeing = earlier(self.first_freeing, member.freed_at());
+        if has_come(member.freed_at(), slot) {
+            self.claim -= claim_of(member.weight(), self.frame);
         }
         decision
     }
