@@ -1,6 +1,6 @@
 -- The members of a next run beside those of the long run.
 use Rattle.std.proofs.Common.{inl, inr, pos, ◌-ℤ◌, nat_le, nat_lt, ◌==◌, ◌||◌, ◌&&◌, is_some}
-use Rattle.pfair_admission.proofs.Common.{common_steps, AllByRecursion, filter, find, option_map, cases_lt, nat_tests, map-append, sum_by-cons, NamesApart, Share, IsWeight, Announcement, Arrive, Depart, Late, Decision, Admitted, Departing, Delayed, Refused, Delay, Member, theta, is_departing, eligible_from, next_key, lag_at, Machine, is_named, member_named, claimed, arrival, departure, late_release, decision, newcomer, with_freeing, with_delay, with_quantum, change, effect, is_freed, present, decided, all_decided, all_decisions, announcements, subtasks_of, taken_off, raised, all_raised, ◌≡◌, ℕ, ◌+◌, ◌-◌, ◌*◌, ◌≤◌, Bool, true, false, cond, List, [], ◌∷◌, ◌++◌, map, Option, Some, None, refl, sym, ap, ◌∙◌, arith, not, if◌then◌else◌, list_any-append, or-true, apart_head, apart_tail, release_of, Said}
+use Rattle.pfair_admission.proofs.Common.{common_steps, AllByRecursion, filter, find, option_map, cases_lt, nat_tests, map-append, sum_by-cons, NamesApart, Share, IsWeight, Announcement, Arrive, Depart, Late, Decision, Admitted, Departing, Delayed, Refused, Delay, Member, is_departing, eligible_from, next_key, lag_at, Machine, is_named, member_named, claimed, arrival, departure, late_release, decision, newcomer, with_freeing, with_delay, with_quantum, change, effect, is_freed, present, decided, all_decided, all_decisions, announcements, subtasks_of, taken_off, raised, all_raised, ◌≡◌, ℕ, ◌+◌, ◌-◌, ◌*◌, ◌≤◌, Bool, true, false, List, [], ◌∷◌, ◌++◌, map, Option, Some, None, refl, sym, ap, ◌∙◌, arith, not, if◌then◌else◌, list_any-append, or-true, apart_head, apart_tail, Said}
 use Rattle.std.proofs.lemmas.Int.{ints}
 use Rattle.std.proofs.lemmas.Simd.{map-map}
 use Rattle.std.proofs.Math.Nat.{mul-add, mul_assoc, mul_comm}
@@ -9,7 +9,6 @@ use Rattle.pfair_order.proofs.Later.{filter_mapped}
 use Rattle.pfair_entry.specs.Exact.{name_exact}
 use Rattle.pfair_entry.specs.Same.{name_eq}
 use Rattle.pfair_entry.specs.Entry.{IsWeighed}
-use Rattle.pfair_admission.specs.declared.decision.Refusal.TheVariants.{AlreadyDeparting, AlreadyReleased}
 use Rattle.pfair_admission.proofs.Keeping.{theta_earlier, theta_later}
 use Rattle.pfair_admission.proofs.Lowered.{IsLowered, counted_from, eligible_same, freeing_slot_same, next_key_same, release_same}
 use Rattle.pfair_admission.proofs.NamesKept.{apart_effect, apart_present}
@@ -184,10 +183,10 @@ module _ (left : List Member) (begin : ℕ) where
   taken_each : {t : ℕ} (name : List ℕ) (ps : List (Pair t)) → NamesApart label (shorts ps) → AllByRecursion (IsTaken name (taken_off left begin (member_named (shorts ps) name))) ps
   taken_each name [] apart = tt
   taken_each {t} name (p ∷ ps) apart =
-      (elim (is_named name p.long) as (λ b. is_named name p.long ≡ b → AllByRecursion (IsTaken name (taken_off left begin (cond b (Some (short_of p)) (member_named (shorts ps) name)))) (p ∷ ps)) [
-        | true ↦ λ e. (λ _. p.taken, others e ps (apart_head label (short_of p) (shorts ps) apart))
-        | false ↦ λ e. (λ named. absurd (differ e named), taken_each name ps (apart_tail label (short_of p) (shorts ps) apart))
-      ]) refl
+      let taken = p.taken in
+      let rest = taken_each name ps (apart_tail label (short_of p) (shorts ps) apart) in
+      let same : is_named name p.long ≡ true → AllByRecursion (IsTaken name (taken_off left begin (Some (short_of p)))) ps = λ e. others e ps (apart_head label (short_of p) (shorts ps) apart) in
+      grind arith
     where
       differ : {b : Bool} → b ≡ false → b ≡ true → ⊥
       differ e f = absurd (cc)
@@ -213,28 +212,11 @@ module _ (left : List Member) (begin : ℕ) where
   late_same : {t : ℕ} (slot index : ℕ) (o : Option (Pair t)) → late_release slot (option_map long_of o) (index + taken_off left begin (option_map short_of o)) ≡ late_release slot (option_map short_of o) index
   late_same slot index None = refl
   late_same slot index (Some p) =
-      ap (λ n. late_release slot (Some p.long) (index + n)) p.taken
-      ∙ ap (λ b. if is_departing p.long then Refused AlreadyDeparting else if b then Refused AlreadyReleased else Delayed) tests
-    where
-      far : ℕ
-      far = index + p.jobs * p.long.weight.cost
-
-      tests : (nat_lt (release_of p.long.weight far (theta p.long far)) slot || nat_lt far p.long.next) ≡ (nat_lt (release_of p.long.weight index (theta (short_of p) index)) slot || nat_lt index p.next)
-      tests = elim (cases_lt index p.next) [
-        | inl over ↦
-            let now = p.is.next_is in
-            let near : nat_lt index p.next ≡ true = grind (arith, nat_tests) in
-            let there : nat_lt far p.long.next ≡ true = grind (arith, nat_tests, now) in
-            ap (λ b. nat_lt (release_of p.long.weight far (theta p.long far)) slot || b) there ∙ or-true (nat_lt (release_of p.long.weight far (theta p.long far)) slot)
-            ∙ sym (ap (λ b. nat_lt (release_of p.long.weight index (theta (short_of p) index)) slot || b) near ∙ or-true (nat_lt (release_of p.long.weight index (theta (short_of p) index)) slot))
-        | inr comes ↦
-            let now = p.is.next_is in
-            let some = p.first in
-            let near : nat_lt index p.next ≡ false = grind (arith, nat_tests) in
-            let there : nat_lt far p.long.next ≡ false = grind (arith, nat_tests, now) in
-            let release = release_same p.long p.jobs p.delays p.next p.is p.weighed index (omega (arith, comes, some)) (omega (arith, comes)) in
-            λ i. nat_lt (sym release i) slot || (there ∙ sym near) i
-      ]
+      let taken = p.taken in
+      let now = p.is.next_is in
+      let some = p.first in
+      let same = release_same p.long p.jobs p.delays p.next p.is p.weighed index in
+      grind (arith, nat_tests, cases_lt, or-true)
 
   decision_same : {t : ℕ} (machine : Machine) (slot : ℕ) (ps : List (Pair t)) (a : Announcement) → decision machine slot (longs ps) (raised left begin (shorts ps) a) ≡ decision machine slot (shorts ps) a
   decision_same machine slot ps a = grind (arith, arrival_same, departure_same, short_named, late_same, found)

@@ -2,13 +2,13 @@
 use Rattle.std.proofs.Common.{nat_le, nat_lt, ◌==◌}
 use Rattle.pfair_admission.proofs.Common.{common_steps, sum_by, filter, list_any, nat_tests, filter-append, sum_by-cons, sum_by-append, Delay, Member, last_offset, jobs_done, passed_delays, coming_delays, as_one, lowered, delays_from, carried, ◌≡◌, ℕ, ◌+◌, ◌*◌, ◌≤◌, Bool, true, false, cond, List, [], ◌∷◌, map, refl, arith, list_any-append}
 
-abbrev slots : List Delay → ℕ
+abbrev pub slots : List Delay → ℕ
 slots ds = sum_by (λ (d : Delay). d.by) ds
 
-abbrev up_to : ℕ → Delay → Bool
+abbrev pub up_to : ℕ → Delay → Bool
 up_to i d = nat_le d.index i
 
-abbrev at : ℕ → Delay → Bool
+abbrev pub at : ℕ → Delay → Bool
 at i d = d.index == i
 
 -- ---- a delay has passed, or is to come
@@ -19,7 +19,7 @@ comes next d e = grind (arith, nat_tests)
 pub passes : (next : ℕ) (d : Delay) → nat_lt d.index next ≡ true → nat_le next d.index ≡ false
 passes next d e = grind (arith, nat_tests)
 
-slots_if : (c : Bool) (d : Delay) (ds : List Delay) → slots (cond c (d ∷ ds) ds) ≡ cond c d.by 0 + slots ds
+pub slots_if : (c : Bool) (d : Delay) (ds : List Delay) → slots (cond c (d ∷ ds) ds) ≡ cond c d.by 0 + slots ds
 slots_if c d ds = grind (arith, sum_by-cons, common_steps)
 
 part_if : (p : Delay → Bool) (c : Bool) (d : Delay) (ds : List Delay) → slots (filter p (cond c (d ∷ ds) ds)) ≡ cond c (cond (p d) d.by 0) 0 + slots (filter p ds)

@@ -1,17 +1,10 @@
 -- The delays to come, and those that have passed, gathered one by one.
-use Rattle.pfair_admission.proofs.Common.{nat_lt, ◌||◌, nat_le, ◌-◌, filter, sum_by-cons, sum_by, list_any, nat_tests, Delay, LAST_SLOT, Member, as_one, carried_delays, jobs_done, passed_delays, CanBeCarried, ◌≡◌, ℕ, ◌+◌, ◌*◌, ◌≤◌, true, false, cond, List, [], ◌∷◌, refl, ap, arith}
+use Rattle.pfair_admission.proofs.Common.{nat_lt, nat_le, ◌-◌, filter, sum_by-cons, sum_by, list_any, nat_tests, Delay, LAST_SLOT, Member, as_one, carried_delays, jobs_done, passed_delays, CanBeCarried, ◌≡◌, ℕ, ◌+◌, ◌*◌, ◌≤◌, true, false, List, [], ◌∷◌, refl, arith}
 
 -- none has
 pub none_passed : (next : ℕ) (ds : List Delay) → list_any (λ d. nat_lt d.index next) ds ≡ false → as_one (passed_delays next ds) ≡ []
-none_passed next ds none = ap as_one (no ds none)
-  where
-    no : (ds : List Delay) → list_any (λ d. nat_lt d.index next) ds ≡ false → passed_delays next ds ≡ []
-    no [] none = refl
-    no (d ∷ ds) none =
-        (elim (nat_lt d.index next) as (λ b. (b || list_any (λ d. nat_lt d.index next) ds) ≡ false → cond b (d ∷ passed_delays next ds) (passed_delays next ds) ≡ []) [
-          | true ↦ λ e. absurd (cc)
-          | false ↦ λ e. no ds e
-        ]) none
+none_passed next [] none = refl
+none_passed next (d ∷ ds) none = grind (arith, none_passed next ds)
 
 -- some have
 pub some_passed : (next : ℕ) (ds : List Delay) → list_any (λ d. nat_lt d.index next) ds ≡ true → as_one (passed_delays next ds) ≡ record { index = 1; by = sum_by (λ d. d.by) (passed_delays next ds) } ∷ []

@@ -1,18 +1,10 @@
 -- The next subtask's offset, by the delays of its own index alone.
-use Rattle.pfair_admission.proofs.Common.{common_steps, nat_le, ◌==◌, ◌||◌, unwrap_or, is_some, sum_by, filter, list_any, nat_tests, filter-append, sum_by-cons, sum_by-append, sum_by_push, Position, MAX_INDEX, MAX_OFFSET, Delay, Member, IsMember, theta, last_offset, is_delayed_at, with_delay, with_quantum, member_of, own_delay, StandsAtNext, IsIncarnation, ◌≡◌, ℕ, zero, suc, ◌+◌, ◌-◌, ◌<◌, ◌≤◌, Bool, true, false, cond, List, [], ◌∷◌, ◌++◌, Option, Some, None, refl, ap, ◌∙◌, arith, nat_cmp, BTreeMap, list_any-append, or-true, Inside}
+use Rattle.pfair_admission.proofs.Common.{common_steps, ◌==◌, ◌||◌, unwrap_or, is_some, filter, list_any, nat_tests, filter-append, sum_by-cons, sum_by-append, sum_by_push, Position, MAX_INDEX, MAX_OFFSET, Delay, Member, IsMember, theta, last_offset, is_delayed_at, with_delay, with_quantum, member_of, own_delay, StandsAtNext, IsIncarnation, ◌≡◌, ℕ, zero, suc, ◌+◌, ◌-◌, ◌<◌, ◌≤◌, Bool, false, cond, List, [], ◌∷◌, ◌++◌, Option, Some, None, refl, ap, arith, nat_cmp, BTreeMap, list_any-append, or-true, Inside}
 use Rattle.std.specs.Global.{Vec}
 use Rattle.std.specs.BTreeMap as map
+use Rattle.pfair_admission.proofs.Carrying.{at, slots, slots_if, up_to}
 use Rattle.pfair_admission.proofs.Sums.{sum_filter}
 use Rattle.pfair_admission.proofs.Keeping.{theta_later, theta_earlier}
-
-abbrev slots : List Delay → ℕ
-slots ds = sum_by (λ (d : Delay). d.by) ds
-
-abbrev at : ℕ → Delay → Bool
-at i d = d.index == i
-
-abbrev up_to : ℕ → Delay → Bool
-up_to i d = nat_le d.index i
 
 -- ---- the delays of one index
 
@@ -31,23 +23,7 @@ own_push ds index by i = grind (arith, list_any-append, filter-append, sum_by-ap
 
 slots_next : (ds : List Delay) (i : ℕ) → slots (filter (up_to (i + 1)) ds) ≡ slots (filter (up_to i) ds) + slots (filter (at (i + 1)) ds)
 slots_next [] i = refl
-slots_next (d ∷ ds) i = by (slots_next ds i) (up_to i d) refl (at (i + 1) d) refl
-  where
-    more : (p : Delay → Bool) (b : Bool) → p d ≡ b → slots (filter p (d ∷ ds)) ≡ cond b d.by 0 + slots (filter p ds)
-    more p true e = ap (λ b. slots (cond b (d ∷ filter p ds) (filter p ds))) e ∙ sum_by-cons (λ (x : Delay). x.by) d (filter p ds)
-    more p false e = let sum = ap (λ b. slots (cond b (d ∷ filter p ds) (filter p ds))) e in omega (arith, sum)
-
-    by : slots (filter (up_to (i + 1)) ds) ≡ slots (filter (up_to i) ds) + slots (filter (at (i + 1)) ds) → (b : Bool) → up_to i d ≡ b → (c : Bool) → at (i + 1) d ≡ c → slots (filter (up_to (i + 1)) (d ∷ ds)) ≡ slots (filter (up_to i) (d ∷ ds)) + slots (filter (at (i + 1)) (d ∷ ds))
-    by rest true e true f = absurd (grind (arith, nat_tests))
-    by rest true e false f =
-        let now : up_to (i + 1) d ≡ true = grind (arith, nat_tests) in
-        omega (arith, rest, more (up_to (i + 1)) true now, more (up_to i) true e, more (at (i + 1)) false f)
-    by rest false e true f =
-        let now : up_to (i + 1) d ≡ true = grind (arith, nat_tests) in
-        omega (arith, rest, more (up_to (i + 1)) true now, more (up_to i) false e, more (at (i + 1)) true f)
-    by rest false e false f =
-        let now : up_to (i + 1) d ≡ false = grind (arith, nat_tests) in
-        omega (arith, rest, more (up_to (i + 1)) false now, more (up_to i) false e, more (at (i + 1)) false f)
+slots_next (d ∷ ds) i = grind (arith, nat_tests, slots_if, slots_next ds i)
 
 -- the next subtask's offset is that of the subtask, and the delays with exactly its own index
 pub theta_next : (m : Member) (i : ℕ) → theta m (i + 1) ≡ theta m i + unwrap_or (own_delay m.delays (i + 1)) 0

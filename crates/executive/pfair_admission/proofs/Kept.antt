@@ -1,7 +1,7 @@
 -- What the ledger keeps when a member is written.
 use Rattle.std.proofs.Common.{filter}
 use Rattle.std.proofs.Common.{◌^◌}
-use Rattle.pfair_admission.proofs.Common.{whole, CanJoin, common_steps, all_by_recursion_push, sum_by_push, insert_entry, with_value_at, IsDistinct, keys_of, values_of, lookup, filter-append, name_eq, units_of, Admitted, Member, arrival, claimed, earlier_of, IsNotBefore, NoneFreed, NoneFreedBefore, is_there, listed, IsLedger, IsUnswept, Numbered, ◌≡◌, ℕ, ◌+◌, ◌<◌, Bool, true, cond, List, [], ◌∷◌, ◌++◌, Some, sym, ap, subst, ◌∙◌, arith, nat_eq, slice_get, Ledger}
+use Rattle.pfair_admission.proofs.Common.{Option, whole, CanJoin, common_steps, all_by_recursion_push, sum_by_push, insert_entry, with_value_at, IsDistinct, keys_of, values_of, lookup, filter-append, name_eq, units_of, Admitted, Member, arrival, claimed, earlier_of, IsNotBefore, NoneFreed, NoneFreedBefore, is_there, listed, IsLedger, IsUnswept, Numbered, ◌≡◌, ℕ, ◌+◌, ◌<◌, Bool, true, cond, List, [], ◌∷◌, ◌++◌, Some, sym, ap, subst, ◌∙◌, arith, nat_eq, slice_get, Ledger}
 use Rattle.pfair_admission.proofs.Changes.{IsLike}
 use Rattle.pfair_admission.proofs.Deciding.{admitted_new, admitted_room}
 use Rattle.pfair_admission.proofs.MemberLists.{claimed_present, first_earlier, not_before_own, present_all}
@@ -9,37 +9,27 @@ use Rattle.pfair_admission.proofs.Registers.{register_more, register_written}
 use Rattle.pfair_admission.proofs.Written.{claimed_written, filter_all, first_at, first_written, values_written}
 use Rattle.pfair_admission.proofs.Each.{each}
 
--- a member that is written, and keeps its name, its weight and its freeing slot
-pub ledger_written : (counts : Member → Bool) (a : Ledger) (place : ℕ) (m n : Member) → IsLedger counts a → slice_get (listed a) place ≡ Some m → counts m ≡ true → counts n ≡ true → IsLike m n → IsLedger counts (record a { members = with_value_at a.members place n })
-ledger_written counts a place m n k at there still like =
-    let was = claimed_written counts a.frame (listed a) place m n at there like.weight in
-    let units : ◌≡◌ {A = ℕ} (cond (counts n) 0 (units_of m.weight a.frame)) 0 = ap (λ b. cond b 0 (units_of m.weight a.frame)) still in
+-- a member that is written, and keeps its name and its weight: its units are free if it no longer counts
+pub ledger_changed : (counts : Member → Bool) (a : Ledger) (place claim : ℕ) (first : Option ℕ) (m n : Member) → IsLedger counts a → slice_get (listed a) place ≡ Some m → counts m ≡ true → n.name ≡ m.name → n.weight ≡ m.weight
+    → claim + cond (counts n) 0 (units_of m.weight a.frame) ≡ a.claim → NoneFreedBefore first (listed a) → IsNotBefore first n.freed_at → IsLedger counts (record a { members = with_value_at a.members place n; claim = claim; first_freeing = first })
+ledger_changed counts a place claim first m n k at there name weight sum none own =
+    let was = claimed_written counts a.frame (listed a) place m n at there weight in
     let values = ap (λ (l : List Member). claimed a.frame (filter counts l)) (values_written a.members.entries place n) in
     record {
-      register = register_written counts a.admitted a.members.entries a.names.entries place m n k.register at there like.name;
-      few_processors = k.few_processors;
-      short_frame = k.short_frame;
-      room = k.room;
-      total = omega (arith, was, units, values, k.total);
-      first = subst (NoneFreedBefore a.first_freeing) (sym (values_written a.members.entries place n))
-          (first_written a.first_freeing (listed a) place n k.first (subst (IsNotBefore a.first_freeing) (sym like.freed_at) (first_at a.first_freeing (listed a) place m k.first at)));
-    }
-
--- a member that is freed in some slot, whose units are free if it is gone at once
-pub ledger_left : (t : ℕ) (a : Ledger) (place claim : ℕ) (m n : Member) → IsLedger (is_there t) a → slice_get (listed a) place ≡ Some m → is_there t m ≡ true → n.name ≡ m.name → n.weight ≡ m.weight
-    → claim + cond (is_there t n) 0 (units_of m.weight a.frame) ≡ a.claim → IsLedger (is_there t) (record a { members = with_value_at a.members place n; claim = claim; first_freeing = earlier_of a.first_freeing n.freed_at })
-ledger_left t a place claim m n k at there name weight sum =
-    let was = claimed_written (is_there t) a.frame (listed a) place m n at there weight in
-    let values = ap (λ (l : List Member). claimed a.frame (filter (is_there t) l)) (values_written a.members.entries place n) in
-    record {
-      register = register_written (is_there t) a.admitted a.members.entries a.names.entries place m n k.register at there name;
+      register = register_written counts a.admitted a.members.entries a.names.entries place m n k.register at there name;
       few_processors = k.few_processors;
       short_frame = k.short_frame;
       room = omega (arith, sum, k.room);
       total = omega (arith, was, values, sum, k.total);
-      first = subst (NoneFreedBefore (earlier_of a.first_freeing n.freed_at)) (sym (values_written a.members.entries place n))
-          (first_written (earlier_of a.first_freeing n.freed_at) (listed a) place n (first_earlier a.first_freeing n.freed_at (listed a) k.first) (not_before_own a.first_freeing n.freed_at));
+      first = subst (NoneFreedBefore first) (sym (values_written a.members.entries place n)) (first_written first (listed a) place n none own);
     }
+
+-- and its freeing slot
+pub ledger_written : (counts : Member → Bool) (a : Ledger) (place : ℕ) (m n : Member) → IsLedger counts a → slice_get (listed a) place ≡ Some m → counts m ≡ true → counts n ≡ true → IsLike m n → IsLedger counts (record a { members = with_value_at a.members place n })
+ledger_written counts a place m n k at there still like =
+    let held = ap (λ b. cond b 0 (units_of m.weight a.frame)) still in
+    ledger_changed counts a place a.claim a.first_freeing m n k at there like.name like.weight (omega (arith, held)) k.first
+    (subst (IsNotBefore a.first_freeing) (sym like.freed_at) (first_at a.first_freeing (listed a) place m k.first at))
 
 -- ---- a member that stands behind all others
 

@@ -1,5 +1,5 @@
 -- Boundaries and quanta keep the names of members apart.
-use Rattle.pfair_admission.proofs.Common.{AllByRecursion, NamesApart, Announcement, Member, Machine, is_named, member_named, newcomer, change, with_freeing, with_delay, with_quantum, effect, is_freed, present, decision, boundary, ran, ◌≡◌, ℕ, true, false, cond, List, [], ◌∷◌, None, Some, refl, sym, ap, ◌∙◌, arith, not, nat_list_eq_equiv, apart_push}
+use Rattle.pfair_admission.proofs.Common.{AllByRecursion, NamesApart, Announcement, Member, Machine, member_named, newcomer, change, with_freeing, with_delay, with_quantum, effect, is_freed, present, decision, boundary, ran, ◌≡◌, ℕ, false, List, [], ◌∷◌, None, refl, sym, ap, ◌∙◌, arith, not, nat_list_eq_equiv, apart_push}
 use Rattle.pfair_weight.proofs.NamesApart.{apart_filter, apart_map}
 use Rattle.pfair_entry.specs.Same.{name_eq}
 use Rattle.pfair_admission.proofs.Deciding.{admitted_new}
@@ -14,11 +14,7 @@ apart_change name f keeps ms h = grind (arith, apart_map)
 
 pub others_named : (name : List ℕ) (ms : List Member) → member_named ms name ≡ None → AllByRecursion (λ m. name_eq m.name name ≡ false) ms
 others_named name [] none = tt
-others_named name (x ∷ ms) none =
-    (elim (is_named name x) as (λ b. is_named name x ≡ b → cond b (Some x) (member_named ms name) ≡ None → AllByRecursion (λ m. name_eq m.name name ≡ false) (x ∷ ms)) [
-      | true ↦ λ _ e. absurd (cc)
-      | false ↦ λ other e. (nat_list_eq_equiv.symm x.name name ∙ other, others_named name ms e)
-    ]) refl none
+others_named name (x ∷ ms) none = grind (arith, nat_list_eq_equiv.symm, others_named name ms)
 
 pub apart_present : (t : ℕ) (ms : List Member) → NamesApart (λ m. m.name) ms → NamesApart (λ m. m.name) (present t ms)
 apart_present t ms h = apart_filter label (λ (m : Member). not (is_freed t m.freed_at)) ms h

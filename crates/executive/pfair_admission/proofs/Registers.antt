@@ -38,21 +38,9 @@ lookup_filtered : (k : ℕ) (q : ℕ × Member → Bool) (es : Numbered) (m : Me
 unfolding IsDistinct
 lookup_filtered k q [] m unique h = absurd (none-some m h)
 lookup_filtered k q (e ∷ es) m unique h =
-    (elim (nat_eq k e.0) as (λ b. nat_eq k e.0 ≡ b → cond b (Some e.1) (lookup (nat_eq k) es) ≡ Some m) [
-      | true ↦ λ same.
-          let is : e.0 ≡ k = grind (arith, nat_tests) in
-          let none : lookup (nat_eq k) (filter q es) ≡ None = lookup_absent k q es (subst (λ n. AllByRecursion (λ x. nat_eq n x ≡ false) (keys_of es)) is unique.0) in
-          (elim (q e) as (λ g. lookup (nat_eq k) (cond g (e ∷ filter q es) (filter q es)) ≡ Some m → Some e.1 ≡ Some m) [
-            | true ↦ λ here. sym (ap (λ b. cond b (Some e.1) (lookup (nat_eq k) (filter q es))) same) ∙ here
-            | false ↦ λ there. absurd (none-some m (sym none ∙ there))
-          ]) h
-      | false ↦ λ other.
-          lookup_filtered k q es m unique.1
-          ((elim (q e) as (λ g. lookup (nat_eq k) (cond g (e ∷ filter q es) (filter q es)) ≡ Some m → lookup (nat_eq k) (filter q es) ≡ Some m) [
-            | true ↦ λ there. sym (ap (λ b. cond b (Some e.1) (lookup (nat_eq k) (filter q es))) other) ∙ there
-            | false ↦ λ there. there
-          ]) h)
-    ]) refl
+    let absent : e.0 ≡ k → lookup (nat_eq k) (filter q es) ≡ None = λ is. lookup_absent k q es (subst (λ n. AllByRecursion (λ x. nat_eq n x ≡ false) (keys_of es)) is unique.0) in
+    let rest : lookup (nat_eq k) (filter q es) ≡ Some m → lookup (nat_eq k) es ≡ Some m = lookup_filtered k q es m unique.1 in
+    grind (arith, nat_tests, none-some)
 
 -- ---- who is found
 
@@ -60,22 +48,16 @@ lookup_filtered k q (e ∷ es) m unique h =
 none_named : (counts : Member → Bool) (name : NameValue) (names : Names) (es : Numbered) → AllByRecursion (IsNamedIn counts names) es → lookup (name_eq name) names ≡ None → member_named (filter counts (values_of es)) name ≡ None
 none_named counts name names [] h none = refl
 none_named counts name names (e ∷ es) h none =
-    (elim (counts e.1) as (λ b. counts e.1 ≡ b → member_named (cond b (e.1 ∷ filter counts (values_of es)) (filter counts (values_of es))) name ≡ None) [
-      | true ↦ λ there.
-          (elim (is_named name e.1) as (λ g. is_named name e.1 ≡ g → cond g (Some e.1) (member_named (filter counts (values_of es)) name) ≡ None) [
-            | true ↦ λ named. absurd (none-some e.0 (sym none ∙ ap (λ n. lookup (name_eq n) names) (same_name name e.1.name named) ∙ h.0 there))
-            | false ↦ λ _. none_named counts name names es h.1 none
-          ]) refl
-      | false ↦ λ _. none_named counts name names es h.1 none
-    ]) refl
+    let own : counts e.1 ≡ true → is_named name e.1 ≡ true → ⊥ = λ there named. none-some e.0 (sym none ∙ ap (λ n. lookup (name_eq n) names) (same_name name e.1.name named) ∙ h.0 there) in
+    let rest = none_named counts name names es h.1 none in
+    grind arith
 
 number_of : (es : Numbered) (names : Names) (name : NameValue) (number : ℕ) → AllByRecursion (λ e. IsNumberOf es e.0 e.1) names → lookup (name_eq name) names ≡ Some number → IsNumberOf es name number
 number_of es [] name number h at = absurd (none-some number at)
 number_of es (e ∷ names) name number h at =
-    (elim (name_eq name e.0) as (λ b. name_eq name e.0 ≡ b → cond b (Some e.1) (lookup (name_eq name) names) ≡ Some number → IsNumberOf es name number) [
-      | true ↦ λ same here. subst (λ n. IsNumberOf es n number) (sym (same_name name e.0 same)) (subst (IsNumberOf es e.0) (same_Some e.1 number here) h.0)
-      | false ↦ λ _ there. number_of es names name number h.1 there
-    ]) refl at
+    let here : name_eq name e.0 ≡ true → Some e.1 ≡ Some number → IsNumberOf es name number = λ same is. subst (λ n. IsNumberOf es n number) (sym (same_name name e.0 same)) (subst (IsNumberOf es e.0) (same_Some e.1 number is) h.0) in
+    let there : lookup (name_eq name) names ≡ Some number → IsNumberOf es name number = number_of es names name number h.1 in
+    (elim (name_eq name e.0) as (λ b. name_eq name e.0 ≡ b → cond b (Some e.1) (lookup (name_eq name) names) ≡ Some number → IsNumberOf es name number) [ true ↦ here | false ↦ λ _. there ]) refl at
 
 -- the number of one that counts is that of its name
 pub number_at : (counts : Member → Bool) (names : Names) (es : Numbered) (place : ℕ) (x : Member) → AllByRecursion (IsNamedIn counts names) es → slice_get (values_of es) place ≡ Some x → counts x ≡ true → slice_get (keys_of es) place ≡ lookup (name_eq x.name) names

@@ -1,6 +1,6 @@
 -- A member that is written at its place.
 use Rattle.std.proofs.Common.{filter, is_some}
-use Rattle.pfair_admission.proofs.Common.{values_of, sum_by-cons, same_Some, none-some, set_value_at, Share, units_of, Member, change, claimed, is_named, member_named, IsNotBefore, NoneFreedBefore, IsOnly, IsPlace, Numbered, ◌≡◌, ℕ, zero, suc, ◌+◌, ◌<◌, Bool, true, false, cond, List, [], ◌∷◌, length, Option, IfSome, Some, None, refl, sym, ap, subst, ◌∙◌, arith, slice_get}
+use Rattle.pfair_admission.proofs.Common.{map, values_of, sum_by-cons, same_Some, none-some, set_value_at, units_of, Member, change, claimed, is_named, member_named, IsNotBefore, NoneFreedBefore, IsOnly, IsPlace, Numbered, ◌≡◌, ℕ, zero, suc, ◌+◌, ◌<◌, Bool, true, false, cond, List, [], ◌∷◌, length, Option, IfSome, Some, None, refl, sym, ap, subst, ◌∙◌, arith, slice_get}
 
 -- the members, of which the one at a place is another
 abbrev pub with_at : List Member → ℕ → Member → List Member
@@ -40,26 +40,16 @@ AreOthers counts name ms = (i : ℕ) (x : Member) → slice_get ms i ≡ Some x 
 pub others_named : (counts : Member → Bool) (name : List ℕ) (ms : List Member) → AreOthers counts name ms → member_named (filter counts ms) name ≡ None
 others_named counts name [] h = refl
 others_named counts name (x ∷ ms) h =
-    (elim (counts x) as (λ b. counts x ≡ b → member_named (cond b (x ∷ filter counts ms) (filter counts ms)) name ≡ None) [
-      | true ↦ λ there.
-          (elim (is_named name x) as (λ g. is_named name x ≡ g → cond g (Some x) (member_named (filter counts ms) name) ≡ None) [
-            | true ↦ λ named. absurd (h 0 x refl there named)
-            | false ↦ λ _. others_named counts name ms (λ i y at. h (suc i) y at)
-          ]) refl
-      | false ↦ λ _. others_named counts name ms (λ i y at. h (suc i) y at)
-    ]) refl
+    let own : counts x ≡ true → is_named name x ≡ true → ⊥ = h 0 x refl in
+    let rest = others_named counts name ms (λ i y at. h (suc i) y at) in
+    grind arith
 
 others_changed : (counts : Member → Bool) (name : List ℕ) (f : Member → Member) (ms : List Member) → AreOthers counts name ms → change name f (filter counts ms) ≡ filter counts ms
 others_changed counts name f [] h = refl
 others_changed counts name f (x ∷ ms) h =
-    (elim (counts x) as (λ b. counts x ≡ b → change name f (cond b (x ∷ filter counts ms) (filter counts ms)) ≡ cond b (x ∷ filter counts ms) (filter counts ms)) [
-      | true ↦ λ there.
-          (elim (is_named name x) as (λ g. is_named name x ≡ g → (cond g (f x) x ∷ change name f (filter counts ms)) ≡ x ∷ filter counts ms) [
-            | true ↦ λ named. absurd (h 0 x refl there named)
-            | false ↦ λ _. ap (λ (l : List Member). x ∷ l) (others_changed counts name f ms (λ i y at. h (suc i) y at))
-          ]) refl
-      | false ↦ λ _. others_changed counts name f ms (λ i y at. h (suc i) y at)
-    ]) refl
+    let own : counts x ≡ true → is_named name x ≡ true → ⊥ = h 0 x refl in
+    let rest = others_changed counts name f ms (λ i y at. h (suc i) y at) in
+    grind (arith, map)
 
 -- those after the only one
 after_only : (counts : Member → Bool) (name : List ℕ) (x m : Member) (ms : List Member) → IsOnly counts name (x ∷ ms) 0 m → AreOthers counts name ms
@@ -70,45 +60,33 @@ later_only counts name x m ms place is = record { at = is.at; named = is.named; 
 
 before_only : (counts : Member → Bool) (name : List ℕ) (x m : Member) (ms : List Member) (place : ℕ) → IsOnly counts name (x ∷ ms) (suc place) m → counts x ≡ true → is_named name x ≡ false
 before_only counts name x m ms place is there =
-    (elim (is_named name x) as (λ g. is_named name x ≡ g → g ≡ false) [
-      | true ↦ λ named. absurd (let no = is.only 0 x refl there named in cc)
-      | false ↦ λ _. refl
-    ]) refl
+    let first : is_named name x ≡ true → 0 ≡ suc place = is.only 0 x refl there in
+    grind arith
 
 -- who has the name is found, if it counts
 pub only_named : (counts : Member → Bool) (name : List ℕ) (ms : List Member) (place : ℕ) (m : Member) → IsOnly counts name ms place m → member_named (filter counts ms) name ≡ cond (counts m) (Some m) None
 only_named counts name [] place m is = absurd (none-some m is.at)
 only_named counts name (x ∷ ms) zero m is =
     let same : x ≡ m = same_Some x m is.at in
-    (elim (counts x) as (λ b. counts x ≡ b → member_named (cond b (x ∷ filter counts ms) (filter counts ms)) name ≡ cond b (Some x) None) [
-      | true ↦ λ _. ap (λ b. cond b (Some x) (member_named (filter counts ms) name)) (ap (is_named name) same ∙ is.named)
-      | false ↦ λ _. others_named counts name ms (after_only counts name x m ms is)
-    ]) refl ∙ ap (λ (y : Member). cond (counts y) (Some y) None) same
+    let others = others_named counts name ms (after_only counts name x m ms is) in
+    grind arith
 only_named counts name (x ∷ ms) (suc place) m is =
-    (elim (counts x) as (λ b. counts x ≡ b → member_named (cond b (x ∷ filter counts ms) (filter counts ms)) name ≡ cond (counts m) (Some m) None) [
-      | true ↦ λ there. ap (λ b. cond b (Some x) (member_named (filter counts ms) name)) (before_only counts name x m ms place is there) ∙ only_named counts name ms place m (later_only counts name x m ms place is)
-      | false ↦ λ _. only_named counts name ms place m (later_only counts name x m ms place is)
-    ]) refl
+    let rest = only_named counts name ms place m (later_only counts name x m ms place is) in
+    let before : counts x ≡ true → is_named name x ≡ false = before_only counts name x m ms place is in
+    grind arith
 
 -- and what is written there changes the member of that name
 pub only_written : (counts : Member → Bool) (name : List ℕ) (f : Member → Member) (ms : List Member) (place : ℕ) (m n : Member) → IsOnly counts name ms place m → counts m ≡ true → n ≡ f m → filter counts (with_at ms place n) ≡ filter counts (change name f (filter counts ms))
 only_written counts name f [] place m n is there changed = absurd (none-some m is.at)
 only_written counts name f (x ∷ ms) zero m n is there changed =
     let same : x ≡ m = same_Some x m is.at in
-    let first : Member → List Member → List Member = λ y l. cond (counts y) (y ∷ l) l in
-    ap (λ (y : Member). first y (filter counts ms)) (changed ∙ ap f (sym same))
-    ∙ ap (first (f x)) (sym (ap (filter counts) (others_changed counts name f ms (after_only counts name x m ms is)) ∙ filter_again counts ms))
-    ∙ sym (ap (λ b. filter counts (change name f (cond b (x ∷ filter counts ms) (filter counts ms)))) (ap counts same ∙ there)
-    ∙ ap (λ b. filter counts (cond b (f x) x ∷ change name f (filter counts ms))) (ap (is_named name) same ∙ is.named))
+    let others = others_changed counts name f ms (after_only counts name x m ms is) in
+    let again = filter_again counts ms in
+    grind (arith, map)
 only_written counts name f (x ∷ ms) (suc place) m n is there changed =
     let rest = only_written counts name f ms place m n (later_only counts name x m ms place is) there changed in
-    (elim (counts x) as (λ b. counts x ≡ b → cond b (x ∷ filter counts (with_at ms place n)) (filter counts (with_at ms place n)) ≡ filter counts (change name f (cond b (x ∷ filter counts ms) (filter counts ms)))) [
-      | true ↦ λ own.
-          ap (λ (l : List Member). x ∷ l) rest
-          ∙ sym (ap (λ b. filter counts (cond b (f x) x ∷ change name f (filter counts ms))) (before_only counts name x m ms place is own)
-          ∙ ap (λ b. cond b (x ∷ filter counts (change name f (filter counts ms))) (filter counts (change name f (filter counts ms)))) own)
-      | false ↦ λ _. rest
-    ]) refl
+    let before : counts x ≡ true → is_named name x ≡ false = before_only counts name x m ms place is in
+    grind (arith, map)
 
 -- ---- units and freeing slots
 
@@ -117,22 +95,15 @@ pub claimed_written : (counts : Member → Bool) (frame : ℕ) (ms : List Member
     → claimed frame (filter counts (with_at ms place n)) + cond (counts n) 0 (units_of m.weight frame) ≡ claimed frame (filter counts ms)
 claimed_written counts frame [] place m n at there same = absurd (none-some m at)
 claimed_written counts frame (x ∷ ms) zero m n at there same =
-    let units : Member → ℕ = λ (y : Member). units_of y.weight frame in
-    let is : x ≡ m = same_Some x m at in
-    let all : claimed frame (cond (counts x) (x ∷ filter counts ms) (filter counts ms)) ≡ units_of m.weight frame + claimed frame (filter counts ms) =
-    ap (λ b. claimed frame (cond b (x ∷ filter counts ms) (filter counts ms))) (ap counts is ∙ there) ∙ sum_by-cons units x (filter counts ms) ∙ ap (λ (y : Member). units y + claimed frame (filter counts ms)) is in
-    let own : units n ≡ units m = ap (λ (w : Share). units_of w frame) same in
-    (elim (counts n) as (λ b. claimed frame (cond b (n ∷ filter counts ms) (filter counts ms)) + cond b 0 (units_of m.weight frame) ≡ claimed frame (cond (counts x) (x ∷ filter counts ms) (filter counts ms))) [
-      | true ↦ (let left = sum_by-cons units n (filter counts ms) in omega (arith, left, all, own))
-      | false ↦ omega (arith, all)
-    ])
+    let is = same_Some x m at in
+    let new = sum_by-cons (λ (y : Member). units_of y.weight frame) n (filter counts ms) in
+    let old = sum_by-cons (λ (y : Member). units_of y.weight frame) x (filter counts ms) in
+    grind arith
 claimed_written counts frame (x ∷ ms) (suc place) m n at there same =
-    let units : Member → ℕ = λ (y : Member). units_of y.weight frame in
-    let rest : claimed frame (filter counts (with_at ms place n)) + cond (counts n) 0 (units_of m.weight frame) ≡ claimed frame (filter counts ms) = claimed_written counts frame ms place m n at there same in
-    elim (counts x) as (λ b. claimed frame (cond b (x ∷ filter counts (with_at ms place n)) (filter counts (with_at ms place n))) + cond (counts n) 0 (units_of m.weight frame) ≡ claimed frame (cond b (x ∷ filter counts ms) (filter counts ms))) [
-      | true ↦ (let left = sum_by-cons units x (filter counts (with_at ms place n)) in let all = sum_by-cons units x (filter counts ms) in omega (arith, rest, left, all))
-      | false ↦ rest
-    ]
+    let rest = claimed_written counts frame ms place m n at there same in
+    let new = sum_by-cons (λ (y : Member). units_of y.weight frame) x (filter counts (with_at ms place n)) in
+    let old = sum_by-cons (λ (y : Member). units_of y.weight frame) x (filter counts ms) in
+    grind arith
 
 pub first_written : (first : Option ℕ) (ms : List Member) (place : ℕ) (n : Member) → NoneFreedBefore first ms → IsNotBefore first n.freed_at → NoneFreedBefore first (with_at ms place n)
 first_written first [] place n h own = tt

@@ -1,7 +1,8 @@
 use Rattle.pfair_admission.proofs.Common.{is_freed, not, refl, Bool, true, false, values_of, set_value_at, with_value_at, Share, units_of, Depart, Decision, departure, effect, member_named, present, earlier_of, is_there, listed, IsLedger, ◌≡◌, ℕ, ◌+◌, ◌-◌, ◌≤◌, cond, sym, ap, ◌∙◌, arith}
 use Rattle.pfair_admission.proofs.Changes.{departed, departed_like, is_written}
 use Rattle.pfair_admission.proofs.Deciding.{none_departs, stood}
-use Rattle.pfair_admission.proofs.Kept.{ledger_left}
+use Rattle.pfair_admission.proofs.Kept.{ledger_changed}
+use Rattle.pfair_admission.proofs.MemberLists.{first_earlier, not_before_own}
 use Rattle.pfair_admission.proofs.Written.{claimed_written, is_there_now, within, IsThere}
 use Rattle.pfair_admission.proofs.ledger.Ledger.depart.Goals as goal
 use Rattle.pfair_admission.proofs.ledger.Ledger.depart.Goals.{After-claim_of, After-depart-decision, After-has_come}
@@ -32,7 +33,10 @@ kept : (c : After-depart-decision) (claim : ℕ) → claim + cond (is_there c.ar
     → IsLedger (is_there c.args.slot) (record c.args.self.now { members = with_value_at c.args.self.now.members c.in-Some.place c.depart-decision.new.self; claim = claim; first_freeing = earlier_of c.args.self.now.first_freeing c.depart-decision.new.self.freed_at })
 kept c claim sum =
     let like = departed_like c.depart-decision.result c.index_mut-member.result.now c.depart-decision.new.self c.depart-decision.ensures.member in
-    ledger_left c.args.slot c.args.self.now c.in-Some.place claim c.index_mut-member.result.now c.depart-decision.new.self c.requires c.index_mut-member.ensures.value (who c).counts_there like.0 like.1 sum
+    let first = c.args.self.now.first_freeing in
+    let freed_at = c.depart-decision.new.self.freed_at in
+    ledger_changed (is_there c.args.slot) c.args.self.now c.in-Some.place claim (earlier_of first freed_at) c.index_mut-member.result.now c.depart-decision.new.self c.requires c.index_mut-member.ensures.value (who c).counts_there like.0 like.1 sum
+    (first_earlier first freed_at (listed c.args.self.now) c.requires.first) (not_before_own first freed_at)
 
 -- whether it still counts
 still : (c : After-has_come) (b : Bool) → c.has_come.result ≡ b → is_there c.args.slot c.depart-decision.new.self ≡ not b
