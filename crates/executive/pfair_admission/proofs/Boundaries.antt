@@ -1,14 +1,13 @@
 -- How far the announcements of a boundary are decided, and how far delays can lead.
-use Rattle.pfair_admission.proofs.Common.{common_steps, AllByRecursion, all_by_recursion_push, take_more, sum_by_push, Announcement, Decision, Delay, LONGEST_DELAY, LAST_SLOT, MAX_HEARD, Member, last_offset, Machine, change, newcomer, with_freeing, with_delay, with_quantum, effect, is_freed, present, decision, decided, all_decided, all_decisions, announcements, ran, after_boundary, EachBounded, EachHasRoom, IsCutShort, Roster, after_all, Membership, ◌≡◌, ℕ, ◌+◌, ◌-◌, ◌*◌, ◌<◌, ◌≤◌, Bool, List, [], ◌∷◌, ◌++◌, length, take, get_or, Some, Result, Ok, Err, OnOk, OnErr, refl, sym, ap, subst, ◌∙◌, arith, not, if◌then◌else◌, Said}
+use Rattle.pfair_admission.proofs.Common.{MAX_OFFSET, common_steps, AllByRecursion, all_by_recursion_push, take_more, sum_by_push, Announcement, Decision, Delay, LONGEST_DELAY, LAST_SLOT, MAX_HEARD, Member, last_offset, Machine, change, newcomer, with_freeing, with_delay, with_quantum, effect, is_freed, present, decision, decided, all_decided, all_decisions, announcements, ran, after_boundary, EachBounded, EachHasRoom, IsCutShort, Roster, after_all, Membership, ◌≡◌, ℕ, ◌+◌, ◌-◌, ◌*◌, ◌<◌, ◌≤◌, Bool, List, [], ◌∷◌, ◌++◌, length, take, get_or, Some, Result, Ok, Err, OnOk, OnErr, refl, sym, ap, subst, ◌∙◌, arith, not, if◌then◌else◌, Said}
 use Rattle.pfair_entry.specs.Entry.{IsWithinLimits}
-use Rattle.pfair_admission.proofs.Each.{each_at, each_filter}
+use Rattle.pfair_admission.proofs.Each.{each, each_at, each_filter}
 use Rattle.pfair_admission.proofs.Effects.{by_effect, each_change}
 
 -- ---- how far delays lead
 
 pub bounded_later : (n m : ℕ) → n ≤ m → (ms : List Member) → EachBounded n ms → EachBounded m ms
-bounded_later n m up [] h = tt
-bounded_later n m up (x ∷ ms) h = (let o = h.0 in omega arith, bounded_later n m up ms h.1)
+bounded_later n m up = each (λ x. last_offset x ≤ LAST_SLOT + LONGEST_DELAY * n) (λ x. last_offset x ≤ LAST_SLOT + LONGEST_DELAY * m) (λ x o. omega arith)
 
 pub bounded_present : (n t : ℕ) (ms : List Member) → EachBounded n ms → EachBounded n (present t ms)
 bounded_present n t ms h = each_filter (λ m. last_offset m ≤ LAST_SLOT + LONGEST_DELAY * n) (λ m. not (is_freed t m.freed_at)) ms h
@@ -39,8 +38,7 @@ bounded_run n name ms after b is h = grind (arith, bounded_ran)
 
 -- while fewer announcements are counted than can be, each member has room for one delay more
 pub has_room : (n : ℕ) (ms : List Member) → n < MAX_HEARD → EachBounded n ms → EachHasRoom ms
-has_room n [] few h = tt
-has_room n (x ∷ ms) few h = (let o = h.0 in omega arith, has_room n ms few h.1)
+has_room n ms few h = each (λ x. last_offset x ≤ LAST_SLOT + LONGEST_DELAY * n) (λ x. last_offset x + LONGEST_DELAY ≤ MAX_OFFSET) (λ x o. omega arith) ms h
 
 -- ---- how far the announcements are decided
 

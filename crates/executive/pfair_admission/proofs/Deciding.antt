@@ -1,5 +1,6 @@
 -- What is left when an announcement is decided.
-use Rattle.pfair_admission.proofs.Common.{filter-append, sum_by_push, cases_lt, nat_tests, same_Some, Share, units_of, MAX_OFFSET, Arrive, Depart, Late, Decision, Admitted, LONGEST_DELAY, MAX_PROCESSORS, MAX_FRAME, Member, last_offset, Machine, member_named, claimed, arrival, departure, late_release, newcomer, effect, present, decided, NoneFreed, EachHasRoom, is_there, IsDecided, Membership, ◌≡◌, ℕ, ◌+◌, ◌*◌, ◌≤◌, Bool, List, [], ◌∷◌, ◌++◌, Option, Some, None, Result, Ok, Err, IfOk, OnOk, OnErr, sym, ap, ◌∙◌, arith}
+use Rattle.pfair_admission.proofs.Common.{Refused, Announcement, decision, filter-append, sum_by_push, cases_lt, nat_tests, same_Some, Share, units_of, MAX_OFFSET, Arrive, Late, Decision, Admitted, LONGEST_DELAY, MAX_PROCESSORS, MAX_FRAME, Member, last_offset, Machine, member_named, claimed, arrival, late_release, newcomer, effect, present, decided, NoneFreed, EachHasRoom, IsDecided, Membership, ◌≡◌, ℕ, ◌+◌, ◌*◌, ◌≤◌, Bool, List, [], ◌∷◌, ◌++◌, Option, Some, None, Result, Ok, Err, IfOk, OnOk, OnErr, ap, arith}
+use Rattle.pfair_admission.specs.declared.decision.Refusal.TheVariants.{NoSuchTask}
 use Rattle.pfair_weight.specs.Options.{nothing}
 use Rattle.pfair_admission.proofs.MemberLists.{present_all}
 use Rattle.pfair_admission.proofs.Written.{filter_again}
@@ -42,14 +43,9 @@ pub room_of_named : (ms : List Member) (name : List ℕ) (m : Member) → EachHa
 room_of_named [] name m h found = absurd (cc)
 room_of_named (x ∷ ms) name m h found = grind (arith, same_Some, room_of_named ms name m h.1)
 
--- ---- nobody has the name
-
 -- if nobody has the name nothing changes
-pub none_departs : (t : ℕ) (ms : List Member) (name : List ℕ) → member_named (present t ms) name ≡ None → present t ms ≡ present t (effect t (present t ms) (Depart name) (departure t (member_named (present t ms) name)))
-none_departs t ms name none = sym (filter_again (is_there t) ms) ∙ ap (λ (o : Option Member). present t (effect t (present t ms) (Depart name) (departure t o))) (sym none)
-
-pub none_late : (t : ℕ) (ms : List Member) (name : List ℕ) (index by : ℕ) → member_named (present t ms) name ≡ None → present t ms ≡ present t (effect t (present t ms) (Late name index by) (late_release t (member_named (present t ms) name) index))
-none_late t ms name index by none = sym (filter_again (is_there t) ms) ∙ ap (λ (o : Option Member). present t (effect t (present t ms) (Late name index by) (late_release t o index))) (sym none)
+pub none_decided : (machine : Machine) (t : ℕ) (ms : List Member) (a : Announcement) → decision machine t (present t ms) a ≡ Refused NoSuchTask → present t ms ≡ decided machine t (present t ms) a
+none_decided machine t ms a none = grind (arith, filter_again)
 
 -- what is decided on a late release
 pub if_decided : {E : Type 0} (r : Result Decision E) (t index : ℕ) {o p : Option Member} → o ≡ p → IfOk r (λ d. d ≡ late_release t o index) → IfOk r (λ d. d ≡ late_release t p index)

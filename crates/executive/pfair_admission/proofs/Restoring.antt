@@ -1,6 +1,6 @@
 -- What a run can leave, and whether it is restored.
 use Rattle.std.proofs.Common.{is_some, nat_le}
-use Rattle.pfair_admission.proofs.Common.{common_steps, list_all, values_of, all_by_recursion_push, nat_tests, sum_by-cons, Delay, LAST_INDEX, LAST_SLOT, Member, last_offset, IsWeight, Share, Decision, Admitted, Refused, LONGEST_DELAY, IsFound, Numbered, EachBounded, Membership, arrival, is_freed, member_named, Machine, as_one, carried, coming_delays, delays_from, jobs_done, passed_delays, subtasks_done, IsNotBefore, is_left_at, is_summed_up, CanBeRestored, IsLeftAt, ◌≡◌, ℕ, ◌+◌, ◌-◌, ◌*◌, ◌<◌, ◌≤◌, Bool, true, false, List, [], ◌∷◌, ◌++◌, length, length-append, map, Option, Some, None, Result, Ok, Err, OnOk, OnErr, refl, sym, ap, subst, ◌∙◌, arith, div-eq_of_lt, Refusal, NameTaken}
+use Rattle.pfair_admission.proofs.Common.{common_steps, list_all, values_of, all_by_recursion_push, nat_tests, sum_by-cons, Delay, LAST_SLOT, Member, last_offset, IsWeight, Share, Decision, Admitted, Refused, LONGEST_DELAY, IsFound, Numbered, EachBounded, Membership, arrival, is_freed, member_named, Machine, as_one, carried, coming_delays, delays_from, jobs_done, passed_delays, subtasks_done, IsNotBefore, is_left_at, is_summed_up, CanBeRestored, IsLeftAt, ◌≡◌, ℕ, ◌+◌, ◌-◌, ◌*◌, ◌<◌, ◌≤◌, Bool, true, false, List, [], ◌∷◌, ◌++◌, length, length-append, map, Option, Some, None, Result, Ok, Err, OnOk, OnErr, refl, sym, ap, subst, ◌∙◌, arith, div-eq_of_lt, Refusal, NameTaken}
 use Rattle.pfair_admission.proofs.CarriedAgain.{done_low, lowered_by_none, next_low}
 use Rattle.pfair_admission.proofs.Written.{filter_all, only_named}
 
@@ -65,56 +65,30 @@ not_freed : (t : ℕ) (slot : Option ℕ) → 1 ≤ t → IsNotBefore (Some t) s
 not_freed t None some h = refl
 not_freed t (Some slot) some h = grind (arith, nat_tests)
 
--- what it tests
-record Passes (t : ℕ) (m : Member) : Type 0 where
-  cost : m.weight.cost ≤ LAST_INDEX
-  first : 1 ≤ m.next
-  next : m.next ≤ m.weight.cost + 1
-  joined : m.joined < t
-  freed_at : is_freed (t - 1) m.freed_at ≡ false
-  summed : is_summed_up m.next m.delays ≡ true
-  offset : last_offset m ≤ LAST_SLOT
-
-passes : (t : ℕ) (m : Member) → is_left_at t m ≡ true → Passes t m
-passes t m h = record {
-  cost = grind (arith, nat_tests);
-  first = grind (arith, nat_tests);
-  next = grind (arith, nat_tests);
-  joined = grind (arith, nat_tests);
-  freed_at = grind (arith, nat_tests);
-  summed = grind (arith, nat_tests);
-  offset = grind (arith, nat_tests);
-}
-
-passed : (t : ℕ) (m : Member) → Passes t m → is_left_at t m ≡ true
-passed t m h = grind (arith, nat_tests)
-
 pub left_at : (t : ℕ) (m : Member) → IsWeight m.weight.cost m.weight.period → is_left_at t m ≡ true → IsLeftAt t m
 left_at t m weighed h =
-    let some = weighed.some_cost in
-    let is = passes t m h in
-    let again = stays m some is.next is.summed in
+    let next : m.next ≤ m.weight.cost + 1 = grind (arith, nat_tests) in
+    let joined : m.joined < t = grind (arith, nat_tests) in
+    let stays_now : is_freed (t - 1) m.freed_at ≡ false = grind (arith, nat_tests) in
+    let summed : is_summed_up m.next m.delays ≡ true = grind (arith, nat_tests) in
+    let offset : last_offset m ≤ LAST_SLOT = grind (arith, nat_tests) in
+    let again = stays m weighed.some_cost next summed in
     record {
       weighed = weighed;
-      able = record { cost = (some, is.cost); offset = subst (λ (x : Member). last_offset x ≤ LAST_SLOT) (sym again) is.offset };
+      able = record { cost = (weighed.some_cost, grind (arith, nat_tests)); offset = subst (λ (x : Member). last_offset x ≤ LAST_SLOT) (sym again) offset };
       again = again;
-      first = is.first;
-      joined = is.joined;
-      freed_at = not_before t m.freed_at (omega (arith, is.joined)) is.freed_at;
+      first = grind (arith, nat_tests);
+      joined = joined;
+      freed_at = not_before t m.freed_at (omega (arith, joined)) stays_now;
     }
 
 pub is_left : (t : ℕ) (m : Member) → IsLeftAt t m → is_left_at t m ≡ true
 is_left t m h =
-    let none = none_off m h.again in
-    passed t m (record {
-      cost = h.able.cost.1;
-      first = h.first;
-      next = subst (λ (x : Member). x.next ≤ m.weight.cost + 1) h.again (next_low m h.able.cost.0 h.first);
-      joined = h.joined;
-      freed_at = not_freed t m.freed_at (omega (arith, h.joined)) h.freed_at;
-      summed = again_summed m.next m.delays (ap (λ n. delays_from m.next n m.delays) (sym none) ∙ ap (λ (x : Member). x.delays) h.again);
-      offset = subst (λ (x : Member). last_offset x ≤ LAST_SLOT) h.again h.able.offset;
-    })
+    let next : m.next ≤ m.weight.cost + 1 = subst (λ (x : Member). x.next ≤ m.weight.cost + 1) h.again (next_low m h.able.cost.0 h.first) in
+    let stays_now = not_freed t m.freed_at (omega (arith, h.joined)) h.freed_at in
+    let summed : is_summed_up m.next m.delays ≡ true = again_summed m.next m.delays (ap (λ n. delays_from m.next n m.delays) (sym (none_off m h.again)) ∙ ap (λ (x : Member). x.delays) h.again) in
+    let offset : last_offset m ≤ LAST_SLOT = subst (λ (x : Member). last_offset x ≤ LAST_SLOT) h.again h.able.offset in
+    grind (arith, nat_tests)
 
 -- ---- whether the name and the weight are admitted
 

@@ -1,6 +1,6 @@
-use Rattle.pfair_admission.proofs.Common.{values_of, set_value_at, is_freed, late_release, member_named, present, is_there, listed, rules, ◌≡◌, IfOk, sym, ap, ◌∙◌, arith, not}
+use Rattle.pfair_admission.proofs.Common.{whole, Late, values_of, set_value_at, is_freed, late_release, member_named, present, is_there, listed, rules, ◌≡◌, IfOk, sym, ap, ◌∙◌, arith, not}
 use Rattle.pfair_admission.proofs.Changes.{delayed_if_ok, is_written, late_like, stays_on_err, IsWritten}
-use Rattle.pfair_admission.proofs.Deciding.{if_decided, late_decided, late_same, none_late, room_of_named, stood}
+use Rattle.pfair_admission.proofs.Deciding.{if_decided, late_decided, late_same, none_decided, room_of_named, stood}
 use Rattle.pfair_admission.proofs.Kept.{ledger_written}
 use Rattle.pfair_admission.proofs.Written.{is_there_now, within, IsThere}
 use Rattle.pfair_admission.proofs.ledger.Ledger.delay.Goals as goal
@@ -9,7 +9,7 @@ use Rattle.pfair_admission.proofs.ledger.Ledger.delay.Goals.{After-delay}
 pub returns-in_default-clause-decided : goal.returns-in_default-clause-decided
 returns-in_default-clause-decided c = record {
   decision = search rules;
-  members = stood _ (none_late c.args.slot (listed c.args.self.now) c.args.name.now c.args.index c.args.by c.in_default.ensures.none);
+  members = stood _ (none_decided (whole c.args.self.now).machine c.args.slot (listed c.args.self.now) (Late c.args.name.now c.args.index c.args.by) (ap (λ o. late_release c.args.slot o c.args.index) c.in_default.ensures.none));
   err = search rules;
 }
 

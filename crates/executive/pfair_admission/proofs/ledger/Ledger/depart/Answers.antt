@@ -1,6 +1,6 @@
-use Rattle.pfair_admission.proofs.Common.{is_freed, not, refl, Bool, true, false, values_of, set_value_at, with_value_at, Share, units_of, Depart, Decision, departure, effect, member_named, present, earlier_of, is_there, listed, IsLedger, ◌≡◌, ℕ, ◌+◌, ◌-◌, ◌≤◌, cond, sym, ap, ◌∙◌, arith}
+use Rattle.pfair_admission.proofs.Common.{whole, is_freed, not, refl, Bool, true, false, values_of, set_value_at, with_value_at, Share, units_of, Depart, Decision, departure, effect, member_named, present, earlier_of, is_there, listed, IsLedger, ◌≡◌, ℕ, ◌+◌, ◌-◌, ◌≤◌, cond, sym, ap, ◌∙◌, arith}
 use Rattle.pfair_admission.proofs.Changes.{departed, departed_like, is_written}
-use Rattle.pfair_admission.proofs.Deciding.{none_departs, stood}
+use Rattle.pfair_admission.proofs.Deciding.{none_decided, stood}
 use Rattle.pfair_admission.proofs.Kept.{ledger_changed}
 use Rattle.pfair_admission.proofs.MemberLists.{first_earlier, not_before_own}
 use Rattle.pfair_admission.proofs.Written.{claimed_written, is_there_now, within, IsThere}
@@ -8,7 +8,7 @@ use Rattle.pfair_admission.proofs.ledger.Ledger.depart.Goals as goal
 use Rattle.pfair_admission.proofs.ledger.Ledger.depart.Goals.{After-claim_of, After-depart-decision, After-has_come}
 
 pub returns-in_default-clause-members : goal.returns-in_default-clause-members
-returns-in_default-clause-members c = stood _ (none_departs c.args.slot (listed c.args.self.now) c.args.name.now c.in_default.ensures.none)
+returns-in_default-clause-members c = stood _ (none_decided (whole c.args.self.now).machine c.args.slot (listed c.args.self.now) (Depart c.args.name.now) (ap (departure c.args.slot) c.in_default.ensures.none))
 
 pub index_mut-member-requires : goal.index_mut-member-requires
 index_mut-member-requires c = within c.args.self.now.members.entries c.in-Some.place c.in-Some.ensures.some.0 c.in-Some.ensures.some.1.at
