@@ -1,22 +1,22 @@
 -- `into_loose` moves two fields, and what they own goes with them.
-use mathlib.Core.Path.{refl, sym, subst}
-use mathlib.Core.List.{List, [], ◌∷◌, ◌++◌}
-use Rattle.pfair_handle.proofs.Common.{Val, ent, id⊢, ftrue, fsep, WpFn, fact, tables, Item, ‵, raw, ◌⊛◌, ◌$◌, ◌∵◌, !, qed, by, move, drop, use1, join, split, fsplit, fjoin, suffices, done, rewrite, whole, sub, agg, stop, fld, no_more, and_then, of_opd, returns, enter, alloc_all, pass_all, free_all, look_at, get, get_in, sets, yes, heard, nothing, type_at, says, Stays, stay_dropped, walk_of, ends_at, Goes-dropped, box_out, box_in, Kept, is_kept, proved_at, D, B, word, box_typed}
-use Rattle.std.specs.Prelude.{◌≡◌, true}
-use Rattle.pfair_handle.proofs.Found.{some_of}
+use Rattle.pfair_handle.proofs.Common.{Slot, plain, Val, ent, id⊢, ftrue, fsep, WpFn, fact, tables, Item, ‵, raw, ◌⊛◌, ◌$◌, ◌∵◌, !, qed, by, move, drop, use1, join, split, fsplit, fjoin, suffices, done, rewrite, whole, sub, agg, stop, fld, no_more, and_then, of_opd, returns, enter, alloc_all, pass_all, free_all, look_at, get, get_in, sets, yes, heard, nothing, type_at, says, Stays, stay_dropped, walk_of, ends_at, Goes-dropped, box_out, box_in, Kept, is_kept, proved_at, D, B, word, box_typed, refl, sym, subst, List, [], ◌∷◌, ◌++◌, ◌≡◌, true≢false, None, Some}
+use Rattle.std.proofs.Common.{true}
 use Rattle.pfair_handle.specs.contracts.owner.Owner.{the_row as From-row}
-use Rattle.pfair_handle.proofs.AsBox.{E, FromOwner as From}
+use Rattle.pfair_handle.specs.contracts.owner.Served.{the_row as Served}
+use Rattle.pfair_handle.proofs.AsBox.{E}
 use Rattle.pfair_handle.specs.contracts.owner.Owner.into_loose as F
 use Rattle.pfair_handle.specs.contracts.owner.Owner.into_loose.Key.{name as #self}
 use Rattle.pfair_handle.proofs.owner.Owner.into_loose.Statement.{statement}
 use Rattle.pfair_handle.proofs.owner.Owner.into_loose.Code as code
 
-abbrev stayed : Stays (F.ended).signature.params (F.ended).kept
-stayed = (stay_dropped From yes, tt)
+-- what is kept, if something is
+some_of : (k : Kept) → is_kept k ≡ true → (x : Served.Denot) × (k ≡ Some x)
+some_of None e = absurd (true≢false (sym e))
+some_of (Some x) e = (x, refl)
 
 pub into_loose_spec : {M : Type 1} → statement M
 into_loose_spec 𝓤 𝓛 𝓜 𝓡 wired =
-    let H = 𝓛.H in let 𝓣 = tables 𝓤 H 𝓜 𝓡 𝓡.env in let c = F.clauses 𝓛 𝓜.mem 𝓡.returns in
+    let H = 𝓛.H in let 𝓣 = tables 𝓤 H 𝓜 𝓡 𝓡.env in let c = F.clauses 𝓛 𝓜.mem 𝓡.returns in let From : Slot 0 = plain (λ _. From-row) in let stayed : Stays (F.ended).signature.params (F.ended).kept = (stay_dropped From yes, tt) in
     proved_at 𝓛 F.ended stayed c 𝓜 𝓡 (Goes-dropped 𝓛 0 From yes (λ κs x f. refl), tt) #self code.function (code.unfolded 𝓤 H 𝓜 𝓡 wired) (λ z are.
     let Post = (walk_of 𝓛 F.ended stayed c).post z in
     let To = type_at (F.signature).result tt in

@@ -1,9 +1,9 @@
 -- `none` owns nothing but its handle of the heap.
 use Rattle.std.proofs.Common.{lit<, w64}
-use Rattle.pfair_handle.proofs.Common.{Val, vint, ent, emp, ftrue, fsep, WpFn, Item, ‵, raw, ◌⊛◌, ◌$◌, ◌∵◌, !, qed, by, move, drop, join, split, fsplit, fjoin, fpack, feq_i, suffices, done, lit, no_more, and_then, returns, enter, agg, alloc_all, pass_all, free_all, look_at, get, sets, tables, yes, RattleType, Valss, null_ptr, ptr_val, nothing, says, Stays, stay_dropped, walk_of, ends_at, Goes-dropped, handle_tells, List, [], ◌∷◌, ◌++◌, refl, sym, subst, within, shape, proved_at, None, and_tt}
+use Rattle.pfair_handle.proofs.Common.{Slot, plain, Val, vint, ent, emp, ftrue, fsep, WpFn, Item, ‵, raw, ◌⊛◌, ◌$◌, ◌∵◌, !, qed, by, move, drop, join, split, fsplit, fjoin, fpack, feq_i, suffices, done, lit, no_more, and_then, returns, enter, agg, alloc_all, pass_all, free_all, look_at, get, sets, tables, yes, RattleType, Valss, null_ptr, ptr_val, nothing, says, Stays, stay_dropped, walk_of, ends_at, Goes-dropped, handle_tells, List, [], ◌∷◌, ◌++◌, refl, sym, subst, within, shape, proved_at, None, and_tt}
 use denote.Struct.Owning.{to}
 use Rattle.std.specs.contracts.alloc.Global as Heap
-use Rattle.pfair_handle.proofs.AsBox.{E, FromHeap as From}
+use Rattle.pfair_handle.proofs.AsBox.{E}
 use Rattle.pfair_handle.proofs.Values.{both}
 use Rattle.pfair_handle.specs.contracts.owner.Owner as Owner
 use Rattle.pfair_handle.specs.contracts.owner.Owner.none as F
@@ -11,12 +11,9 @@ use Rattle.pfair_handle.specs.contracts.owner.Owner.none.Key.{name as #self}
 use Rattle.pfair_handle.proofs.owner.Owner.none.Statement.{statement}
 use Rattle.pfair_handle.proofs.owner.Owner.none.Code as code
 
-abbrev stayed : Stays (F.ended).signature.params (F.ended).kept
-stayed = (stay_dropped From yes, tt)
-
 pub none_spec : {M : Type 1} → statement M
 none_spec 𝓤 𝓛 𝓜 𝓡 wired =
-    let H = 𝓛.H in let 𝓣 = tables 𝓤 H 𝓜 𝓡 𝓡.env in let c = F.clauses 𝓛 𝓜.mem 𝓡.returns in let Z : RattleType = Heap.the_row in
+    let H = 𝓛.H in let 𝓣 = tables 𝓤 H 𝓜 𝓡 𝓡.env in let c = F.clauses 𝓛 𝓜.mem 𝓡.returns in let From : Slot 0 = plain (λ _. Heap.the_row) in let stayed : Stays (F.ended).signature.params (F.ended).kept = (stay_dropped From yes, tt) in let Z : RattleType = Heap.the_row in
     proved_at 𝓛 F.ended stayed c 𝓜 𝓡 (Goes-dropped 𝓛 0 From yes (λ κs x f. refl), tt) #self code.function (code.unfolded 𝓤 H 𝓜 𝓡 wired) (λ z are.
     let a = z.0.3.0 in let Post = (walk_of 𝓛 F.ended stayed c).post z in
     qed 𝓛 ((‵ ftrue ⊛ ‵ (fsep (Z.own_val a z.0.4.0) ftrue)) ∷ raw (emp 𝓤) ∷ []) ∵ split ! $ drop ! $ fsplit ! $ handle_tells E.al ! a z.0.4.0 (λ h ea fits.
