@@ -3,8 +3,9 @@ use Rattle.pfair_c.proofs.Common.{◌≡◌, ◌+◌, ◌-◌, ℕ, zero, suc, �
 use Rattle.std.proofs.lemmas.List.{drop-drop}
 use Rattle.pfair_table.specs.declared.slot.Pick.{Pick}
 use Rattle.pfair_table.specs.Table.{Origin}
-use Rattle.std.proofs.Math.Seq.{take-length, take-append_seam, drop-append_seam}
-use Rattle.pfair_table.specs.Places.{places_in}
+use Rattle.std.proofs.Math.Seq.{take-append_seam, drop-append_seam}
+use Rattle.pfair_table.specs.Places.{places_in, IsFit}
+use Rattle.std.specs.List.{AllByRecursion}
 use Rattle.pfair_c.specs.Rows.{quantum_row}
 
 -- a slot has a quantum for each row of its table
@@ -30,10 +31,11 @@ pub one-slot-more : {B : Type 0} (rows_at : ℕ → List B) (from slot : ℕ) �
     → rows_of rows_at from (slot + 1 - from) ≡ rows_of rows_at from (slot - from) ++ rows_at slot
 one-slot-more rows_at from slot after = grind arith
 
--- all rows of a table are written
-pub all-written : (places : List ℕ) (slot : ℕ) (table : Table) (rows old : List PfairQuantum) (row : ℕ) → row ≤ length table → length table ≤ row
-    → rows ≡ quanta_in places slot 0 (take row table) ++ drop row old → rows ≡ written_over (quanta_in places slot 0 table) old
-all-written places slot table rows old row low high is = grind (arith, take-length, as-many)
+-- no table has more rows than there are processors
+pub rows-fit : (processors : ℕ) (tables : List Table) (t : ℕ) → AllByRecursion (IsFit processors) tables → length (slot_of tables t) ≤ processors
+rows-fit processors [] t fit = omega arith
+rows-fit processors (table ∷ more) zero fit = fit.0.0
+rows-fit processors (table ∷ more) (suc t) fit = rows-fit processors more t fit.1
 
 -- ---- some rows, and then others behind them
 

@@ -1,12 +1,12 @@
 //! The decisions of several slots, in rows.
-ghost use Rattle.std.specs.Prelude.{◌≡◌, ◌≤◌, ◌<◌, ◌+◌, ◌++◌, length, map, min, take, drop};
+ghost use Rattle.std.specs.Prelude.{◌≡◌, ◌≤◌, ◌<◌, length, map, min};
 ghost use Rattle.pfair_c.specs.Answered.{Reads};
-ghost use Rattle.pfair_c.specs.Rows.{slot_of, decision_row, decisions_at, decisions_of, written_over};
+ghost use Rattle.pfair_c.specs.Rows.{decision_row, decisions_of, written_over};
 ghost use Rattle.pfair_c.specs.RowsGiven.{AreGiven, rows_counted, decisions_between};
 
 use crate::answer::NOT_PLANNED;
 use crate::entry::{PfairName, name_row};
-use crate::open::{are_readable, fits, give_rows, lay_rows};
+use crate::open::{are_readable, give_rows, lay_rows};
 use pfair_admission::Decision;
 use pfair_handle::Handle;
 use pfair_ready::Ready;
@@ -71,28 +71,14 @@ fn write_decisions<R: Ready>(
 {
     let mut count: u64 = 0;
     for slot in from..to {
-        count = write_slot(dispatcher, slot, count, rows);
+        let decided = dispatcher.decisions(slot).unwrap_or(&[]);
+        let next = count.saturating_add(decided.len() as u64);
+        if next <= rows.len() as u64 {
+            write_rows(slot, decided, &mut rows[count as usize..]);
+        }
+        count = next;
     }
     count
-}
-
-// Writes the decisions of a slot over the rows from `at` on if there is room, and returns the index behind them.
-fn write_slot<R: Ready>(
-    dispatcher: &Dispatcher<R>,
-    slot: u64,
-    at: u64,
-    rows: &mut [PfairDecision],
-) -> u64
-    requires { dispatcher.now.forgotten ≤ slot }
-    ensures next { result ≡ min (at + length (slot_of dispatcher.now.decided slot)) 18446744073709551615 }
-    ensures rows { at + length (slot_of dispatcher.now.decided slot) ≤ length rows.old →
-        rows.new ≡ take at rows.old ++ written_over (decisions_at dispatcher.now.decided slot) (drop at rows.old) }
-{
-    let decided = dispatcher.decisions(slot).unwrap_or(&[]);
-    if fits(decided.len(), at, rows.len()) {
-        write_rows(slot, decided, &mut rows[at as usize..]);
-    }
-    at.saturating_add(decided.len() as u64)
 }
 
 fn write_rows(slot: u64, decided: &[Decided], rows: &mut [PfairDecision])

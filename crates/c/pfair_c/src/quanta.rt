@@ -1,12 +1,12 @@
 //! The quanta of several slots, in rows.
-ghost use Rattle.std.specs.Prelude.{◌≡◌, ◌≤◌, ◌+◌, ◌*◌, ◌++◌, ◌<◌, length, take, drop, slice_get};
+ghost use Rattle.std.specs.Prelude.{◌≡◌, ◌≤◌, ◌<◌, length, slice_get};
 ghost use Rattle.pfair_c.specs.Answered.{Reads};
-ghost use Rattle.pfair_c.specs.Rows.{slot_of, quantum_row, quanta_in, quanta_at, quanta_of, written_over};
+ghost use Rattle.pfair_c.specs.Rows.{quantum_row, quanta_in, quanta_of, written_over};
 ghost use Rattle.pfair_c.specs.RowsGiven.{AreGiven, rows_count, quanta_between};
 
 use crate::answer::NOT_PLANNED;
 use crate::entry::{PfairName, name_row};
-use crate::open::{are_readable, fits, give_rows, lay_rows};
+use crate::open::{are_readable, give_rows, lay_rows};
 use pfair_handle::Handle;
 use pfair_ready::Ready;
 use pfair_table::{Dispatcher, Pick, Settings};
@@ -68,33 +68,17 @@ fn write_quanta<R: Ready>(
 {
     let mut count: u64 = 0;
     for slot in from..to {
-        count = write_slot(dispatcher, slot, count, rows);
+        // the contract of places bounds the rows of all tables by the processors
+        prove!(dispatcher.settings().processors() <= Settings::MAX_PROCESSORS);
+        let places = dispatcher.places(slot).unwrap_or(&[]);
+        let table = dispatcher.table(slot).unwrap_or(&[]);
+        let next = count + table.len() as u64;
+        if next <= rows.len() as u64 {
+            write_rows(slot, table, places, &mut rows[count as usize..]);
+        }
+        count = next;
     }
     count
-}
-
-// Writes the quanta of a slot over the rows from `at` on if there is room, and returns the index behind them.
-fn write_slot<R: Ready>(
-    dispatcher: &Dispatcher<R>,
-    slot: u64,
-    at: u64,
-    rows: &mut [PfairQuantum],
-) -> u64
-    requires unforgotten { dispatcher.now.forgotten ≤ slot }
-    requires few { at ≤ Settings.MAX_PROCESSORS * Settings.MAX_SLOTS }
-    ensures next { result ≡ at + length (slot_of dispatcher.now.tables slot) }
-    ensures few { result ≤ at + Settings.MAX_PROCESSORS }
-    ensures rows { at + length (slot_of dispatcher.now.tables slot) ≤ length rows.old →
-        rows.new ≡ take at rows.old ++ written_over (quanta_at dispatcher.now.origin dispatcher.now.tables slot) (drop at rows.old) }
-{
-    // the contract of places bounds the rows of all tables by the processors
-    prove!(dispatcher.settings().processors() <= Settings::MAX_PROCESSORS);
-    let places = dispatcher.places(slot).unwrap_or(&[]);
-    let table = dispatcher.table(slot).unwrap_or(&[]);
-    if fits(table.len(), at, rows.len()) {
-        write_rows(slot, table, places, &mut rows[at as usize..]);
-    }
-    at + table.len() as u64
 }
 
 fn write_rows(slot: u64, table: &[Pick], places: &[u8], rows: &mut [PfairQuantum])

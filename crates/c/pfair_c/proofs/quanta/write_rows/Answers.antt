@@ -1,5 +1,5 @@
-use Rattle.pfair_c.proofs.Common.{rules, arith, add-one}
-use Rattle.pfair_c.proofs.SlotRows.{one-quantum-more, all-written}
+use Rattle.pfair_c.proofs.Common.{arith, add-one}
+use Rattle.pfair_c.proofs.SlotRows.{one-quantum-more}
 use Rattle.pfair_c.proofs.quanta.write_rows.Goals as goal
 
 pub loop-row-preserved : goal.loop-row-preserved
@@ -7,7 +7,3 @@ loop-row-preserved c =
     rw (c.loop-row.invariant, c.quantum_row.ensures, add-one)
     (one-quantum-more c.args.places.now c.args.slot 0 c.args.table.now c.args.rows.now c.loop-row.row c.loop-row.row c.index-table-row.result
     c.loop-row-test.true c.requires (omega arith) c.index-table-row.is)
-
-pub returns : goal.returns
-returns c =
-    all-written c.args.places.now c.args.slot c.args.table.now c.loop-row.rows c.args.rows.now c.loop-row.row (search rules) c.loop-row-test.false c.loop-row.invariant
