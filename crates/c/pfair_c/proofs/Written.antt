@@ -1,5 +1,5 @@
 -- One row more is written over the first of those that were there.
-use Rattle.pfair_c.proofs.Common.{◌≡◌, ◌∙◌, ◌+◌, ℕ, zero, suc, ◌<◌, ◌≤◌, List, [], ◌∷◌, ◌++◌, Some, map, refl, take, drop, set, slice_get, length, get_or, ap, arith, sym, get_or_from_slice_get, windows_of, written_over, first_left}
+use Rattle.pfair_c.proofs.Common.{◌≡◌, ◌∙◌, ◌+◌, ℕ, zero, suc, ◌<◌, ◌≤◌, List, [], ◌∷◌, ◌++◌, Some, map, refl, take, drop, set, slice_get, length, get_or, ap, arith, sym, get_or_from_slice_get, windows_of, first_left}
 use Rattle.pfair_weight.specs.Share.{Share}
 use Rattle.pfair_c.specs.declared.window.PfairWindow.{PfairWindow}
 use Rattle.pfair_c.specs.Rows.{window_row}
@@ -41,8 +41,3 @@ one-window-more w theta first (b ∷ rows) (suc i) j inside at = grind (arith, o
 so-many : (w : Share) (theta first count : ℕ) → length (windows_of w theta first count) ≡ count
 so-many w theta first zero = refl
 so-many w theta first (suc n) = ap suc (so-many w theta (suc first) n)
-
--- all windows are written
-pub all-windows : (w : Share) (theta first count i : ℕ) (rows old : List PfairWindow) → i ≡ count
-    → rows ≡ windows_of w theta first i ++ drop i old → rows ≡ written_over (windows_of w theta first count) old
-all-windows w theta first count i rows old end is = grind (arith, so-many)
