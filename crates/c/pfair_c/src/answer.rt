@@ -13,6 +13,9 @@ pub const NO_SUCH_NUMBER: u32 = 14;
 /// Memory was refused to a plan before.
 pub const SPENT: u32 = 31;
 
+/// The run would end after the last slot of all runs.
+pub const PAST_LAST_SLOT: u32 = 33;
+
 /// A task file has too many bytes.
 pub const FILE_TOO_LONG: u32 = 66;
 

@@ -5,14 +5,14 @@ ghost use Rattle.pfair_state.specs.Reading.{IsWritable};
 ghost use Rattle.pfair_state.specs.Rows.{state_text};
 ghost use Rattle.pfair_c.specs.Answered.{Reads};
 
-use crate::answer::{FILE_TOO_LONG, MEMORY, OPEN_ALREADY, OUT_OF_RANGE};
+use crate::answer::{FILE_TOO_LONG, MEMORY, OPEN_ALREADY, OUT_OF_RANGE, PAST_LAST_SLOT};
 use crate::open::{give_rows, lay_rows, put_new};
 use pfair_admission::RestoreFault;
 use pfair_file::LONGEST_FILE;
 use pfair_handle::Handle;
 use pfair_ready::HeapReady;
 use pfair_state::{ReadFault, Why, add_state, read_state};
-use pfair_table::{Dispatcher, Script, Settings, State};
+use pfair_table::{Dispatcher, NextRunFault, Script, Settings, State};
 use pfair_text::{finish, new_text};
 use std::alloc::{AllocError, Global};
 
@@ -67,7 +67,8 @@ pub extern "C" fn pfair_resume(
     };
     match Dispatcher::resume(alloc, state, slots, capacity) {
         Ok(dispatcher) => put_new(alloc, handle, Ok(dispatcher)),
-        Err(late) => late.number() as u32,
+        Err(NextRunFault::PastLastSlot) => PAST_LAST_SLOT,
+        Err(_) => MEMORY,
     }
 }
 
