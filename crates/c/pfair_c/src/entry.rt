@@ -10,7 +10,7 @@ use pfair_weight::TaskName;
 
 /// An entry of a log.
 #[repr(C)]
-#[derive(Clone, Copy)]
+#[derive(Clone, Copy, Default)]
 pub struct PfairEntry {
     /// From this entry on nothing is stamped before this slot.
     pub floor: u64,
@@ -83,17 +83,7 @@ pub(crate) fn entry_row(entry: &Entry) -> PfairEntry
 {
     let silent = PfairEntry {
         floor: entry.floor(),
-        kind: 0,
-        at: 0,
-        name: PfairName {
-            bytes: [0; 16],
-            length: 0,
-        },
-        cost: 0,
-        period: 0,
-        early: 0,
-        index: 0,
-        by: 0,
+        ..PfairEntry::default()
     };
     let Some((at, announcement)) = entry.said() else {
         return silent;
@@ -131,7 +121,7 @@ pub(crate) fn entry_row(entry: &Entry) -> PfairEntry
 
 /// A name: its first `length` bytes.
 #[repr(C)]
-#[derive(Clone, Copy)]
+#[derive(Clone, Copy, Default)]
 pub struct PfairName {
     /// The bytes; in a name that is given out, zeros behind the name's own.
     pub bytes: [u8; 16],

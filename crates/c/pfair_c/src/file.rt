@@ -11,7 +11,7 @@ use std::alloc::Global;
 
 /// The place of a task file's fault.
 #[repr(C)]
-#[derive(Clone, Copy)]
+#[derive(Clone, Copy, Default)]
 pub struct PfairFileFault {
     /// After 61 to 63 the number of the entry's table in the file, counted from 1, or 0 for the
     /// file's own keys; else 0.
@@ -26,14 +26,6 @@ pub struct PfairFileFault {
     /// it; else 0.
     pub cause: u64,
 }
-
-const NOWHERE: PfairFileFault = PfairFileFault {
-    place: 0,
-    field: 0,
-    processor: 0,
-    number: 0,
-    cause: 0,
-};
 
 /// Opens a dispatcher with the settings of a task file, which has taken all entries of the file's
 /// logs and planned nothing. Its logs have room for as many entries as the longest of the file.
@@ -75,7 +67,7 @@ fn fault_row(fault: FileFault) -> PfairFileFault
         | FileFault::Range { place, field } => PfairFileFault {
             place,
             field: field as u64 + 1,
-            ..NOWHERE
+            ..PfairFileFault::default()
         },
         FileFault::Entry {
             proc,
@@ -85,8 +77,8 @@ fn fault_row(fault: FileFault) -> PfairFileFault
             processor: proc as u64,
             number: number as u64,
             cause: cause.number() as u64,
-            ..NOWHERE
+            ..PfairFileFault::default()
         },
-        FileFault::NotToml | FileFault::Version | FileFault::Memory => NOWHERE,
+        FileFault::NotToml | FileFault::Version | FileFault::Memory => PfairFileFault::default(),
     }
 }

@@ -18,7 +18,7 @@ use std::alloc::Global;
 
 /// How many entries were taken, and what they met.
 #[repr(C)]
-#[derive(Clone, Copy)]
+#[derive(Clone, Copy, Default)]
 pub struct PfairTakenLog {
     /// How many were taken.
     pub taken: u64,
@@ -115,12 +115,7 @@ fn take_log(
     ensures answer { IsTakeLogAnswer processor first entries.now dispatcher.old dispatcher.new result.0 result.1 result.1 }
     ensures open { result.0 ≡ NOT_OPEN → ⊥ }
 {
-    let mut counted = PfairTakenLog {
-        taken: 0,
-        fresh: 0,
-        known: 0,
-        torn: 0,
-    };
+    let mut counted = PfairTakenLog::default();
     let answer = key_answer(dispatcher.replica(), processor, first);
     if answer != DONE {
         return (answer, counted);
