@@ -8,7 +8,7 @@ ghost use Rattle.pfair_c.specs.RowsGiven.{AreLagsGiven};
 
 use crate::answer::{DONE, MEMORY, NOT_PLANNED};
 use crate::entry::{PfairName, name_row};
-use crate::open::{fits, give_rows, lay_rows};
+use crate::open::{give_rows, lay_rows};
 use pfair_handle::Handle;
 use pfair_lag::LagBook;
 use pfair_output::{book_slots, first_book};
@@ -114,26 +114,18 @@ fn collect_lags<R: Ready>(
 fn push_lags(book: &LagBook, room: usize, lags: &mut Vec<PfairLag>) -> Result<(), AllocError>
     ensures { OnOk result (length lags.old.items + length book.now.entered ≤ room → lags.new.items ≡ lags.old.items ++ book_rows book.now) }
 {
-    if !fits(book.len(), lags.len() as u64, room) {
+    if lags.len().saturating_add(book.len()) > room {
         return Ok(());
     }
     for place in 0..book.len() {
-        push_lag(book, place, lags)?;
-    }
-    Ok(())
-}
-
-fn push_lag(book: &LagBook, place: usize, lags: &mut Vec<PfairLag>) -> Result<(), AllocError>
-    ensures { OnOk result ((task : NameValue × Tally) → slice_get book.now.entered place ≡ Some task →
-        lags.new.items ≡ lags.old.items ++ lag_row book.now.time task ∷ []) }
-{
-    if let Some((name, (numerator, period))) = book.row_at(place) {
-        lags.push(PfairLag {
-            time: book.time(),
-            name: name_row(name),
-            numerator,
-            period,
-        })?;
+        if let Some((name, (numerator, period))) = book.row_at(place) {
+            lags.push(PfairLag {
+                time: book.time(),
+                name: name_row(name),
+                numerator,
+                period,
+            })?;
+        }
     }
     Ok(())
 }

@@ -3,7 +3,7 @@
 //! Each call that writes rows answers 0 with the number of rows and the rows; 102 if the handle has no
 //! dispatcher; 104 if a slot that is asked for isn't planned, or is forgotten; 103 with the number of
 //! rows wanted, if there are fewer. Nothing else is written.
-ghost use Rattle.std.specs.Prelude.{◌≡◌, Some, None, true, Ok, IsSomeAnd, ◌≤◌, ◌<◌, ◌+◌, length, nat_le, if◌then◌else◌};
+ghost use Rattle.std.specs.Prelude.{◌≡◌, Some, None, true, Ok, IsSomeAnd, ◌≤◌, ◌<◌, length, nat_le, if◌then◌else◌};
 ghost use Rattle.std.specs.Fn.{FnOnceReturnsAtMut, FnOnceTakesAtMut};
 ghost use Rattle.pfair_handle.specs.Kept.{is_kept};
 ghost use Rattle.pfair_handle.specs.Behind.{Of, Between};
@@ -113,11 +113,4 @@ pub(crate) fn lay_rows<B, W: FnOnce(&mut [B])>(
     }
     write(rows);
     DONE
-}
-
-/// Whether there is room for so many rows behind the first `at`.
-pub(crate) fn fits(wanted: usize, at: u64, room: usize) -> bool
-    ensures { result ≡ nat_le (at + wanted) room }
-{
-    at <= room as u64 && wanted as u64 <= room as u64 - at
 }
