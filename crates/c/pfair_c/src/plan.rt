@@ -59,15 +59,15 @@ pub extern "C" fn pfair_plan_to(
 ) -> u32
     ensures { Changes handle.old.owner.kept handle.new.owner.kept result step.old step.new (IsPlanToAnswer until) }
 {
-    let planned = with_open(alloc, handle, |dispatcher| {
-        if until < 1 {
-            return None;
-        }
-        Some(plan_to(dispatcher, until))
-    });
-    match planned {
-        Some(Some(answer)) => write_step(answer, step),
-        Some(None) => OUT_OF_RANGE,
+    if until < 1 {
+        return if handle.is_open() {
+            OUT_OF_RANGE
+        } else {
+            NOT_OPEN
+        };
+    }
+    match with_open(alloc, handle, |dispatcher| plan_to(dispatcher, until)) {
+        Some(answer) => write_step(answer, step),
         None => NOT_OPEN,
     }
 }
