@@ -1,8 +1,7 @@
 -- The names that many of these proofs cite, passed on from one place. Declares nothing.
-pub use Rattle.pfair_c.specs.Lags.{lags_at, lag_row, book_after, book_rows}
-pub use Rattle.pfair_c.specs.Members.{member_row}
-pub use Rattle.pfair_c.specs.Planning.{IsPlannedOn}
+pub use Rattle.pfair_c.specs.Answers.{IsPlannedOn}
 pub use Rattle.pfair_c.specs.Rows.{rows_of, written_over, quanta_at, slot_of, decision_row, windows_of, quanta_in, key_row, decisions_at, pick_row}
+pub use Rattle.pfair_c.specs.RowsGiven.{lags_at, lag_row, book_after, book_rows, member_row}
 pub use Rattle.pfair_c.specs.Taking.{all_taken, untaken, AreOfLog}
 pub use Rattle.pfair_c.specs.declared.quanta.PfairQuantum.{PfairQuantum}
 pub use Rattle.pfair_file.specs.declared.input.TheConstants.{LONGEST_FILE}

@@ -1,5 +1,5 @@
 -- One entry more of a log is taken.
-use Rattle.pfair_c.proofs.Common.{◌≡◌, ◌∙◌, ◌+◌, ℕ, zero, suc, ◌<◌, ◌∷◌, [], List, false, length, take, get_or, ap, sym, refl, subst, true≢false, arith, slice_get, none-some, get_or_from_slice_get, Replica, all_taken, untaken, AreOfLog}
+use Rattle.pfair_c.proofs.Common.{◌≡◌, ◌∙◌, ◌+◌, ℕ, zero, suc, ◌<◌, ◌∷◌, [], List, false, length, take, get_or, ap, sym, refl, subst, arith, slice_get, get_or_from_slice_get, Replica, all_taken, untaken, AreOfLog}
 use Rattle.std.proofs.Common.{Bool, true, if◌then◌else◌}
 use Rattle.pfair_lattice.specs.declared.join_map.Flat.TheVariants.{One, Torn as TornContent}
 use Rattle.std.specs.declared.option.Option.TheVariants.{None, Some}

@@ -5,6 +5,8 @@ use Rattle.pfair_table.specs.Refinement.{Dispatch}
 use Rattle.pfair_handle.specs.Kept.{Kept, is_kept}
 use Rattle.pfair_handle.specs.Behind.{Of, Between}
 use Rattle.pfair_c.specs.declared.answer.TheConstants.{DONE, NOT_OPEN}
+use denote.Ref.{Bor, MutBor}
+use Rattle.std.specs.Fn.{Once}
 
 -- the outputs of a call that has none
 abbrev pub nothing : ⊤
@@ -30,3 +32,16 @@ IsGiven f d answer old new = (answer ≡ DONE) × (new ≡ f d)
 -- the call answers this of the dispatcher, and if that is 0 it writes this over what stood there; else its outputs are untouched
 abbrev pub IsGivenIf : {A : Type 0} → (Dispatch → ℕ) → (Dispatch → A → A) → Dispatch → (answer : ℕ) → (old new : A) → Type 0
 IsGivenIf answered f d answer old new = (answer ≡ answered d) × (answer ≡ DONE → new ≡ f d old) × ((answer ≡ DONE → ⊥) → new ≡ old)
+
+-- f at the dispatcher d, a and b may give this answer, and leave a' and b'
+pub record GivesRows {F A B : Type 0}
+    (g : Once F (Bor Dispatch × (MutBor A × (MutBor B × Unit {0}))) (ℕ × (MutBor A × (MutBor B × Unit {0}))))
+    (f : F) (d : Dispatch) (a : A) (b : B) (answer : ℕ) (a' : A) (b' : B) : Type 0 where
+  pub shown : Bor Dispatch
+  pub shown_a : MutBor A
+  pub shown_b : MutBor B
+  pub left_a : MutBor A
+  pub left_b : MutBor B
+  pub met : g.post f (shown, (shown_a, (shown_b, tt))) (answer, (left_a, (left_b, tt)))
+  pub shows : (shown.now ≡ d) × (shown_a.now ≡ a) × (shown_b.now ≡ b)
+  pub leaves : (left_a.now ≡ a') × (left_b.now ≡ b')

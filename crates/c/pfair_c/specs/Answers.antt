@@ -1,6 +1,6 @@
 -- What the calls of the C library answer.
-use Rattle.std.specs.Prelude.{ℕ, ◌+◌, ◌≡◌, ◌≤◌, ◌⊎◌, true, false, ◌&&◌, nat_eq, nat_lt, nat_le, if◌then◌else◌, length, max, min}
-use Rattle.std.specs.declared.option.Option.TheVariants.{None, Some}
+use Rattle.std.specs.Prelude.{ℕ, ◌+◌, ◌≡◌, ◌≤◌, ◌⊎◌, true, false, ◌&&◌, nat_eq, nat_lt, nat_le, if◌then◌else◌, length, max, min, zero, suc, ◌<◌}
+use Rattle.std.specs.declared.option.Option.TheVariants.{None}
 use Rattle.std.specs.List.{AllByRecursion}
 use Rattle.pfair_weight.specs.declared.weight.TheConstants.Weight.{MAX_PERIOD}
 use Rattle.pfair_weight.specs.declared.window.TheConstants.{MAX_OFFSET}
@@ -16,17 +16,16 @@ use Rattle.pfair_table.specs.NextRun.{IsFinished, IsNextRunFault, end_of, member
 use Rattle.pfair_table.specs.declared.answer.NextRunFault.{NextRunFault}
 use Rattle.pfair_table.specs.declared.answer.Step.{Step}
 use Rattle.pfair_table.specs.declared.answer.Step.TheVariants.{Planned, Waiting, Done}
-use Rattle.pfair_table.specs.declared.answer.PlanFault.TheVariants.{Torn, Spent, Memory}
+use Rattle.pfair_table.specs.declared.answer.PlanFault.TheVariants.{Torn}
 use Rattle.pfair_table.specs.declared.answer.PlanFault.{PlanFault}
 use Rattle.pfair_table.specs.declared.run.Event.TheVariants.{Plan}
 use Rattle.pfair_table.specs.declared.script.TheConstants.Script.{LONGEST_LOG}
 use Rattle.pfair_table.specs.declared.settings.TheConstants.Settings.{MAX_SLOTS}
 use Rattle.pfair_table.specs.Table.{Settings}
 use Rattle.pfair_table.specs.Limits.{IsSettings}
-use Rattle.pfair_table.specs.Events.{begin_at, happens}
+use Rattle.pfair_table.specs.Events.{begin_at, happens, Course}
 use Rattle.pfair_handle.specs.Kept.{Kept, is_kept}
-use Rattle.pfair_handle.specs.Behind.{Between, IsAbsorbedTo, IsPartlyAbsorbedTo}
-use Rattle.pfair_c.specs.Planning.{IsPlannedOn, IsStopOf, IsStoppedBy, IsWhole}
+use Rattle.pfair_handle.specs.Behind.{Of, Between, IsAbsorbedTo, IsPartlyAbsorbedTo}
 use Rattle.pfair_c.specs.declared.answer.TheConstants.{DONE, MEMORY, NO_ROOM, OPEN_ALREADY, OUT_OF_RANGE}
 use Rattle.pfair_c.specs.declared.plan.PfairStep.{PfairStep}
 use Rattle.pfair_c.specs.declared.window.TheConstants.{LAST_SUBTASK}
@@ -53,15 +52,13 @@ abbrev pub IsOpenable : Settings → ℕ → Type 0
 IsOpenable s capacity = IsSettings s × (1 ≤ capacity) × (capacity ≤ LONGEST_LOG)
 
 -- a new dispatcher
-abbrev pub IsStarted : Settings → ℕ → Kept → Type 0
-IsStarted s capacity None = ⊥
-IsStarted s capacity (Some x) =
-    (course_of x.dispatcher ≡ begin_at None s capacity) × (x.dispatcher.spent ≡ false) × (x.dispatcher.settings ≡ s)
+abbrev pub IsStarted : Settings → ℕ → Dispatch → Type 0
+IsStarted s capacity d = (course_of d ≡ begin_at None s capacity) × (d.spent ≡ false) × (d.settings ≡ s)
 
 -- what `pfair_open` answers
 pub record IsOpenAnswer (s : Settings) (capacity : ℕ) (before after : Kept) (answer : ℕ) : Type 0 where
   pub already : is_kept before ≡ true → answer ≡ OPEN_ALREADY
-  pub started : answer ≡ DONE → IsOpenable s capacity × IsStarted s capacity after
+  pub started : answer ≡ DONE → IsOpenable s capacity × Of after (IsStarted s capacity)
   pub memory : answer ≡ MEMORY → IsOpenable s capacity
   pub out_of_range : answer ≡ OUT_OF_RANGE → IsOpenable s capacity → ⊥
   pub only : (answer ≡ DONE → ⊥) → (answer ≡ MEMORY → ⊥) → (answer ≡ OUT_OF_RANGE → ⊥) → (answer ≡ OPEN_ALREADY) × (is_kept before ≡ true)
@@ -98,6 +95,36 @@ IsPartlyJoinedTo x o y = Between x o (λ d e. IsMergeFaultOf d.replica e.replica
 
 -- ---- plans
 
+-- what so many plans leave, one after another
+abbrev pub plans : ℕ → Settings → Course → Course
+plans zero s c = c
+plans (suc n) s c = happens s (plans n s c) Plan
+
+-- some plans made d into e, and none of them planned a slot that is not below `until`
+pub record IsPlannedOn (until : ℕ) (d e : Dispatch) : Type 0 where
+  pub count : ℕ
+  pub course : course_of e ≡ plans count d.settings (course_of d)
+  pub rest : e ≡ record d { tables = e.tables; decided = e.decided }
+  pub no_more : length e.tables ≤ max (length d.tables) until
+
+-- nothing that is held is torn, and no plan was refused memory
+abbrev pub IsWhole : Dispatch → Type 0
+IsWhole d = (has_torn (replica_of d.replica) ≡ false) × (d.spent ≡ false)
+
+-- why the plans ended: all slots below `until` are planned; or fewer are, and of a dispatcher that could plan the next one it is not settled,
+-- or none is left
+abbrev pub IsStopOf : ℕ → Dispatch → Step → Type 0
+IsStopOf until e (Planned slot) = (suc slot ≡ until) × (until ≤ length e.tables)
+IsStopOf until e step = (length e.tables < until) × IsWhole e × IsStepOf e step
+
+-- some plans, and then one that was refused
+pub record IsStoppedBy (until : ℕ) (fault : PlanFault) (d e : Dispatch) : Type 0 where
+  pub before : Dispatch
+  pub planned : IsPlannedOn until d before
+  pub early : length before.tables < until
+  pub cause : IsPlanFault before fault
+  pub after : e ≡ after_fault before fault
+
 -- a step as C has it: by its kind and its slot, with no torn entry
 abbrev pub step_row : Step → PfairStep
 step_row (Planned slot) = record { kind = 0; slot = slot; processor = 0; number = 0 }
@@ -107,8 +134,7 @@ step_row Done = record { kind = 2; slot = 0; processor = 0; number = 0 }
 -- a fault as C has it: a torn entry, over what stood there, and else what stood there
 abbrev pub fault_row : PlanFault → PfairStep → PfairStep
 fault_row (Torn processor number) row = record row { processor = processor; number = number }
-fault_row Spent row = row
-fault_row Memory row = row
+fault_row _ row = row
 
 -- the row is that of a step of which this holds
 abbrev pub IsStepAs : PfairStep → (Step → Type 0) → Type 0

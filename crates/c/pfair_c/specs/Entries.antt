@@ -1,5 +1,5 @@
 -- Entries, as C has them: what C means by one, and what is wrong with one by which C means nothing.
-use Rattle.std.specs.Prelude.{ℕ, zero, suc, ◌≡◌, ◌≤◌, ◌<◌, ◌⊎◌, List, take, nat_eq, Option, option_map, Err}
+use Rattle.std.specs.Prelude.{ℕ, zero, suc, ◌≡◌, ◌≤◌, ◌<◌, ◌⊎◌, List, take, nat_eq, Option, option_map, Err, [], if◌then◌else◌}
 use Rattle.std.specs.Result.{result_map_both}
 use Rattle.std.specs.declared.option.Option.TheVariants.{None, Some}
 use Rattle.pfair_entry.specs.Entry.{Logged}
@@ -8,6 +8,9 @@ use Rattle.pfair_entry.specs.declared.notice.Change.{Change}
 use Rattle.pfair_entry.specs.declared.notice.Change.TheVariants.{Arrive, Depart, Late}
 use Rattle.pfair_c.specs.declared.entry.PfairName.{PfairName}
 use Rattle.pfair_c.specs.declared.entry.PfairEntry.{PfairEntry}
+use Rattle.pfair_entry.specs.declared.entry.Announcement.{Announcement}
+use Rattle.pfair_entry.specs.declared.entry.Announcement.TheVariants.{Arrive, Depart, Late}
+use Rattle.pfair_c.specs.Rows.{name_row}
 
 -- the bytes of a name
 abbrev pub spelled : PfairName → List ℕ
@@ -47,3 +50,22 @@ abbrev pub IsEntryFault : PfairEntry → ℕ → Type 0
 IsEntryFault e n =
     (((n ≡ 100) × (IsInRange e → ⊥)) ⊎ ((n ≡ 2) × IsInRange e × (1 ≤ e.kind) × (16 < e.name.length)))
     ⊎ (IsInRange e × IsWhole e × (result_map_both (λ e. e) notice_fault_number (checked (logged_of e)) ≡ Err n))
+
+-- ---- entries that are given out
+
+-- an entry that announces this, or nothing, with zeros if its kind has no such field
+abbrev pub announced_row : (floor at : ℕ) → Announcement → PfairEntry
+announced_row floor at (Arrive name weight early) =
+    record { floor = floor; kind = 1; at = at; name = name_row name; cost = weight.cost; period = weight.period; early = if early then 1 else 0; index = 0; by = 0 }
+announced_row floor at (Depart name) =
+    record { floor = floor; kind = 2; at = at; name = name_row name; cost = 0; period = 0; early = 0; index = 0; by = 0 }
+announced_row floor at (Late name index by) =
+    record { floor = floor; kind = 3; at = at; name = name_row name; cost = 0; period = 0; early = 0; index = index; by = by }
+
+abbrev pub said_row : ℕ → Option (ℕ × Announcement) → PfairEntry
+said_row floor None = record { floor = floor; kind = 0; at = 0; name = name_row []; cost = 0; period = 0; early = 0; index = 0; by = 0 }
+said_row floor (Some s) = announced_row floor s.0 s.1
+
+-- an entry as C has it
+abbrev pub entry_row : Logged → PfairEntry
+entry_row e = said_row e.floor e.said

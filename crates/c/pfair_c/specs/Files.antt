@@ -45,18 +45,15 @@ abbrev pub nowhere : PfairFileFault
 nowhere = record { place = 0; field = 0; processor = 0; number = 0; cause = 0 }
 
 abbrev pub at_key : ℕ → Field → PfairFileFault
-at_key place f = record { place = place; field = field_number f; processor = 0; number = 0; cause = 0 }
+at_key place f = record nowhere { place = place; field = field_number f }
 
 -- where a file is at fault, as C has it
 abbrev pub fault_row : FileFault → PfairFileFault
-fault_row fault.NotToml = nowhere
 fault_row (fault.Missing place f) = at_key place f
 fault_row (fault.WrongKind place f) = at_key place f
 fault_row (fault.Range place f) = at_key place f
-fault_row (fault.Entry processor number cause) =
-    record { place = 0; field = 0; processor = processor; number = number; cause = notice_fault_number cause }
-fault_row fault.Version = nowhere
-fault_row fault.Memory = nowhere
+fault_row (fault.Entry processor number cause) = record nowhere { processor = processor; number = number; cause = notice_fault_number cause }
+fault_row _ = nowhere
 
 -- the file was read, or not for its fault
 abbrev pub IsNoFault : ℕ → Type 0

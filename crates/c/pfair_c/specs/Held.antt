@@ -8,7 +8,7 @@ use Rattle.pfair_replica.specs.Key.{EntryKey}
 use Rattle.pfair_replica.specs.ReplicaRows.{ReplicaRows, held, replica_of}
 use Rattle.pfair_replica.specs.Replica.{mark, missing, sound_beginning, torn_keys, fallen_keys}
 use Rattle.pfair_table.specs.Refinement.{Dispatch}
-use Rattle.pfair_c.specs.EntryRows.{entry_row}
+use Rattle.pfair_c.specs.Entries.{entry_row}
 use Rattle.pfair_c.specs.declared.entry.PfairEntry.{PfairEntry}
 use Rattle.pfair_c.specs.Answered.{IsGivenIf}
 use Rattle.pfair_c.specs.Rows.{key_row}
@@ -27,21 +27,15 @@ key_answer x k n = if nat_lt k x.processors then (if nat_le 1 n && nat_le n x.ca
 
 -- ---- entries
 
--- the contents at a key: 0 nothing, 1 an entry, 2 torn
-abbrev pub held_kind : Held Logged → ℕ
-held_kind None = 0
-held_kind (Some (One e)) = 1
-held_kind (Some Torn) = 2
-
--- the entry that is held, over what stood there
-abbrev pub entry_after : Held Logged → PfairEntry → PfairEntry
-entry_after (Some (One e)) entry = entry_row e
-entry_after (Some Torn) entry = entry
-entry_after None entry = entry
+-- the contents at a key: 0 nothing, 1 an entry, which is written over what stood there, 2 torn
+abbrev pub held_row : Held Logged → PfairEntry → ℕ × PfairEntry
+held_row None entry = (0, entry)
+held_row (Some (One e)) entry = (1, entry_row e)
+held_row (Some Torn) entry = (2, entry)
 
 -- the contents at a key are given, or why there is no such key
 abbrev pub IsHeldGiven : (k n : ℕ) → Dispatch → (answer : ℕ) → (old new : ℕ × PfairEntry) → Type 0
-IsHeldGiven k n = IsGivenIf (λ d. key_answer d.replica k n) (λ d old. (held_kind (held d.replica k n), entry_after (held d.replica k n) old.1))
+IsHeldGiven k n = IsGivenIf (λ d. key_answer d.replica k n) (λ d old. held_row (held d.replica k n) old.1)
 
 -- ---- logs
 

@@ -1,14 +1,9 @@
 pub mod Answered
 pub mod Answers
 pub mod Entries
-pub mod EntryRows
 pub mod Files
 pub mod Held
-pub mod Lags
-pub mod Members
 pub mod Misses
-pub mod Open
-pub mod Planning
 pub mod Rows
 pub mod RowsGiven
 pub mod State

@@ -26,19 +26,12 @@ name_row name = record { bytes = name ++ replicate (16 - length name) 0; length 
 abbrev pub pick_row : Pick → PfairPick
 pick_row p = record { name = name_row p.name; index = p.index }
 
--- the number of an outcome
-abbrev pub outcome_of : Decision → ℕ
-outcome_of Admitted = 0
-outcome_of (Departing freed_at) = 1
-outcome_of Delayed = 2
-outcome_of (Refused refusal) = refusal_number refusal
-
--- the slot that a departure frees, else 0
-abbrev pub freed_slot : Decision → ℕ
-freed_slot Admitted = 0
-freed_slot (Departing freed_at) = freed_at
-freed_slot Delayed = 0
-freed_slot (Refused refusal) = 0
+-- the number of an outcome, and the slot that a departure frees, else 0
+abbrev pub outcome_of : Decision → ℕ × ℕ
+outcome_of Admitted = (0, 0)
+outcome_of (Departing freed_at) = (1, freed_at)
+outcome_of Delayed = (2, 0)
+outcome_of (Refused refusal) = (refusal_number refusal, 0)
 
 -- a processor and a number
 abbrev pub key_row : EntryKey → PfairKey
@@ -92,8 +85,8 @@ decision_row slot d = record {
   name = name_row (name_of d.announcement);
   processor = d.proc;
   number = d.number;
-  outcome = outcome_of d.decision;
-  freed_at = freed_slot d.decision;
+  outcome = (outcome_of d.decision).0;
+  freed_at = (outcome_of d.decision).1;
 }
 
 -- the decisions at the boundary of slot t

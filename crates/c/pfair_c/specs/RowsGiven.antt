@@ -1,19 +1,24 @@
 -- What the calls give that write rows of an open dispatcher.
-use Rattle.std.specs.Prelude.{ℕ, ◌≡◌, ◌≤◌, ◌<◌, Bool, true, false, ◌&&◌, ◌||◌, nat_eq, nat_le, nat_lt, min, if◌then◌else◌, List, length, map, slice_get, Option}
+use Rattle.std.specs.Prelude.{ℕ, ◌≡◌, ◌≤◌, ◌<◌, Bool, true, false, ◌&&◌, ◌||◌, nat_eq, nat_le, nat_lt, min, if◌then◌else◌, List, length, map, slice_get, Option, ◌+◌, ◌-◌, take, ℤ, pos, neg_ℤ, ◌^◌, unwrap_or}
 use Rattle.std.specs.declared.option.Option.TheVariants.{None, Some}
 use Rattle.std.specs.Option.{option_map}
 use Rattle.pfair_table.specs.Places.{places_in}
 use Rattle.pfair_c.specs.declared.table.PfairPick.{PfairPick}
 use Rattle.pfair_c.specs.declared.quanta.PfairQuantum.{PfairQuantum}
 use Rattle.pfair_c.specs.declared.decisions.PfairDecision.{PfairDecision}
-use Rattle.pfair_c.specs.Rows.{written_over, pick_row, quanta_of, decisions_of}
+use Rattle.pfair_c.specs.Rows.{written_over, pick_row, quanta_of, decisions_of, name_row, rows_of}
 use Rattle.pfair_c.specs.declared.lags.PfairLag.{PfairLag}
-use Rattle.pfair_c.specs.Lags.{lags_of}
-use Rattle.pfair_admission.specs.Member.{Member}
-use Rattle.pfair_table.specs.Refinement.{Dispatch}
+use Rattle.pfair_admission.specs.Member.{Member, theta, is_departing, lag_at}
+use Rattle.pfair_table.specs.Refinement.{Dispatch, AreMembersOf, members_after}
 use Rattle.pfair_c.specs.declared.answer.TheConstants.{DONE, MEMORY, NO_ROOM, NOT_PLANNED, SPENT}
 use Rattle.pfair_c.specs.declared.members.PfairMember.{PfairMember}
-use Rattle.pfair_c.specs.Members.{member_row, time_of, AreMembersNow}
+use Rattle.pfair_weight.specs.Name.{NameValue}
+use Rattle.pfair_lag.specs.Book.{Tally, Book, lag_of}
+use Rattle.pfair_output.specs.Booked.{all_slots_booked, first_book}
+use Rattle.std.specs.Int.{int_max, int_min}
+use Rattle.pfair_replica.specs.ReplicaRows.{replica_of}
+use Rattle.pfair_replica.specs.Replica.{has_torn}
+use Rattle.pfair_table.specs.Table.{slot_of}
 
 -- the rows of a planned slot: none if it is forgotten
 abbrev pub readable_at : {A : Type 0} → (forgotten : ℕ) → List A → ℕ → Option A
@@ -68,6 +73,26 @@ quanta_between from to d = if are_readable d.forgotten (length d.tables) from to
 abbrev pub decisions_between : (from to : ℕ) → Dispatch → Option (List PfairDecision)
 decisions_between from to d = if are_readable d.forgotten (length d.decided) from to then Some (decisions_of d.decided from to) else None
 
+-- the lag of a task of a book at its time
+abbrev pub lag_row : ℕ → NameValue × Tally → PfairLag
+lag_row time e = record { time = time; name = name_row e.0; numerator = (lag_of e.1).0; period = (lag_of e.1).1 }
+
+-- the lags of a book, in order of entering
+abbrev pub book_rows : Book → List PfairLag
+book_rows book = map (lag_row book.time) book.entered
+
+-- a book that was notified of the first t slots of a dispatcher, and of no others
+abbrev pub book_after : Dispatch → ℕ → Book
+book_after d t = all_slots_booked (first_book d.origin) (take t d.decided) (take t d.tables)
+
+-- the lags after slot t
+abbrev pub lags_at : Dispatch → ℕ → List PfairLag
+lags_at d t = book_rows (book_after d (t + 1))
+
+-- the lags after each of the slots `from` to `to` - 1
+abbrev pub lags_of : Dispatch → (from to : ℕ) → List PfairLag
+lags_of d from to = rows_of (lags_at d) from (to - from)
+
 -- the lags after each of the slots `from` to `to` - 1, if these are planned, and no slot is forgotten: they count from
 -- the run's slot 0 on
 abbrev pub lags_between : (from to : ℕ) → Dispatch → Option (List PfairLag)
@@ -77,6 +102,34 @@ lags_between from to d = if are_counted d.forgotten (length d.tables) from to th
 pub record AreLagsGiven (from to : ℕ) (d : Dispatch) (answer : ℕ) (old new : ℕ × List PfairLag) : Type 0 where
   pub given : (answer ≡ MEMORY → ⊥) → AreGiven rows_counted (lags_between from to) d answer old new
   pub memory : answer ≡ MEMORY → (from < to) × (to ≤ length d.tables) × (d.forgotten ≡ 0) × (new ≡ old)
+
+-- the slot that is planned next, counted from the first slot of the first run
+abbrev pub time_of : Dispatch → ℕ
+time_of d = slot_of d.origin (length d.tables)
+
+-- as far as 64 bits hold it
+abbrev pub within_64_bits : ℤ → ℤ
+within_64_bits x = int_max (neg_ℤ (pos (2 ^ 63))) (int_min x (pos (2 ^ 63 - 1)))
+
+-- a member, with the offset of its next subtask; the slot that its departure frees, or 0 if it isn't departing; its lag at this time
+abbrev pub member_row : ℕ → Member → PfairMember
+member_row time m = record {
+  name = name_row m.name;
+  cost = m.weight.cost;
+  period = m.weight.period;
+  early = if m.early then 1 else 0;
+  joined = m.joined;
+  next = m.next;
+  theta = theta m m.next;
+  is_departing = if is_departing m then 1 else 0;
+  freed_at = unwrap_or m.freed_at 0;
+  lag = within_64_bits (lag_at time m);
+}
+
+-- the members after the slots that are planned: if nothing that is held is torn, those of the contents
+pub record AreMembersNow (d : Dispatch) (members : List Member) : Type 0 where
+  pub are_members : AreMembersOf d members
+  pub of_held : has_torn (replica_of d.replica) ≡ false → members ≡ members_after d.origin d.settings (replica_of d.replica) (length d.tables)
 
 -- the members after the planned slots are given, if the dispatcher isn't spent
 pub record AreMembersGiven (d : Dispatch) (answer : ℕ) (old new : ℕ × List PfairMember) : Type 0 where

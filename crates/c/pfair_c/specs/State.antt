@@ -8,8 +8,7 @@ use Rattle.pfair_state.specs.declared.fault.ReadFault.TheVariants as fault
 use Rattle.pfair_state.specs.declared.fault.Why.{Why}
 use Rattle.pfair_state.specs.declared.fault.Why.TheVariants as why
 use Rattle.pfair_admission.specs.Refusal.{refusal_number}
-use Rattle.pfair_admission.specs.declared.member_state.RestoreFault.TheVariants.{NotAdmitted, NotLeft}
-use Rattle.pfair_admission.specs.declared.member_state.RestoreFault.TheVariants as restore
+use Rattle.pfair_admission.specs.declared.member_state.RestoreFault.TheVariants.{NotAdmitted}
 use Rattle.pfair_admission.specs.declared.members.TheConstants.Members.{LAST_SLOT}
 use Rattle.pfair_table.specs.Events.{begin_at}
 use Rattle.pfair_table.specs.Limits.{first_state, settings_from}
@@ -40,8 +39,7 @@ abbrev pub cause_of : Why → ℕ
 cause_of why.OtherForm = 1
 cause_of why.OutOfRange = 2
 cause_of (why.Member (NotAdmitted refusal)) = refusal_number refusal
-cause_of (why.Member NotLeft) = 3
-cause_of (why.Member restore.Memory) = 3
+cause_of (why.Member _) = 3
 cause_of why.Quantum = 4
 cause_of why.Incomplete = 5
 

@@ -8,14 +8,14 @@ use Rattle.pfair_entry.specs.Same.{entry_eq}
 use Rattle.pfair_replica.specs.ReplicaRows.{ReplicaRows, held, replica_of}
 use Rattle.pfair_replica.specs.Replica.{Replica}
 use Rattle.pfair_replica.specs.Offered.{has_key, taken}
-use Rattle.pfair_replica.specs.Faults.{IsTakeFaultOf}
+use Rattle.pfair_replica.specs.Faults.{IsTakeFaultOf, take_fault_number}
 use Rattle.pfair_replica.specs.declared.answer.Taken.{Taken}
 use Rattle.pfair_replica.specs.declared.answer.Taken.TheVariants.{New, Known, Torn}
-use Rattle.pfair_replica.specs.declared.answer.TakeFault.TheVariants.{NoSuchProcessor, NumberOutOfRange, Memory}
+use Rattle.pfair_replica.specs.declared.answer.TakeFault.{TakeFault}
 use Rattle.pfair_table.specs.Refinement.{Dispatch}
 use Rattle.pfair_c.specs.Entries.{logged_of, IsMeant, IsEntryFault}
 use Rattle.pfair_c.specs.Held.{key_answer}
-use Rattle.pfair_c.specs.declared.answer.TheConstants.{DONE, MEMORY, NO_SUCH_NUMBER, NO_SUCH_PROCESSOR}
+use Rattle.pfair_c.specs.declared.answer.TheConstants.{DONE}
 use Rattle.pfair_c.specs.declared.entry.PfairEntry.{PfairEntry}
 use Rattle.pfair_c.specs.declared.take.PfairTakenLog.{PfairTakenLog}
 
@@ -64,10 +64,7 @@ pub record IsTakenTo (k n : ℕ) (entries : List PfairEntry) (counted : PfairTak
 -- why this isn't taken for entry n of the log of k: the first that applies, by its number
 abbrev pub IsRefusal : ReplicaRows → (k n : ℕ) → PfairEntry → ℕ → Type 0
 IsRefusal x k n e answer =
-    IsEntryFault e answer
-    ⊎ (IsMeant e × (((answer ≡ NO_SUCH_PROCESSOR) × IsTakeFaultOf x k n NoSuchProcessor)
-    ⊎ (((answer ≡ NO_SUCH_NUMBER) × IsTakeFaultOf x k n NumberOutOfRange)
-    ⊎ ((answer ≡ MEMORY) × IsTakeFaultOf x k n Memory))))
+    IsEntryFault e answer ⊎ (IsMeant e × (f : TakeFault) × (answer ≡ take_fault_number f) × IsTakeFaultOf x k n f)
 
 -- the entry at a place isn't taken, as number n
 abbrev pub IsRefusedAt : ReplicaRows → (k n : ℕ) → List PfairEntry → (place answer : ℕ) → Type 0

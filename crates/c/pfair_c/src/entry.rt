@@ -1,7 +1,6 @@
 //! Entries and names, as C has them.
 ghost use Rattle.std.specs.Prelude.{◌≡◌, ◌<◌, IfOk, IfErr, OnOk};
-ghost use Rattle.pfair_c.specs.EntryRows.{entry_row};
-ghost use Rattle.pfair_c.specs.Entries.{change_of, logged_of, IsInRange, IsWhole, IsMeant, IsEntryFault};
+ghost use Rattle.pfair_c.specs.Entries.{entry_row, change_of, logged_of, IsInRange, IsMeant, IsEntryFault};
 ghost use Rattle.pfair_c.specs.Rows.{name_row};
 
 use crate::answer::OUT_OF_RANGE;

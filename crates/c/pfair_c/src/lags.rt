@@ -1,10 +1,7 @@
 //! The lags in several slots, in rows.
-ghost use Rattle.std.specs.Prelude.{◌≡◌, ◌≤◌, ◌+◌, ◌++◌, [], ◌∷◌, length, min, slice_get, IfOk, OnOk};
-ghost use Rattle.pfair_weight.specs.Name.{NameValue};
-ghost use Rattle.pfair_lag.specs.Book.{Tally};
+ghost use Rattle.std.specs.Prelude.{◌≡◌, ◌≤◌, ◌+◌, ◌++◌, length, min, IfOk, OnOk};
 ghost use Rattle.pfair_c.specs.Answered.{Reads};
-ghost use Rattle.pfair_c.specs.Lags.{lag_row, book_rows, lags_of};
-ghost use Rattle.pfair_c.specs.RowsGiven.{AreLagsGiven};
+ghost use Rattle.pfair_c.specs.RowsGiven.{AreLagsGiven, book_rows, lags_of};
 
 use crate::answer::{DONE, MEMORY, NOT_PLANNED};
 use crate::entry::{PfairName, name_row};

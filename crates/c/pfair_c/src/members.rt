@@ -2,9 +2,8 @@
 ghost use Rattle.std.specs.Prelude.{◌≡◌, ◌≤◌, ◌+◌, length, map, set, slice_get};
 ghost use Rattle.pfair_admission.specs.Member.{Member};
 ghost use Rattle.pfair_c.specs.Answered.{Reads};
-ghost use Rattle.pfair_c.specs.Members.{member_row, time_of};
 ghost use Rattle.pfair_c.specs.Rows.{written_over};
-ghost use Rattle.pfair_c.specs.RowsGiven.{AreMembersGiven};
+ghost use Rattle.pfair_c.specs.RowsGiven.{AreMembersGiven, member_row, time_of};
 
 use crate::answer::SPENT;
 use crate::entry::{PfairName, name_row};

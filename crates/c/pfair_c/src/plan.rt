@@ -4,8 +4,7 @@ ghost use Rattle.pfair_replica.specs.ReplicaRows.{replica_of};
 ghost use Rattle.pfair_replica.specs.Replica.{frontier};
 ghost use Rattle.pfair_table.specs.Faults.{plan_fault_number};
 ghost use Rattle.pfair_c.specs.Answered.{Reads, Changes, IsGiven, nothing};
-ghost use Rattle.pfair_c.specs.Planning.{IsPlannedOn, IsStopOf, IsStoppedBy};
-ghost use Rattle.pfair_c.specs.Answers.{IsPlanAnswer, IsPlanToAnswer, IsReopened, forgetting, step_row, fault_row};
+ghost use Rattle.pfair_c.specs.Answers.{IsPlannedOn, IsStopOf, IsStoppedBy, IsPlanAnswer, IsPlanToAnswer, IsReopened, forgetting, step_row, fault_row};
 
 use crate::answer::{DONE, MEMORY, NOT_OPEN, OUT_OF_RANGE};
 use crate::open::with_open;

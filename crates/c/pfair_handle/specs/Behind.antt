@@ -15,19 +15,14 @@ Of None P = ⊥
 -- one dispatcher is there, and another: before and after a call, or behind two handles
 abbrev pub Between : Kept → Kept → (Dispatch → Dispatch → Type 0) → Type 0
 Between (Some x) (Some y) P = P x.dispatcher y.dispatcher
-Between None y P = ⊥
-Between (Some x) None P = ⊥
+Between _ _ P = ⊥
 
 -- the dispatcher x, behind a handle, takes all that o, behind another, holds, and is y then
 abbrev pub IsAbsorbedTo : Kept → Kept → Kept → Type 0
 IsAbsorbedTo (Some x) (Some o) (Some y) = replica_of y.dispatcher.replica ≡ absorbed (replica_of x.dispatcher.replica) (replica_of o.dispatcher.replica)
-IsAbsorbedTo None o y = ⊥
-IsAbsorbedTo (Some x) None y = ⊥
-IsAbsorbedTo (Some x) (Some o) None = ⊥
+IsAbsorbedTo _ _ _ = ⊥
 
 -- or it takes a part of that
 abbrev pub IsPartlyAbsorbedTo : Kept → Kept → Kept → Type 0
 IsPartlyAbsorbedTo (Some x) (Some o) (Some y) = IsPartlyMerged (replica_of x.dispatcher.replica) (replica_of o.dispatcher.replica) (replica_of y.dispatcher.replica)
-IsPartlyAbsorbedTo None o y = ⊥
-IsPartlyAbsorbedTo (Some x) None y = ⊥
-IsPartlyAbsorbedTo (Some x) (Some o) None = ⊥
+IsPartlyAbsorbedTo _ _ _ = ⊥
