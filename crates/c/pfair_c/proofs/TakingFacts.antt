@@ -35,7 +35,7 @@ one-taken-more k n [] s i j d inside at = absurd (omega arith)
 one-taken-more k n (a ∷ es) s zero j d inside at = grind arith
 one-taken-more k n (a ∷ es) s (suc i) j d inside at = grind (arith, one-taken-more k (suc n) es (one_taken k n a s) i j d)
 
-of-log-more : (x : Replica) (k n : ℕ) (es : List PfairEntry) (i j : ℕ) (d : PfairEntry) → i < length es → j ≡ n + i
+pub of-log-more : (x : Replica) (k n : ℕ) (es : List PfairEntry) (i j : ℕ) (d : PfairEntry) → i < length es → j ≡ n + i
     → AreOfLog x k n (take i es) → IsMeant (get_or es i d) → has_key x k j ≡ true → AreOfLog x k n (take (suc i) es)
 of-log-more x k n [] i j d inside at before meant key = absurd (omega arith)
 of-log-more x k n (a ∷ es) zero j d inside at before meant key =
@@ -45,12 +45,6 @@ of-log-more x k n (a ∷ es) (suc i) j d inside at before meant key =
     (before.0, before.1, of-log-more x k (suc n) es i j d (omega arith) (omega arith) before.2 meant key)
 
 -- ---- a step of the loop
-
-pub next-of-log : (x : Replica) (k n : ℕ) (es : List PfairEntry) (i j : ℕ) (d : PfairEntry) → i < length es → j ≡ n + i
-    → AreOfLog x k n (take i es) → IsMeant (get_or es i d) → has_key x k j ≡ true → AreOfLog x k n (take (i + 1) es)
-next-of-log x k n es i j d inside at before meant key =
-    let further : suc i ≡ i + 1 = omega arith in
-    subst (λ m. AreOfLog x k n (take m es)) further (of-log-more x k n es i j d inside at before meant key)
 
 pub next-taking : (k first i j : ℕ) (es : List PfairEntry) (d : PfairEntry) (x now next : Replica) (c counted : PfairTakenLog) (how : Taken)
     → i < length es → j ≡ first + i

@@ -1,5 +1,5 @@
-use Rattle.pfair_c.proofs.Common.{rules, ◌≡◌, ◌<◌, ◌+◌, length, arith, replica_of, Replica}
-use Rattle.pfair_c.proofs.TakingFacts.{next-taking, next-of-log, same-key, counted-more, refused-at}
+use Rattle.pfair_c.proofs.Common.{rules, add-one, ◌≡◌, ◌<◌, ◌+◌, length, arith, replica_of, Replica}
+use Rattle.pfair_c.proofs.TakingFacts.{next-taking, of-log-more, same-key, counted-more, refused-at}
 use Rattle.pfair_c.proofs.take.take_log.Goals as goal
 
 pub returns-in-Err-clause-answer : goal.returns-in-Err-clause-answer
@@ -32,7 +32,7 @@ loop-entry-preserved c =
       omega arith,
       counts.0,
       counts.1,
-      next-of-log x c.args.processor c.args.first c.args.entries.now i j _ inside number c.loop-entry.invariant.3 c.in-Ok.ensures.meant.0 key,
+      rw add-one (of-log-more x c.args.processor c.args.first c.args.entries.now i j _ inside number c.loop-entry.invariant.3 c.in-Ok.ensures.meant.0 key),
       next-taking c.args.processor c.args.first i j c.args.entries.now _ x now next c.loop-entry.counted c.one_more-counted.result c.in-Ok.how inside number state c.in-Ok.ensures.offered c.in-Ok.ensures.answer c.one_more-counted.ensures,
       search rules,
     )
