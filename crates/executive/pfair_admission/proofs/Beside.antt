@@ -1,5 +1,5 @@
 -- The members of a next run beside those of the long run.
-use Rattle.std.proofs.Common.{inl, inr, pos, ◌-ℤ◌, nat_le, nat_lt, ◌==◌, ◌||◌, ◌&&◌, is_some}
+use Rattle.std.proofs.Common.{inl, inr, pos, ◌-ℤ◌, nat_le, nat_lt, ◌&&◌, is_some}
 use Rattle.pfair_admission.proofs.Common.{common_steps, AllByRecursion, filter, find, option_map, cases_lt, nat_tests, map-append, sum_by-cons, NamesApart, Share, IsWeight, Announcement, Arrive, Depart, Late, Decision, Admitted, Departing, Delayed, Refused, Delay, Member, is_departing, eligible_from, next_key, lag_at, Machine, is_named, member_named, claimed, arrival, departure, late_release, decision, newcomer, with_freeing, with_delay, with_quantum, change, effect, is_freed, present, decided, all_decided, all_decisions, announcements, subtasks_of, taken_off, raised, all_raised, ◌≡◌, ℕ, ◌+◌, ◌-◌, ◌*◌, ◌≤◌, Bool, true, false, List, [], ◌∷◌, ◌++◌, map, Option, Some, None, refl, sym, ap, ◌∙◌, arith, not, if◌then◌else◌, list_any-append, or-true, apart_head, apart_tail, Said}
 use Rattle.std.proofs.lemmas.Int.{ints}
 use Rattle.std.proofs.lemmas.Simd.{map-map}
@@ -90,10 +90,7 @@ module _ (left : List Member) (begin : ℕ) where
                     let there = theta_later p.long (far index) by (far j) (omega (arith, after)) in
                     omega (arith, was, near, there)
               ]);
-          delayed = λ j later reaches.
-              (let same : (index == j) ≡ (far index == far j) = grind (arith, nat_tests) in
-              list_any-append (λ (x : Delay). x.index == j) p.delays (d ∷ []) ∙ (λ i. p.is.delayed j later reaches i || (same i || false))
-              ∙ sym (list_any-append (λ (x : Delay). x.index == far j) p.long.delays (e ∷ [])));
+          delayed = grind (arith, nat_tests, list_any-append);
         };
       }
 

@@ -63,9 +63,7 @@ one_more start t n announced now after all a d s in_time limits within at is lef
     let front : take (n + 1) announced ≡ take n announced ++ a ∷ [] = take_more announced n a within ∙ ap (λ (x : Announcement). take n announced ++ x ∷ []) at in
     let of : List Member → Membership = λ ms. record start { members = ms } in
     record {
-      left =
-          left ∙ ap (λ (r : Membership). record r { members = decided r.machine t r.members a }) s.left
-          ∙ ap of (sym (decided_push start.machine t start.members (take n announced) a) ∙ ap (all_decided start.machine t start.members) (sym front));
+      left = grind (arith, decided_push);
       decisions =
           ap (λ (l : List Decision). l ++ d ∷ []) s.decisions ∙ ap (λ (x : Decision). all_decisions start.machine t start.members (take n announced) ++ x ∷ []) (is ∙ ap (λ (r : Membership). decision r.machine t r.members a) s.left)
           ∙ sym (decisions_push start.machine t start.members (take n announced) a) ∙ ap (all_decisions start.machine t start.members) (sym front);

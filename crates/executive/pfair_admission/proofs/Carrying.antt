@@ -36,9 +36,7 @@ slots_split next (d ∷ ds) =
     let passed = slots_if (nat_lt d.index next) d (passed_delays next ds) in
     let coming = slots_if (nat_le next d.index) d (coming_delays next ds) in
     let all = sum_by-cons (λ (x : Delay). x.by) d ds in
-    let one = either next d in
-    let rest = slots_split next ds in
-    omega (arith, passed, coming, all, one, rest)
+    grind (arith, slots_split next ds, either)
 
 slots_as_one : (ds : List Delay) → slots (as_one ds) ≡ slots ds
 slots_as_one ds = grind (arith, sum_by-cons)

@@ -29,9 +29,7 @@ arrived machine t ms name w early is = grind (arith, filter-append, filter_again
 -- or all is as it was
 pub not_arrived : {E : Type 0} (machine : Machine) (t : ℕ) (ms : List Member) (name : List ℕ) (w : Share) (early : Bool) (d : Decision) → NoneFreed t ms → (d ≡ Admitted → ⊥) → d ≡ arrival machine ms name w
     → IsDecided {E = E} t (Arrive name w early) (record { machine = machine; members = ms }) (record { machine = machine; members = ms }) (Ok d)
-not_arrived machine t ms name w early d h other is =
-    let same : ms ≡ decided machine t ms (Arrive name w early) = grind (arith, present_all) in
-    record { decision = is; members = stood machine same; err = tt }
+not_arrived machine t ms name w early d h other is = grind (arith, present_all, stood)
 
 pub claimed_arrived : (frame t : ℕ) (ms : List Member) (name : List ℕ) (w : Share) (early : Bool) → claimed frame (ms ++ newcomer t name w early ∷ []) ≡ claimed frame ms + units_of w frame
 claimed_arrived frame t ms name w early = sum_by_push (λ (m : Member). units_of m.weight frame) ms (newcomer t name w early)

@@ -1,6 +1,6 @@
 -- What boundaries and quanta keep.
 use Rattle.std.proofs.Common.{◌||◌}
-use Rattle.pfair_admission.proofs.Common.{common_steps, filter, nat_tests, all_by_recursion_push, append-nil, sum_by_push, Share, Announcement, Decision, Admitted, Refused, Delay, Member, theta, freeing_slot, is_delayed_at, eligible_from, Machine, all_decided, arrival, change, newcomer, with_delay, with_freeing, with_quantum, effect, is_freed, present, decision, decided, all_decisions, boundary, boundary_decisions, ran, carried, NoneFreed, ◌≡◌, ℕ, suc, ◌+◌, ◌%◌, ◌<◌, ◌≤◌, Bool, true, false, cond, List, [], ◌∷◌, ◌++◌, length, get_or, map, refl, sym, ap, ◌∙◌, arith, not, if◌then◌else◌, or-true, release_of, Refusal, AreInFrame, HaveRoom}
+use Rattle.pfair_admission.proofs.Common.{common_steps, filter, nat_tests, all_by_recursion_push, append-nil, sum_by_push, Share, Announcement, Decision, Admitted, Refused, Delay, Member, theta, freeing_slot, is_delayed_at, eligible_from, Machine, all_decided, arrival, change, with_delay, with_quantum, effect, is_freed, present, decision, decided, all_decisions, boundary, boundary_decisions, ran, carried, NoneFreed, ◌≡◌, ℕ, suc, ◌+◌, ◌%◌, ◌<◌, ◌≤◌, Bool, true, false, cond, List, [], ◌∷◌, ◌++◌, length, get_or, map, refl, ap, arith, not, if◌then◌else◌, or-true, release_of, Refusal, AreInFrame, HaveRoom}
 use Rattle.std.proofs.lemmas.List.Kept.{AllPairs-filter}
 use Rattle.std.proofs.lemmas.List.Quantifiers.{all_pairs_push}
 use Rattle.pfair_weight.specs.Window.{starts_job_of}
@@ -45,11 +45,7 @@ frame_change : (machine : Machine) (name : List ℕ) (f : Member → Member) →
 frame_change machine name f keeps = each_change (λ m. machine.frame % m.weight.period ≡ 0) (λ m. machine.frame % m.weight.period ≡ 0) name f keeps (λ m h. h)
 
 frame_effect : (machine : Machine) (t : ℕ) (ms : List Member) (a : Announcement) → AreInFrame machine ms → AreInFrame machine (effect t ms a (decision machine t ms a))
-frame_effect machine t ms a h =
-    by_effect (AreInFrame machine) t ms h a (decision machine t ms a)
-    (λ name w early is admitted. all_by_recursion_push (λ m. machine.frame % m.weight.period ≡ 0) ms (newcomer t name w early) h (admitted_in_frame machine ms name w (sym admitted ∙ ap (decision machine t ms) is)))
-    (λ name slot is _. frame_change machine name (with_freeing slot) (λ m h. h) ms h)
-    (λ name index by is _. frame_change machine name (with_delay index by) (λ m h. h) ms h)
+frame_effect machine t ms a h = grind (arith, by_effect, all_by_recursion_push, admitted_in_frame, frame_change)
 
 pub frame_boundary : (machine : Machine) (t : ℕ) (ms : List Member) (announced : List Announcement) → AreInFrame machine ms → AreInFrame machine (boundary machine t ms announced)
 frame_boundary machine t = by_boundary (AreInFrame machine) machine t (λ ms h. each_filter (λ m. machine.frame % m.weight.period ≡ 0) (λ m. not (is_freed t m.freed_at)) ms h) (frame_effect machine t)

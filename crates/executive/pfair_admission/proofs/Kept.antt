@@ -51,14 +51,11 @@ ledger_joined counts a b m can made unique entered updates =
       short_frame = k.short_frame;
       room = can.room;
       total = omega (arith, all, k.total);
-      first = subst (NoneFreedBefore (earlier_of a.first_freeing m.freed_at)) (sym values)
-          (all_by_recursion_push (λ x. IsNotBefore (earlier_of a.first_freeing m.freed_at) x.freed_at) (listed a) m (first_earlier a.first_freeing m.freed_at (listed a) k.first) (not_before_own a.first_freeing m.freed_at));
+      first = grind (arith, all_by_recursion_push, first_earlier, not_before_own);
     }
 
 pub can_join : (counts : Member → Bool) (a : Ledger) (m : Member) → IsLedger counts a → a.admitted + 1 < 2 ^ 64 → counts m ≡ true → Admitted ≡ arrival (whole a).machine (filter counts (listed a)) m.name m.weight → CanJoin counts a m
-can_join counts a m k numbers counted is =
-    let fits = admitted_room (whole a).machine (filter counts (listed a)) m.name m.weight is in
-    record { kept = k; numbers = numbers; counted = counted; free = admitted_new (whole a).machine (filter counts (listed a)) m.name m.weight is; room = omega (arith, fits, k.total) }
+can_join counts a m k numbers counted is = grind (arith, admitted_room, admitted_new)
 
 -- ---- before and after a boundary
 

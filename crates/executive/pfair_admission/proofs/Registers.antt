@@ -1,6 +1,6 @@
 -- The numbers of members, and the names that lead to them.
 use Rattle.std.proofs.Common.{filter, is_some, position}
-use Rattle.pfair_admission.proofs.Common.{AllByRecursion, IsDistinct, keys_of, values_of, lookup, all_by_recursion_push, nat_tests, same_Some, none-some, slice_get-get_or, insert_entry, set_value_at, NameValue, name_eq, Member, is_named, member_named, NoneFreed, has_number, is_there, IsFound, IsNamedIn, IsNumberOf, IsOnly, IsRegister, Numbered, ◌≡◌, ℕ, zero, suc, ◌+◌, ◌<◌, Bool, true, false, cond, List, [], ◌∷◌, ◌++◌, get_or, Option, IfSome, Some, None, refl, sym, ap, subst, ◌∙◌, arith, nat_eq, not, slice_get}
+use Rattle.pfair_admission.proofs.Common.{AllByRecursion, IsDistinct, keys_of, values_of, lookup, all_by_recursion_push, nat_tests, same_Some, none-some, slice_get-get_or, insert_entry, set_value_at, NameValue, name_eq, Member, is_named, member_named, NoneFreed, has_number, is_there, IsFound, IsNamedIn, IsNumberOf, IsOnly, IsRegister, Numbered, ◌≡◌, ℕ, zero, suc, ◌+◌, ◌<◌, Bool, true, false, cond, List, [], ◌∷◌, ◌++◌, Option, IfSome, Some, None, refl, sym, ap, subst, ◌∙◌, arith, nat_eq, not, slice_get}
 use Rattle.std.specs.Cmp.Lexicographic.{bytes_decides}
 use Rattle.std.proofs.lemmas.List.Quantifiers.{position-Some}
 use Rattle.pfair_admission.proofs.Each.{each, each_kept, both}
@@ -49,15 +49,13 @@ none_named : (counts : Member → Bool) (name : NameValue) (names : Names) (es :
 none_named counts name names [] h none = refl
 none_named counts name names (e ∷ es) h none =
     let own : counts e.1 ≡ true → is_named name e.1 ≡ true → ⊥ = λ there named. none-some e.0 (sym none ∙ ap (λ n. lookup (name_eq n) names) (same_name name e.1.name named) ∙ h.0 there) in
-    let rest = none_named counts name names es h.1 none in
-    grind arith
+    grind (arith, none_named counts name names es h.1 none)
 
 number_of : (es : Numbered) (names : Names) (name : NameValue) (number : ℕ) → AllByRecursion (λ e. IsNumberOf es e.0 e.1) names → lookup (name_eq name) names ≡ Some number → IsNumberOf es name number
 number_of es [] name number h at = absurd (none-some number at)
 number_of es (e ∷ names) name number h at =
     let here : name_eq name e.0 ≡ true → Some e.1 ≡ Some number → IsNumberOf es name number = λ same is. subst (λ n. IsNumberOf es n number) (sym (same_name name e.0 same)) (subst (IsNumberOf es e.0) (same_Some e.1 number is) h.0) in
-    let there : lookup (name_eq name) names ≡ Some number → IsNumberOf es name number = number_of es names name number h.1 in
-    (elim (name_eq name e.0) as (λ b. name_eq name e.0 ≡ b → cond b (Some e.1) (lookup (name_eq name) names) ≡ Some number → IsNumberOf es name number) [ true ↦ here | false ↦ λ _. there ]) refl at
+    grind (arith, number_of es names name number h.1, lookup)
 
 -- the number of one that counts is that of its name
 pub number_at : (counts : Member → Bool) (names : Names) (es : Numbered) (place : ℕ) (x : Member) → AllByRecursion (IsNamedIn counts names) es → slice_get (values_of es) place ≡ Some x → counts x ≡ true → slice_get (keys_of es) place ≡ lookup (name_eq x.name) names
@@ -86,8 +84,7 @@ one_place (n ∷ ns) number (suc place) (suc other) unique here there = ap suc (
 key_at : (ns : List ℕ) (number place : ℕ) → position (nat_eq number) ns ≡ Some place → slice_get ns place ≡ Some number
 key_at ns number place at =
     let found = position-Some (nat_eq number) ns place number at in
-    let is : get_or ns place number ≡ number = grind (arith, nat_tests, found.1) in
-    slice_get-get_or ns place number found.0 ∙ ap (λ (k : ℕ). Some k) is
+    grind (arith, nat_tests, slice_get-get_or)
 
 pub values_at : (es : Numbered) (number : ℕ) (o : Option ℕ) → IfSome o (λ i. slice_get (values_of es) i ≡ lookup (nat_eq number) es) → (i : ℕ) → o ≡ Some i → slice_get (values_of es) i ≡ lookup (nat_eq number) es
 values_at es number o at i is = grind (arith, none-some, same_Some)
@@ -160,8 +157,7 @@ register_more counts admitted es es' names names' m r none made unique entered u
     let new : IsNumberOf more m.name admitted = record { member = m; at = lookup_fresh admitted m es r.numbered; named = refl } in
     let own : IsNamedIn counts names' (admitted, m) = λ _. updates m.name ∙ ap (λ b. cond b (Some admitted) (lookup (name_eq m.name) names)) ((bytes_decides m.name m.name).1 refl) in
     record {
-      numbered = subst (λ (l : Numbered). AllByRecursion (λ e. e.0 < admitted + 1) l) (sym made)
-          (all_by_recursion_push (λ e. e.0 < admitted + 1) es (admitted, m) (each (λ e. e.0 < admitted) (λ e. e.0 < admitted + 1) (λ e less. omega (arith, less)) es r.numbered) (omega arith));
+      numbered = grind (arith, all_by_recursion_push, each);
       unique = unique;
       named = subst (λ (l : Numbered). AllByRecursion (λ e. IsNumberOf l e.0 e.1) names') (sym made)
           (subst (λ (l : Names). AllByRecursion (λ e. IsNumberOf more e.0 e.1) l) (sym entered)

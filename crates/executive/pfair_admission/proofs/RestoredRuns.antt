@@ -16,10 +16,7 @@ pub named_more : (machine : Machine) (t : ℕ) (members : List Member) (m : Memb
 named_more machine t members m can h = apart_push label members m (others_named m.name members (admitted_new machine members m.name m.weight (sym can.admitted))) h
 
 pub room_more : (machine : Machine) (t : ℕ) (members : List Member) (m : Member) → CanBeRestored machine t members m → HaveRoom machine (members ++ m ∷ [])
-room_more machine t members m can =
-    let fits = admitted_room machine members m.name m.weight (sym can.admitted) in
-    let sum = sum_by_push (λ (x : Member). units_of x.weight machine.frame) members m in
-    omega (arith, fits, sum)
+room_more machine t members m can = grind (arith, admitted_room, sum_by_push)
 
 pub in_frame_more : (machine : Machine) (t : ℕ) (members : List Member) (m : Member) → CanBeRestored machine t members m → AreInFrame machine members → AreInFrame machine (members ++ m ∷ [])
 in_frame_more machine t members m can h = all_by_recursion_push (λ (x : Member). machine.frame % x.weight.period ≡ 0) members m h (admitted_in_frame machine members m.name m.weight (sym can.admitted))
@@ -37,14 +34,7 @@ all_able t members h = each (IsLeftAt t) CanBeCarried (λ m left. left.able) mem
 -- ---- what a run leaves
 
 pub left_carried : (t : ℕ) (m : Member) → IsWeight m.weight.cost m.weight.period → CanBeCarried m → 1 ≤ m.next → (carried m).joined < t → IsNotBefore (Some t) m.freed_at → IsLeftAt t (carried m)
-left_carried t m weighed able first joined freed = record {
-  weighed = weighed;
-  able = able_again m able;
-  again = carried_again m;
-  first = (let low = done_low m in omega (arith, low, first));
-  joined = joined;
-  freed_at = freed;
-}
+left_carried t m weighed able first joined freed = grind (arith, able_again, carried_again, done_low)
 
 middle : {A : Type 0} (P : A → Type 0) (xs ys : List A) (x : A) → AllByRecursion P (xs ++ x ∷ ys) → P x
 middle P [] ys x h = h.0
@@ -61,8 +51,7 @@ in_turn machine t before after m named room divides left =
     let units : Member → ℕ = λ (x : Member). units_of x.weight machine.frame in
     let all = sum_by-append units before (m ∷ after) in
     let rest = sum_by-cons units m after in
-    let fits : claimed machine.frame before + units m ≤ machine.processors * machine.frame = omega (arith, room, all, rest) in
-    record { admitted = beside m.name m.weight (free_before before after m named) divides fits; left = left }
+    grind (arith, beside, free_before)
   where
     beside : (name : List ℕ) (w : Share) → member_named before name ≡ None → machine.frame % w.period ≡ 0 → claimed machine.frame before + units_of w machine.frame ≤ machine.processors * machine.frame → arrival machine before name w ≡ Admitted
     beside name w free divides fits = grind (arith, nat_tests)

@@ -1,6 +1,6 @@
 -- What a run can leave, and whether it is restored.
 use Rattle.std.proofs.Common.{is_some, nat_le}
-use Rattle.pfair_admission.proofs.Common.{common_steps, list_all, values_of, all_by_recursion_push, nat_tests, sum_by-cons, Delay, LAST_SLOT, Member, last_offset, IsWeight, Share, Decision, Admitted, Refused, LONGEST_DELAY, IsFound, Numbered, EachBounded, Membership, arrival, is_freed, member_named, Machine, as_one, carried, coming_delays, delays_from, jobs_done, passed_delays, subtasks_done, IsNotBefore, is_left_at, is_summed_up, CanBeRestored, IsLeftAt, ◌≡◌, ℕ, ◌+◌, ◌-◌, ◌*◌, ◌<◌, ◌≤◌, Bool, true, false, List, [], ◌∷◌, ◌++◌, length, length-append, map, Option, Some, None, Result, Ok, Err, OnOk, OnErr, refl, sym, ap, subst, ◌∙◌, arith, div-eq_of_lt, Refusal, NameTaken}
+use Rattle.pfair_admission.proofs.Common.{common_steps, list_all, values_of, all_by_recursion_push, nat_tests, sum_by-cons, Delay, Member, IsWeight, Share, Decision, Admitted, Refused, IsFound, Numbered, EachBounded, Membership, arrival, is_freed, member_named, Machine, as_one, carried, coming_delays, delays_from, jobs_done, passed_delays, subtasks_done, IsNotBefore, is_left_at, is_summed_up, CanBeRestored, IsLeftAt, ◌≡◌, ℕ, ◌+◌, ◌-◌, ◌*◌, ◌<◌, ◌≤◌, Bool, true, false, List, [], ◌∷◌, ◌++◌, length, length-append, map, Option, Some, None, Result, Ok, Err, OnOk, OnErr, refl, sym, ap, subst, ◌∙◌, arith, div-eq_of_lt, Refusal, NameTaken}
 use Rattle.pfair_admission.proofs.CarriedAgain.{done_low, lowered_by_none, next_low}
 use Rattle.pfair_admission.proofs.Written.{filter_all, only_named}
 
@@ -34,9 +34,7 @@ first_summed next [] ds h = come_summed next ds h
 first_summed next (d ∷ passed) ds h = grind (arith, nat_tests)
 
 pub again_summed : (next : ℕ) (ds : List Delay) → delays_from next 0 ds ≡ ds → is_summed_up next ds ≡ true
-again_summed next ds is =
-    let later = lowered_by_none (coming_delays next ds) in
-    sym (ap (is_summed_up next) is) ∙ ap (λ (l : List Delay). is_summed_up next (as_one (passed_delays next ds) ++ l)) later ∙ first_summed next (passed_delays next ds) (coming_delays next ds) (coming_come next ds)
+again_summed next ds is = grind (arith, lowered_by_none, first_summed, coming_come)
 
 -- ---- members that have nothing left to carry
 
@@ -47,10 +45,7 @@ pub stays : (m : Member) → 1 ≤ m.weight.cost → m.next ≤ m.weight.cost + 
 stays m some first summed =
     let none = none_over m some first in
     let off : subtasks_done m ≡ 0 = (let e = ap (λ n. n * m.weight.cost) none in omega (arith, e)) in
-    let joined : m.joined + jobs_done m * m.weight.period ≡ m.joined = (let e = ap (λ n. n * m.weight.period) none in omega (arith, e)) in
-    let next : m.next - subtasks_done m ≡ m.next = omega (arith, off) in
-    let late : delays_from m.next (subtasks_done m) m.delays ≡ m.delays = ap (λ n. delays_from m.next n m.delays) off ∙ summed_again m.next m.delays summed in
-    λ i. record m { joined = joined i; delays = late i; next = next i }
+    grind (arith, summed_again)
 
 pub none_off : (m : Member) → carried m ≡ m → subtasks_done m ≡ 0
 none_off m again = let low = done_low m in let next = ap (λ (x : Member). x.next) again in omega (arith, low, next)
@@ -71,24 +66,10 @@ left_at t m weighed h =
     let joined : m.joined < t = grind (arith, nat_tests) in
     let stays_now : is_freed (t - 1) m.freed_at ≡ false = grind (arith, nat_tests) in
     let summed : is_summed_up m.next m.delays ≡ true = grind (arith, nat_tests) in
-    let offset : last_offset m ≤ LAST_SLOT = grind (arith, nat_tests) in
-    let again = stays m weighed.some_cost next summed in
-    record {
-      weighed = weighed;
-      able = record { cost = (weighed.some_cost, grind (arith, nat_tests)); offset = subst (λ (x : Member). last_offset x ≤ LAST_SLOT) (sym again) offset };
-      again = again;
-      first = grind (arith, nat_tests);
-      joined = joined;
-      freed_at = not_before t m.freed_at (omega (arith, joined)) stays_now;
-    }
+    grind (arith, nat_tests, stays, not_before)
 
 pub is_left : (t : ℕ) (m : Member) → IsLeftAt t m → is_left_at t m ≡ true
-is_left t m h =
-    let next : m.next ≤ m.weight.cost + 1 = subst (λ (x : Member). x.next ≤ m.weight.cost + 1) h.again (next_low m h.able.cost.0 h.first) in
-    let stays_now = not_freed t m.freed_at (omega (arith, h.joined)) h.freed_at in
-    let summed : is_summed_up m.next m.delays ≡ true = again_summed m.next m.delays (ap (λ n. delays_from m.next n m.delays) (sym (none_off m h.again)) ∙ ap (λ (x : Member). x.delays) h.again) in
-    let offset : last_offset m ≤ LAST_SLOT = subst (λ (x : Member). last_offset x ≤ LAST_SLOT) h.again h.able.offset in
-    grind (arith, nat_tests)
+is_left t m h = grind (arith, next_low, not_freed, again_summed, none_off, nat_tests)
 
 -- ---- whether the name and the weight are admitted
 
@@ -118,7 +99,5 @@ length_restored (Err e) old new m is same = let more = ap (λ (s : Membership). 
 
 pub bounded_restored : {A E : Type 0} (r : Result A E) (heard t : ℕ) (machine : Machine) (old new : Membership) (m : Member) → OnOk r (CanBeRestored machine t old.members m) → OnOk r (new ≡ record old { members = old.members ++ m ∷ [] })
     → OnErr r (new ≡ old) → EachBounded heard old.members → EachBounded heard new.members
-bounded_restored (Ok x) heard t machine old new m fit is same h =
-    let fits = subst (λ (x : Member). last_offset x ≤ LAST_SLOT) fit.left.again fit.left.able.offset in
-    subst (λ (s : Membership). EachBounded heard s.members) (sym is) (all_by_recursion_push (λ x. last_offset x ≤ LAST_SLOT + LONGEST_DELAY * heard) old.members m h (omega (arith, fits)))
+bounded_restored (Ok x) heard t machine old new m fit is same h = grind (arith, all_by_recursion_push)
 bounded_restored (Err e) heard t machine old new m fit is same h = subst (λ (s : Membership). EachBounded heard s.members) (sym same) h

@@ -1,7 +1,7 @@
 -- The members of a next run, numbered anew.
 use Rattle.std.proofs.Common.{filter, ◌^◌}
 use Rattle.pfair_admission.proofs.MemberLists.{claimed_carried, claimed_part, take_one}
-use Rattle.pfair_admission.proofs.Common.{CanJoin, Membership, whole, units_of, length-append, common_steps, AllByRecursion, keys_of, values_of, lookup, map-append, same_Some, none-some, name_eq, LONGEST_DELAY, LAST_SLOT, Member, last_offset, claimed, is_named, member_named, carried, CanBeCarried, listed, IsLedger, IsRegister, Numbered, EachBounded, ◌≡◌, ℕ, zero, suc, ◌+◌, ◌*◌, ◌<◌, ◌≤◌, true, List, [], ◌∷◌, ◌++◌, length, map, take, Some, None, refl, sym, ap, ◌∙◌, arith, slice_get, Ledger}
+use Rattle.pfair_admission.proofs.Common.{CanJoin, Membership, whole, length-append, common_steps, AllByRecursion, keys_of, values_of, lookup, map-append, same_Some, none-some, name_eq, LONGEST_DELAY, LAST_SLOT, Member, last_offset, is_named, member_named, carried, CanBeCarried, listed, IsLedger, IsRegister, Numbered, EachBounded, ◌≡◌, ℕ, zero, suc, ◌+◌, ◌*◌, ◌<◌, ◌≤◌, true, List, [], ◌∷◌, ◌++◌, length, map, take, Some, None, refl, sym, ap, ◌∙◌, arith, slice_get, Ledger}
 use Rattle.pfair_admission.proofs.Each.{each_map}
 use Rattle.pfair_admission.proofs.Registers.{number_at, one_place, same_name, Names}
 use Rattle.pfair_order.proofs.RankLemmas.{at_each}
@@ -49,13 +49,7 @@ carried_joins a next place m n k here is few s =
       numbers = omega (arith, few, s.admitted);
       counted = refl;
       free = ap (λ (l : List Member). member_named (filter (λ _. true) l) m.name) s.members ∙ unnamed a.admitted a.members.entries a.names.entries place m k.register here;
-      room =
-          (let part = claimed_part a.frame (listed a) place m here in
-          let all = ap (claimed a.frame) (filter_all (listed a)) in
-          let now : claimed next.frame (filter (λ _. true) (listed next)) ≡ claimed a.frame (take place (listed a)) = (λ i. claimed (s.frame i) (filter_all (listed next) i)) ∙ ap (claimed a.frame) s.members ∙ claimed_carried a.frame (take place (listed a)) in
-          let units = ap (λ n. units_of m.weight n) s.frame in
-          let most : next.processors * next.frame ≡ a.processors * a.frame = λ i. s.processors i * s.frame i in
-          omega (arith, part, all, now, units, most, k.total, k.room, s.kept.total));
+      room = grind (arith, claimed_part, filter_all, claimed_carried);
     })
 
 pub carried_more : (a next after : Ledger) (place : ℕ) (m n : Member) → slice_get (listed a) place ≡ Some m → n ≡ carried m → AreCarried a place next → whole after ≡ record (whole next) { members = listed next ++ n ∷ [] }

@@ -81,8 +81,7 @@ only_written counts name f [] place m n is there changed = absurd (none-some m i
 only_written counts name f (x ∷ ms) zero m n is there changed =
     let same : x ≡ m = same_Some x m is.at in
     let others = others_changed counts name f ms (after_only counts name x m ms is) in
-    let again = filter_again counts ms in
-    grind (arith, map)
+    grind (arith, filter_again)
 only_written counts name f (x ∷ ms) (suc place) m n is there changed =
     let rest = only_written counts name f ms place m n (later_only counts name x m ms place is) there changed in
     let before : counts x ≡ true → is_named name x ≡ false = before_only counts name x m ms place is in
@@ -97,8 +96,7 @@ claimed_written counts frame [] place m n at there same = absurd (none-some m at
 claimed_written counts frame (x ∷ ms) zero m n at there same =
     let is = same_Some x m at in
     let new = sum_by-cons (λ (y : Member). units_of y.weight frame) n (filter counts ms) in
-    let old = sum_by-cons (λ (y : Member). units_of y.weight frame) x (filter counts ms) in
-    grind arith
+    grind (arith, sum_by-cons)
 claimed_written counts frame (x ∷ ms) (suc place) m n at there same =
     let rest = claimed_written counts frame ms place m n at there same in
     let new = sum_by-cons (λ (y : Member). units_of y.weight frame) x (filter counts (with_at ms place n)) in

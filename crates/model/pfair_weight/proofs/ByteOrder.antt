@@ -35,8 +35,7 @@ spelled_worth n (byte ∷ bytes) =
     let power = pow-suc 256 (length bytes) in
     let first = by_power (length bytes) byte in
     let spread : (n * 256 + byte) * 256 ^ length bytes ≡ n * (256 ^ length bytes * 256) + byte * 256 ^ length bytes = omega arith in
-    let raised : n * (256 ^ length bytes * 256) ≡ n * 256 ^ suc (length bytes) = ap (λ p. n * p) (sym power) in
-    omega (arith, rest, first, spread, raised)
+    grind arith
 
 one_on : (k i : ℕ) → suc k - suc i ≡ k - i
 one_on k i = omega arith
@@ -117,9 +116,7 @@ first_byte m byte (next ∷ bytes) fits h = ap (λ n. n % 256) (before (m * 256 
 
 written : (m : ℕ) (bytes : List ℕ) → Small bytes → bytes_high_first (length bytes) (spelled m bytes) ≡ bytes
 written m [] h = refl
-written m (byte ∷ bytes) h =
-    ap (λ b. b ∷ bytes_high_first (length bytes) (spelled (m * 256 + byte) bytes)) (first_byte m byte bytes h.0 h.1)
-    ∙ ap (λ l. byte ∷ l) (written (m * 256 + byte) bytes h.1)
+written m (byte ∷ bytes) h = grind (arith, written (m * 256 + byte) bytes h.1, bytes_high_first, first_byte)
 
 -- the bytes of a name's number
 pub number_bytes : (name : List ℕ) → IsTaskName name → to_be_bytes w128 (number_of name) ≡ with_zeros name

@@ -1,5 +1,4 @@
 -- The length of a name, by the number that its bytes spell, the first of them the lowest, with the zeros after it.
-use Rattle.std.proofs.Common.{⊎_elim}
 use Rattle.pfair_weight.proofs.Common.{common_steps, w128, byte_worth, from_le_bytes, leading_zeros, sum_through, leading_top, pow_pos, pow-suc, IsTaskName, before_zero, IsPadded, ℕ, zero, suc, ◌≡◌, ◌+◌, ◌-◌, ◌*◌, ◌/◌, ◌^◌, ◌<◌, ◌≤◌, List, [], ◌∷◌, ◌++◌, length, take, refl, ap, ◌∙◌, arith, replicate, slice_index}
 use Rattle.std.proofs.lemmas.Bool.{cases_lt}
 use Rattle.std.proofs.Math.Pow.{pow-add, pow_mono}
@@ -66,11 +65,7 @@ zeros_before : (n k : ℕ) → k ≤ 15 → n < 2 ^ 128 → powers k ≤ n → n
 zeros_before n k few fits from to =
     let some = pow_pos (8 * k) in
     let top = leading_top 128 n (omega (arith, some, from)) fits in
-    let j = top.0 in
-    let least : 8 * k ≤ j = ⊎_elim (λ short. omega (arith, pow_mono short, from, top.3)) (λ h. h) (cases_lt j (8 * k)) in
-    let most : j < 8 * suc k = ⊎_elim (λ h. h) (λ long. omega (arith, pow_mono long, to, top.2)) (cases_lt j (8 * suc k)) in
-    let counted = top.1 in
-    omega (arith, least, most, counted, few)
+    grind (arith, pow_mono, cases_lt)
 
 fits : (k n : ℕ) → k ≤ 16 → n < powers k → n < 2 ^ 128
 fits k n few h = grind (arith, pow_mono, common_steps)

@@ -24,9 +24,7 @@ plain field h = unmarked field (not-true (list_any is_mark field) (and_parts (no
 pub joined : (fields : List (List ℕ)) → list_all is_plain fields ≡ true → IsOneLine (join_with_byte 44 fields)
 joined [] h = tt
 joined (f ∷ []) h = plain f (and_parts (is_plain f) true h).0
-joined (f ∷ g ∷ fs) h =
-    let parts = and_parts (is_plain f) (list_all is_plain (g ∷ fs)) h in
-    both_lines f (44 ∷ join_with_byte 44 (g ∷ fs)) (plain f parts.0) (eqb-false 44 10 refl, joined (g ∷ fs) parts.1)
+joined (f ∷ g ∷ fs) h = grind (arith, joined (g ∷ fs), and_parts, list_all, both_lines, join_with_byte, plain, eqb-false)
 
 -- ---- the fields of an entry are plain
 
@@ -61,5 +59,4 @@ at_each (b ∷ bytes) h (suc k) d inside = at_each bytes h.1 k d (omega arith)
 
 pub texts_are_rows : TextsAreRows
 texts_are_rows [] h = refl
-texts_are_rows (x ∷ entries) h =
-    grind (arith, append_assoc, slice_split_at, at_each, rows_are_lines, texts_are_rows entries h.1)
+texts_are_rows (x ∷ entries) h = grind (arith, texts_are_rows entries h.1, append_assoc, slice_split_at, at_each, rows_are_lines)

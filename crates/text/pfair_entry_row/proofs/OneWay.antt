@@ -19,8 +19,7 @@ no_entry : (row : List ℕ) (p n : ℕ) (e : Logged) (f : RowFault) → IsEntryA
 no_entry row p n e f h is s =
     let same = entry_row_injective p n e s.processor s.number s.entry (sayable p n e h) s.sayable (sym is ∙ s.row_is) in
     let read = read_back p n e s.processor s.number s.entry h same in
-    let refused = s.refused in
-    cc
+    grind arith
 
 entry_or_fault : (row : List ℕ) (p n : ℕ) (e : Logged) (f : RowFault) → IsEntryAt p n e → row ≡ entry_row p n e → IsRowFaultOf row f → ⊥
 entry_or_fault row p n e f h is fault =

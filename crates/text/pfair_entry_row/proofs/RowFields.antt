@@ -17,8 +17,7 @@ no_comma-truth true = no_comma-plain (truth true) refl
 no_comma-truth false = no_comma-plain (truth false) refl
 
 announced_no_commas : (a : Announcement) → IsSpelled a → HaveNoCommas (announced_fields a)
-announced_no_commas (Arrive name weight early) h =
-    grind (arith, no_comma-plain, no_comma-decimal, no_comma-truth, no_comma-dash)
+announced_no_commas (Arrive name weight early) h = grind (arith, no_comma-plain, no_comma-decimal, no_comma-truth, no_comma-dash)
 announced_no_commas (Depart name) h = grind (arith, no_comma-plain, no_comma-dash)
 announced_no_commas (Late name index by) h = grind (arith, no_comma-plain, no_comma-dash, no_comma-decimal)
 

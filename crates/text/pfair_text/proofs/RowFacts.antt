@@ -31,9 +31,7 @@ no-mark true e = cc e
 
 -- a plain field is written as it is
 pub field_text-plain : (field : List ℕ) → is_plain field ≡ true → field_text row_writer field ≡ field
-field_text-plain field h =
-    let parts = and_parts (not (length field == 0)) (not (list_any is_mark field)) h in
-    rw (any_congr (needs_byte row_writer) is_mark needs-mark field, no-mark (list_any is_mark field) parts.1) refl
+field_text-plain field h = grind (arith, and_parts, any_congr, needs_byte, needs-mark, no-mark)
 
 -- the fields after the first
 rest-plain : (first : List ℕ) (rest : List (List ℕ)) → list_all is_plain rest ≡ true → (first ++ fields_text row_writer rest) ≡ join_with_byte 44 (first ∷ rest)
@@ -53,9 +51,7 @@ shows first (next ∷ rest) h = refl
 -- a row of plain fields is their line
 pub row_text-plain : (fields : List (List ℕ)) → 0 < length fields → list_all is_plain fields ≡ true → row_text row_writer fields ≡ line fields
 row_text-plain [] some h = absurd (omega arith)
-row_text-plain (first ∷ rest) some h =
-    let parts = and_parts (is_plain first) (list_all is_plain rest) h in
-    rw (shows first rest parts.0, field_text-plain first parts.0, rest-plain first rest parts.1) refl
+row_text-plain (first ∷ rest) some h = grind (arith, and_parts, list_all, shows, field_text-plain, rest-plain)
 
 digit : (n : ℕ) → n < 10 → list_any is_mark ((48 + n) ∷ []) ≡ false
 digit n h = rw (ne_eqb (48 + n) 44 (omega arith), ne_eqb (48 + n) 34 (omega arith), ne_eqb (48 + n) 13 (omega arith), ne_eqb (48 + n) 10 (omega arith)) refl
@@ -66,9 +62,7 @@ unmarked-decimal = decimal_by_steps (λ n ds. list_any is_mark ds ≡ false) dig
 
 -- a decimal number is plain
 pub is_plain-decimal : (n : ℕ) → n < 2 ^ 64 → is_plain (decimal n) ≡ true
-is_plain-decimal n h =
-    let some = decimal_nonempty n h in
-    rw (ne_eqb (length (decimal n)) 0 (omega arith), unmarked-decimal n h) refl
+is_plain-decimal n h = grind (arith, decimal_nonempty, ne_eqb, decimal, unmarked-decimal)
 
 -- ---- fields by their bytes
 
@@ -79,8 +73,7 @@ unmarked_by_bytes (b ∷ bytes) each =
 
 -- a field that isn't empty, and none of whose bytes is a mark, is plain
 pub is_plain-by_bytes : (bytes : List ℕ) → 0 < length bytes → ((place : ℕ) → place < length bytes → is_mark (slice_index bytes place) ≡ false) → is_plain bytes ≡ true
-is_plain-by_bytes bytes some each =
-    rw (ne_eqb (length bytes) 0 (omega arith), unmarked_by_bytes bytes each) refl
+is_plain-by_bytes bytes some each = grind (arith, ne_eqb, unmarked_by_bytes)
 
 -- a text of lines, and then of more
 pub lines_text-append : (rows more : List (List (List ℕ))) → lines_text (rows ++ more) ≡ lines_text rows ++ lines_text more
