@@ -1,5 +1,5 @@
 -- What all sound beginnings come to: their least mark, and how many entries they have.
-use Rattle.pfair_replica.proofs.Common.{map-append, get_or_from_slice_get, Beginning, beginning_in, first_mark, least_mark, total_count, Replica, numbers_below, mark, frontier, sound_total, ℕ, zero, suc, ◌+◌, ◌≤◌, ◌≡◌, refl, sym, ap, ◌∙◌, arith, min, List, [], ◌∷◌, ◌++◌, length, take, map, Some, fold, slice_get, replicate}
+use Rattle.pfair_replica.proofs.Common.{map-append, get_or_from_slice_get, Beginning, beginning_in, first_mark, least_mark, total_count, Replica, numbers_below, mark, frontier, sound_total, ℕ, zero, suc, ◌+◌, ◌≤◌, ◌≡◌, refl, sym, ap, ◌∙◌, arith, min, List, [], ◌∷◌, length, take, map, Some, fold, slice_get, replicate}
 use Rattle.std.proofs.lemmas.List.Folds.{fold-map, sum_by-replicate}
 use Rattle.std.proofs.Math.Seq.{take-length, take-suc}
 use Rattle.pfair_replica.proofs.SoundEntries.{some_at}

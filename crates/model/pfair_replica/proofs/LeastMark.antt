@@ -1,5 +1,5 @@
 -- The frontier is the least of the marks.
-use Rattle.pfair_replica.proofs.Common.{cases_eq, cases_lt, map-append, mark, numbers_below, IsLeastMark, ℕ, zero, suc, ◌+◌, ◌<◌, ◌≤◌, ◌≡◌, refl, ◌∙◌, subst, arith, inl, inr, ⊎_elim, min, ◌⊎◌, map, fold, add-one}
+use Rattle.pfair_replica.proofs.Common.{cases_eq, cases_lt, map-append, mark, numbers_below, IsLeastMark, ℕ, zero, suc, ◌+◌, ◌<◌, ◌≤◌, ◌≡◌, refl, subst, arith, inl, inr, ⊎_elim, min, ◌⊎◌, map, fold, add-one}
 use Rattle.std.proofs.lemmas.List.Sums.{fold-append}
 
 -- one more of the numbers of which the least is sought

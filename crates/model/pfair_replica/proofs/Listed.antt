@@ -1,5 +1,5 @@
 -- What the lists of torn and of fallen keys contain.
-use Rattle.pfair_replica.proofs.Common.{true≢false, ltb-true, lt-ltb, One, Torn, Held, Logged, EntryKey, Replica, IsReplica, sound_beginning, mark, is_torn, entry_key, numbers_below, numbers_to, torn_in, torn_keys, fallen_at, fallen_in, fallen_keys, IsListed, Among, among_contains, contains_among, among_filter, filter_among, among_map, map_among, among_flat, flat_among, below_among, ℕ, zero, suc, ◌+◌, ◌<◌, ◌≤◌, ◌≡◌, refl, sym, ap, ◌∙◌, subst, arith, inl, true, cond, [], ◌∷◌, length, Some, filter, Contains}
+use Rattle.pfair_replica.proofs.Common.{true≢false, ltb-true, lt-ltb, One, Torn, Held, Logged, EntryKey, Replica, IsReplica, sound_beginning, mark, is_torn, entry_key, numbers_below, numbers_to, torn_in, torn_keys, fallen_at, fallen_in, fallen_keys, IsListed, Among, among_contains, contains_among, among_filter, filter_among, among_map, map_among, among_flat, flat_among, below_among, ℕ, zero, suc, ◌+◌, ◌<◌, ◌≤◌, ◌≡◌, refl, sym, ap, subst, arith, inl, true, cond, [], ◌∷◌, length, Some, filter, Contains}
 
 -- ---- torn keys
 

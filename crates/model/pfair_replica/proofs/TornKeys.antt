@@ -1,6 +1,6 @@
 -- The torn keys, the first of them, and the test that there is one.
 use Rattle.std.proofs.Common.{◌||◌}
-use Rattle.pfair_replica.proofs.Common.{option_map, true≢false, or_parts, cases_lt, append-nil, flat_map-append, Held, Torn, Logged, Among, below_among, Replica, IsReplica, Untorn, is_torn, has_torn, entry_key, numbers_below, numbers_to, torn_in, torn_keys, ℕ, zero, suc, ◌+◌, ◌<◌, ◌≤◌, ◌≡◌, refl, sym, ap, ◌∙◌, subst, arith, inl, inr, Bool, true, false, List, [], ◌∷◌, ◌++◌, Some, None, ◌≢◌, ◌↔◌, map, filter, find, flat_map, slice_get, is_some}
+use Rattle.pfair_replica.proofs.Common.{option_map, true≢false, or_parts, cases_lt, append-nil, flat_map-append, Held, Torn, Logged, Among, below_among, Replica, IsReplica, Untorn, is_torn, has_torn, entry_key, numbers_below, numbers_to, torn_in, torn_keys, ℕ, zero, suc, ◌+◌, ◌<◌, ◌≤◌, ◌≡◌, refl, sym, ap, ◌∙◌, arith, inl, inr, Bool, true, false, List, [], ◌∷◌, ◌++◌, Some, None, ◌≢◌, ◌↔◌, map, filter, find, flat_map, slice_get, is_some}
 use Rattle.std.specs.List.{list_any}
 
 -- ---- the first torn key
