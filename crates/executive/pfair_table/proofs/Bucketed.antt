@@ -30,10 +30,7 @@ pub record AreBucketsBelow (rows : Table) (ends : List ℕ) (i : ℕ) : Type 0 w
   pub found : (r : ℕ) (p : Pick) → r < i → slice_get rows r ≡ Some p → slice_index ends (bucket p.name) ≢ 0
 
 pub one_more : (rows : Table) (ends : List ℕ) (i b : ℕ) (p : Pick) → AreBucketsBelow rows ends i → slice_get rows i ≡ Some p → b ≡ bucket p.name → b < 256 → AreBucketsBelow rows (set ends b (i + 1)) (i + 1)
-one_more rows ends i b p below at_i is room =
-    let long = below.long in
-    let inside : b < length ends = omega (arith, long, room) in
-    grind (arith, length-set, get_or-set_same, get_or-set_other, cases_eq)
+one_more rows ends i b p below at_i is room = grind (arith, length-set, get_or-set_same, get_or-set_other, cases_eq)
 
 zeros : (n b : ℕ) → slice_index (replicate n 0) b ≡ 0
 zeros n b = grind (arith, common_steps)

@@ -106,6 +106,4 @@ module _ {start : Roster} {first : List Key} {i : ℕ} {roster : Roster} {table 
             (let same = name_exact name key.name q in
             is ∙ ap (λ n. queued (member_named after.members n)) (sym same)
             ∙ sym (ap (λ b. if b then None else queued (member_named after.members name)) (ap (λ n. has_key_of n (drop (i + 1) first)) same ∙ apart_after (take i first) key (drop (i + 1) first) split_apart)))
-        by name false q is =
-            let was = so.queue name ∙ ap (λ (ks : List Key). if has_key_of name ks then None else queued (member_named roster.members name)) (drop_item first i key inside item) in
-            grind (arith, was, found_other name key.name with_quantum (λ m. refl) q roster.members)
+        by name false q is = grind (arith, drop_item, found_other)

@@ -73,9 +73,7 @@ pub course_next : (s : Settings) (p : PlannedSlots) (x : ReplicaRows) → p.sett
     → record { origin = p.origin; replica = replica_of x; tables = (with_next p x).tables; decided = (with_next p x).decided }
     ≡ (let c : Course = record { origin = p.origin; replica = replica_of x; tables = p.tables; decided = p.decided } in
     if is_plannable s (replica_of x) (length p.tables) then with_next_slot s c else c)
-course_next s p x same can =
-    let c : Course = record { origin = p.origin; replica = replica_of x; tables = p.tables; decided = p.decided } in
-    ap (λ (r : Settings). with_next_slot r c) same ∙ ap (λ b. if b then with_next_slot s c else c) (sym can)
+course_next s p x same can = grind arith
 
 -- and with none planned
 pub course_same : (d : Dispatch) → is_plannable d.settings (replica_of d.replica) (length d.tables) ≡ false

@@ -60,25 +60,14 @@ module _ {o : Origin} {s : Settings} {of : ReplicaRows} {first forgotten : ℕ} 
   last_table_is = last_all (λ p. p.plan.table.items) (table_before o) all kept.tables_are (tables_long o s of (first + length slots))
 
   pub last_places_are : last_or (places_before o) (map (λ p. p.places.items) slots) ≡ last_or (places_before o) (places_in o all)
-  last_places_are =
-      last_all (λ p. p.places.items) (places_before o) (places_in o all) kept.places_are
-      (places_long (table_before o) (places_before o) all ∙ tables_long o s of (first + length slots))
+  last_places_are = grind (arith, last_all, places_long, tables_long)
 
   -- without some of the first ones
   rest_of : {A : Type 0} (count : ℕ) (f : PlannedSlot → A) (xs : List A) → map f slots ≡ drop first xs → map f (drop count slots) ≡ drop (first + count) xs
   rest_of count f xs is = sym (drop-map f count slots) ∙ ap (drop count) is ∙ drop_twice count first xs
 
   pub kept_without : (count later : ℕ) → count ≤ length slots - 1 → first + count ≤ later → later ≤ first + length slots → AreKept o s of (first + count) later (drop count slots)
-  kept_without count later few past within =
-      let long : first + count + length (drop count slots) ≡ first + length slots = omega (arith, length-drop count slots, few) in
-      record {
-        tables_are = rest_of count (λ p. p.plan.table.items) all kept.tables_are ∙ ap (λ n. drop (first + count) (tables_to o s of n)) (sym long);
-        places_are = rest_of count (λ p. p.places.items) (places_in o all) kept.places_are ∙ ap (λ n. drop (first + count) (places_in o (tables_to o s of n))) (sym long);
-        decided_are = rest_of count (λ p. p.plan.decided.items) decided kept.decided_are ∙ ap (λ n. drop (first + count) (decided_to o s of n)) (sym long);
-        forgets = (past, omega (arith, long, within));
-        last = λ some. grind (arith, length-drop count slots, kept.last);
-        few = omega (arith, long, kept.few);
-      }
+  kept_without count later few past within = grind (arith, length-drop, rest_of)
 
   -- with the next one behind them
   abbrev seen : PlannedSlots

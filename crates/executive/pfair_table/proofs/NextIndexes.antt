@@ -1,6 +1,5 @@
 -- The next index of a member is one more than its quanta in the tables; and adding one for each row keeps it so.
-use Rattle.std.proofs.Common.{count_by}
-use Rattle.pfair_table.proofs.Common.{AllByRecursion, length-append, drop_all, drop-append-le, map-id, nat_list_eq_equiv, among_all, map_same, name_eq, Announcement, name_exact, said, Said, Machine, is_named, newcomer, is_freed, boundary, with_freeing, with_delay, ran, with_quantum, announcements, Member, Settings, Origin, Table, History, machine, names_task, quanta, next_index, counted, counted_one, members_at, all_ran, Story, history, world, table, Pick, NamesApart, apart_head, apart_nil, apart_tail, each_filter, each_map, by_boundary, by_effect, each_change, RunsAreCounted, ℕ, zero, suc, ◌+◌, ◌≤◌, ◌≡◌, refl, sym, ap, subst, ◌∙◌, arith, None, Bool, false, cond, List, ◌∷◌, ◌++◌, length, drop, ◌||◌, map, not, if◌then◌else◌, [], all_by_recursion_push, sum_by_push, map-map, Share, Name}
+use Rattle.pfair_table.proofs.Common.{AllByRecursion, length-append, drop_all, drop-append-le, map-id, nat_list_eq_equiv, among_all, map_same, name_eq, Announcement, name_exact, said, Said, Machine, is_named, newcomer, is_freed, boundary, with_freeing, with_delay, ran, with_quantum, announcements, Member, Settings, Origin, Table, History, machine, names_task, next_index, counted, counted_one, members_at, all_ran, Story, history, world, table, Pick, NamesApart, apart_head, apart_nil, apart_tail, each_filter, each_map, by_boundary, by_effect, each_change, RunsAreCounted, ℕ, zero, suc, ◌≤◌, ◌≡◌, refl, sym, ap, subst, ◌∙◌, arith, None, Bool, false, List, ◌∷◌, ◌++◌, length, ◌||◌, map, not, if◌then◌else◌, [], all_by_recursion_push, sum_by_push, map-map, Share, Name}
 use Rattle.pfair_table.proofs.TableLaws.{ordered_from}
 
 -- ---- what holds of each member
@@ -50,12 +49,7 @@ long_history o s x (suc t) = grind (arith, length-append, long_history o s x t)
 
 -- a member, counted by one more table
 one_more : (t : ℕ) (tables : List Table) (table : Table) → length tables ≡ t → (m : Member) → IsCounted t tables m → after_table table m ≡ counted_one (tables ++ table ∷ []) m
-one_more t tables table e m h =
-    let le = h.by_now in
-    let more : next_index (tables ++ table ∷ []) m ≡ 1 + (quanta tables m + cond (names_task m.name table) 1 0) =
-    ap (λ ts. 1 + count_by (names_task m.name) ts) (drop-append-le m.joined tables (table ∷ []) (omega (arith, e, le)))
-    ∙ ap (λ n. 1 + n) (sum_by_push (λ ts. cond (names_task m.name ts) 1 0) (drop m.joined tables) table) in
-    grind (arith, more, h.next_is)
+one_more t tables table e m h = grind (arith, drop-append-le, sum_by_push)
 
 -- who is counted before a slot's table is counted after it
 still_counted : (t : ℕ) (tables : List Table) (table : Table) → length tables ≡ t → (m : Member) → IsCounted t tables m → IsCounted (suc t) (tables ++ table ∷ []) (counted_one (tables ++ table ∷ []) m)

@@ -43,8 +43,7 @@ module _ {o : Origin} {s : Settings} {replica : Replica} {tables : List Table} {
 pub finished_seen : {o : Origin} {s : Settings} {x : ReplicaRows} {tables : List Table} {decided : List (List Decided)} {forgotten : ℕ} {spent : Bool} {d : Dispatch} {n : ℕ} {step : Step}
     → record { settings = s; origin = o; replica = x; tables = tables; decided = decided; forgotten = forgotten; spent = spent } ≡ d → (has_torn (replica_of x) ≡ false) × (spent ≡ false)
     → n ≡ length tables → IsNextStep s (replica_of x) n step → step ≡ Done → IsFinished d
-finished_seen {s} {x} {n} seen able long is done =
-    subst IsFinished seen (record { whole = able.0; able = able.1; all = subst (λ k. s.slots ≤ k) long (subst (IsNextStep s (replica_of x) n) done is) })
+finished_seen {s} {x} {n} seen able long is done = grind arith
 
 module _ {o : Origin} {s : Settings} {x : ReplicaRows} {tables : List Table} {decided : List (List Decided)} {forgotten : ℕ} {spent : Bool} {roster : Roster} {now : ℕ} {waiting : Queue} (kept : IsKept o s (replica_of x) tables decided spent roster now waiting) (sound : IsReplica (replica_of x)) (d : Dispatch) (seen : record { settings = s; origin = o; replica = x; tables = tables; decided = decided; forgotten = forgotten; spent = spent } ≡ d) (finished : IsFinished d) where
   -- its members are those left

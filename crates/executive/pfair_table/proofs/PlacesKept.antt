@@ -155,9 +155,7 @@ slots_on : (m : ℕ) (before : Table) (old : List ℕ) → ArePlacesOf m before 
     → (t : ℕ) (rows next : Table) (places there : List ℕ) → slice_get tables t ≡ Some rows → slice_get (places_from before old tables) t ≡ Some places
     → slice_get tables (suc t) ≡ Some next → slice_get (places_from before old tables) (suc t) ≡ Some there → KeepPlace rows places next there
 slots_on m before old are [] fit t rows next places there e f g h = absurd (cc)
-slots_on m before old are (now ∷ tables) fit zero rows next places there e f g h =
-    let first = first_on now (places_after before old now) (next_places m before old are now fit.0).one_each tables next there g h in
-    grind (arith, same_Some, first)
+slots_on m before old are (now ∷ tables) fit zero rows next places there e f g h = grind (arith, first_on, next_places, same_Some)
 slots_on m before old are (now ∷ tables) fit (suc t) rows next places there e f g h =
     slots_on m now (places_after before old now) (next_places m before old are now fit.0) tables fit.1 t rows next places there e f g h
 

@@ -60,10 +60,7 @@ queue_after_boundary mc t announced members waiting named queue name e = grind (
 
 -- another is put in
 pub notified_in : (notified : Name) (members : List Member) (before : Queue) (e : ℕ × Key) (named : Name) → named ≡ notified → queued (member_named members notified) ≡ Some e → IsNotifiedOf notified members before (finmap.insert (finmap.remove before notified) named e)
-notified_in notified members before e named same some name =
-    let put = get-insert nat_list_cmp_total (finmap.remove before notified) named e name in
-    let out = get-remove nat_list_cmp_total before notified name in
-    grind (arith, put, out, tied_names name notified)
+notified_in notified members before e named same some name = grind (arith, get-insert, nat_list_cmp_total, get-remove, tied_names)
 
 -- who is found has the name
 pub found_named : (members : List Member) (name : Name) (m : Member) → member_named members name ≡ Some m → m.name ≡ name
@@ -89,11 +86,7 @@ pub notified_next : (notified : Name) (members : List Member) (m : Member) (befo
     → after ≡ (if new then finmap.insert middle key.name (from, key) else middle) → IsNotifiedOf notified members before after
 notified_next notified members m before middle after new from key found stays from_is key_is out fresh in_ =
     let named : key.name ≡ notified = ap (λ (k : Key). k.name) key_is ∙ found_named members notified m found in
-    let gone = get-remove nat_list_cmp_total before notified key.name in
-    let none : finmap.get middle key.name ≡ None = grind (arith, gone, tied_names, name_itself) in
-    subst (IsNotifiedOf notified members before)
-    (sym (in_ ∙ ap (λ b. if b then finmap.insert middle key.name (from, key) else middle) (fresh ∙ ap (λ o. not (is_some o)) none) ∙ ap (λ h. finmap.insert h key.name (from, key)) out))
-    (notified_in notified members before (from, key) key.name named (grind (arith, found, stays, from_is, key_is)))
+    grind (arith, get-remove, nat_list_cmp_total, tied_names, name_itself, notified_in)
 
 -- one name that the ready structure was notified of is one less to notify of
 pub notified_one : (said : Said) (announced : List Said) (members : List Member) (before after : Queue) → IsQueueBut (said ∷ announced) members before → IsNotifiedOf (name_of said.announcement) members before after → IsQueueBut announced members after

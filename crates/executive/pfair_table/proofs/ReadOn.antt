@@ -41,8 +41,7 @@ module _ (x : Replica) (rs : List Reading) (p : ℕ) (r : Reading) (room : p < l
   put_at : (k : ℕ) (q : Reading) → slice_get (set rs p r) k ≡ Some q → ((k ≡ p) × (q ≡ r)) ⊎ ((k ≢ p) × (slice_get rs k ≡ Some q))
   put_at k q e =
       let here = get_or_from_slice_get (set rs p r) k q q e in
-      let within : k < length rs = (let h = slice_get_within (set rs p r) k q e in let same = length-set rs p r in omega (arith, h, same)) in
-      grind (arith, get_or-set_at, slice_get-get_or, get_or-set_other, cases_eq)
+      grind (arith, slice_get_within, set, length-set, get_or-set_at, slice_get-get_or, get_or-set_other, cases_eq)
 
   pub readings_put : AreReadingsOf x rs → IsReadingOf p (sound_beginning x p) r → AreReadingsOf x (set rs p r)
   readings_put all read = record { one_each = length-set rs p r ∙ all.one_each; each = λ sound whole k q e. grind (arith, put_at) }
@@ -104,12 +103,7 @@ readings_above {x} {y} all below same_p same_c = record {
   each = λ sound whole k r h.
       (let read = all.each (replica_below x y below same_p same_c sound whole) (untorn_below x y below whole) k r h in
       let grown = beginnings_grow x y sound below whole k in
-      let le = read.within in
-      let longer = ap length grown.1 in
-      record {
-        within = (let sum = length-append (sound_beginning x k) grown.0 in omega (arith, le, longer, sum));
-        says = λ t. read.says t ∙ ap (said_in t k 1) (sym (take-append-le r.count (sound_beginning x k) grown.0 le) ∙ ap (take r.count) grown.1);
-      });
+      grind (arith, length-append, take-append-le));
 }
 
 -- ---- what all of them say
@@ -126,9 +120,7 @@ whole_at_end x rs p le below k r is = below k r (omega (arith, le, slice_get_wit
 
 -- all are read to their ends if as many entries were read as there are, and then as many were read
 pub whole_by_total : (x : Replica) (rs : List Reading) → AreReadingsOf x rs → IsReplica x → Untorn x → sound_total x ≤ entries_read rs → AreWhole x rs
-whole_by_total x rs all sound whole most k r is =
-    same_counts (λ (j : ℕ). length (sound_beginning x j)) rs (λ j q h. (all.each sound whole j q h).within) (length rs) (omega arith)
-    (rw (take-length, all.one_each) most) k r (slice_get_within rs k r is) is
+whole_by_total x rs all sound whole most k r is = grind (arith, same_counts, take-length, slice_get_within)
 
 pub total_by_whole : (x : Replica) (rs : List Reading) → length rs ≡ x.processors → AreWhole x rs → sound_total x ≤ entries_read rs
 total_by_whole x rs one_each ends =

@@ -135,7 +135,6 @@ one_schedule o s m n es fs all_es all_fs agree t lc ld =
     let v = planned_now s c sound (untorn_left c.replica d.replica agree) t lc in
     let w = (sound_run s fs (begin_at o s n) all_fs (sound_start o s n)).planned t ld in
     let there = one_table o s c.replica w.0 sound.is_of w.2.is_of (agree_down c.replica c.replica w.0 d.replica (λ k n. below_itself (c.replica.at k n)) w.1 agree) t v.early w.2.early in
-    let first = origin_stays s es (begin_at o s m) in
     grind (arith, origin_stays)
 
 -- a list of as many tables, each that of its slot, begins the plan

@@ -1,6 +1,5 @@
 -- What a run can begin with, and what settings a run has that does.
-use Rattle.pfair_table.proofs.Common.{or_parts, AllByRecursion, nat_list_eq_equiv, length-append, name_eq, apart_nil, apart_push, Machine, Member, Pick, AreLeftAt, IsCarried, IsSettings, IsState, with_row, AllDiffer, ArePlacesOf, IsFit, is_used, Carried, Settings, Table, names_task, ℕ, ◌≡◌, ◌≢◌, ◌≤◌, ◌<◌, ◌∙◌, refl, sym, subst, arith, false, List, ◌∷◌, ◌++◌, length, [], all_by_recursion_push}
-use Rattle.pfair_table.specs.declared.settings.TheConstants.Settings.{MAX_PROCESSORS, MAX_FRAME}
+use Rattle.pfair_table.proofs.Common.{or_parts, AllByRecursion, nat_list_eq_equiv, length-append, name_eq, apart_nil, apart_push, Machine, Member, Pick, AreLeftAt, IsCarried, IsSettings, IsState, with_row, AllDiffer, ArePlacesOf, IsFit, is_used, Carried, Settings, Table, names_task, ℕ, ◌≡◌, ◌≢◌, ◌<◌, ◌∙◌, refl, arith, false, List, ◌∷◌, ◌++◌, length, [], all_by_recursion_push}
 
 pub none_left : (t : ℕ) (machine : Machine) → AreLeftAt t machine []
 none_left t machine = record { named = apart_nil (λ (m : Member). m.name); room = omega arith; in_frame = tt; left = tt }
@@ -32,23 +31,10 @@ row_fits c p k state few is_one none_named none_used =
       members = state.members;
       early = state.early;
       rows = (omega (arith, few, length-append {A = Pick}), apart_push (λ (q : Pick). q.name) c.table p (unnamed p.name c.table none_named) rows.1);
-      places = record {
-        one_each = grind (arith, length-append);
-        below = grind (arith, all_by_recursion_push);
-        differ = differ_push c.places k (unused k c.places none_used) places.differ;
-      };
+      places = grind (arith, length-append, all_by_recursion_push, differ_push, unused);
     }
 
 -- ---- settings
 
 pub state_of : (s : Settings) (slots : ℕ) (c : Carried) → IsSettings s → IsCarried (record s { slots = slots }) c → IsState c
-state_of s slots c limits taken =
-    let is = sym taken.machine_is in
-    let within = taken.in_time in record {
-      processors = subst (λ (m : Machine). (0 < m.processors) × (m.processors ≤ MAX_PROCESSORS)) is limits.processors;
-      frame = subst (λ (m : Machine). (0 < m.frame) × (m.frame ≤ MAX_FRAME)) is limits.frame;
-      members = taken.members;
-      early = omega (arith, within);
-      rows = subst (λ (m : Machine). IsFit m.processors c.table) is taken.rows;
-      places = subst (λ (m : Machine). ArePlacesOf m.processors c.table c.places) is taken.places;
-    }
+state_of s slots c limits taken = grind arith

@@ -34,8 +34,7 @@ whole_of : (version place : ℕ) (logs more : Logs) (before after : List Members
 whole_of version place logs more [] after table f none is =
     let same : logs ≡ more = cc none in
     let here : place + 0 ≡ place = omega arith in
-    let at : with_entry version place logs table ≡ Err f = rw same (rw here at is) in
-    rw at refl
+    grind arith
 whole_of version place logs more (first ∷ before) after table f none is =
     let shift : place + length (first ∷ before) ≡ place + 1 + length before = omega arith in
     go (with_entry version place logs first) refl none (λ next g. whole_of version (place + 1) next more before after table f g (rw shift at is))

@@ -1,6 +1,6 @@
 -- What each table adds to the logs.
 use Rattle.std.proofs.Common.{append_assoc, append-nil}
-use Rattle.pfair_file.proofs.Common.{length-set, get_or-set_same, get_or-set_other, Members, Logged, empty_logs, Logs, logs_after, with_entries, with_entry, longer_log, FileFault, ℕ, List, [], ◌∷◌, ◌++◌, Result, Ok, Err, ◌≡◌, ◌∙◌, ◌+◌, ◌<◌, length, get_or, refl, sym, ap, subst, arith, common_steps, made_at, Made}
+use Rattle.pfair_file.proofs.Common.{length-set, get_or-set_same, get_or-set_other, Members, Logged, empty_logs, Logs, logs_after, with_entries, with_entry, longer_log, FileFault, ℕ, List, [], ◌∷◌, ◌++◌, Result, Ok, Err, ◌≡◌, ◌∙◌, ◌+◌, ◌<◌, length, get_or, refl, sym, ap, arith, common_steps, Made}
 use Rattle.pfair_entry.specs.Results.{and_then}
 use Rattle.pfair_entry.specs.declared.notice.NoticeFault.{NoticeFault}
 use Rattle.pfair_file.specs.FileOrder.{LogsAreInFileOrder, entries_for, entry_for, entry_list}
@@ -29,11 +29,7 @@ after-tables version processors place logs after (table ∷ tables) size h p wit
         → ((next : Logs) → length next ≡ processors → with_entries version (place + 1) next tables ≡ Ok after → get_or after p [] ≡ get_or next p [] ++ entries_for version processors p (place + 1) tables)
         → get_or after p [] ≡ get_or logs p [] ++ entries_for version processors p place (table ∷ tables)
     go (Err f) e g ih = absurd (let bad = rw e at g in cc bad)
-    go (Ok next) e g ih =
-        let step = after-found logs next (made_at version (length logs) place table) e in
-        let rest = ih next (step.same_many ∙ size) (rw e at g) in
-        let here : get_or next p [] ≡ get_or logs p [] ++ entry_for p (made_at version processors place table) = rw size at (step.longer p (subst (λ n. p < n) (sym size) within)) in
-        rest ∙ (ap (λ xs. xs ++ entries_for version processors p (place + 1) tables) here ∙ append_assoc (get_or logs p []) _ _)
+    go (Ok next) e g ih = grind (arith, after-found, append_assoc)
 
 -- from empty logs on
 pub in_file_order : LogsAreInFileOrder
