@@ -1,7 +1,7 @@
 -- Books of lags that are notified of some slots, and then of more.
 use Rattle.pfair_feed.proofs.Common.{cases_order, drop_all, length-take, take_all, take-append-drop, take-append-le, IsPrefixOf, Origin, Table, Dispatch, IsGrown, IsBookIfAny, IsBookOf, KeepsUnwritten, Output, book_before, rows_in, ℕ, ◌+◌, ◌-◌, ◌≤◌, ◌≡◌, refl, sym, ap, subst, ◌∙◌, arith, List, [], ◌∷◌, ◌++◌, length, min, take, drop, append_assoc, Option, None, Some, max, Book, Decided, first_book, rows_booked, Lags}
 use Rattle.std.proofs.Math.Seq.{take-add}
-use Rattle.pfair_output.specs.Booked.{all_slots_booked, book_rows, slot_booked}
+use Rattle.pfair_output.specs.Booked.{all_slots_booked, slot_booked}
 use Rattle.pfair_output.proofs.BookedFacts.{time-all_booked}
 use Rattle.pfair_output.proofs.BookFacts.{first_time}
 use Rattle.pfair_feed.proofs.Plans.{longer}
@@ -18,9 +18,7 @@ pub rows-append : (book : Book) (ds es : List (List Decided)) (ts us : List Tabl
 rows-append book [] es [] us e = refl
 rows-append book [] es (t ∷ ts) us e = absurd (omega arith)
 rows-append book (d ∷ ds) es [] us e = absurd (omega arith)
-rows-append book (d ∷ ds) es (t ∷ ts) us e =
-    ap (λ rows. book_rows (slot_booked d t book) ++ rows) (rows-append (slot_booked d t book) ds es ts us (omega arith))
-    ∙ sym (append_assoc (book_rows (slot_booked d t book)) (rows_booked (slot_booked d t book) ds ts) (rows_booked (all_slots_booked (slot_booked d t book) ds ts) es us))
+rows-append book (d ∷ ds) es (t ∷ ts) us e = grind (arith, rows-append (slot_booked d t book) ds es ts us, append_assoc)
 
 time-booked : (book : Book) (ds : List (List Decided)) (ts : List Table) → length ds ≡ length ts → (all_slots_booked book ds ts).time ≡ book.time + length ds
 time-booked book [] [] e = omega arith
@@ -43,8 +41,7 @@ book_grown o slot ts us ds es book same more_ts more_ds b = grind (arith, take-a
 pub book_after_plans : (output : Output) (slot : ℕ) (d taken after : Dispatch) (book : Option Book) → length d.tables ≡ length d.decided → taken ≡ record d { replica = taken.replica } → IsGrown taken after
     → after.forgotten ≡ taken.forgotten → IsBookIfAny d.origin slot d.tables d.decided book × KeepsUnwritten output d.forgotten slot
     → IsBookIfAny after.origin slot after.tables after.decided book × KeepsUnwritten output after.forgotten slot
-book_after_plans output slot d taken after book same rest grown forgotten (b, keeps) =
-    (there book b, subst (λ n. KeepsUnwritten output n slot) (sym (forgotten ∙ ap (λ (x : Dispatch). x.forgotten) rest)) keeps)
+book_after_plans output slot d taken after book same rest grown forgotten (b, keeps) = grind (arith, there)
   where
     there : (book : Option Book) → IsBookIfAny d.origin slot d.tables d.decided book → IsBookIfAny after.origin slot after.tables after.decided book
     there None b = tt

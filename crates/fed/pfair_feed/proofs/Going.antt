@@ -1,5 +1,5 @@
 -- Followers that go on, one step after another.
-use Rattle.pfair_feed.proofs.Common.{appends-more, Appends, Keeps, append-nil, length-map, lines_text, IsPrefixOf, Dispatch, IsWholePlan, Follow, news, HasGoneOn, IsCaughtUp, ℕ, ◌≡◌, refl, sym, ap, subst, ◌∙◌, arith, List, [], ◌++◌, length, Option, Some, None, Result, Ok, Err, max, IsErrAnd, lines_text-append}
+use Rattle.pfair_feed.proofs.Common.{appends-more, Appends, Keeps, append-nil, length-map, lines_text, IsPrefixOf, Dispatch, IsWholePlan, Follow, news, HasGoneOn, IsCaughtUp, ℕ, ◌≡◌, refl, sym, ap, ◌∙◌, arith, List, [], ◌++◌, length, Option, Some, None, Result, Ok, Err, max, IsErrAnd, lines_text-append}
 use Rattle.pfair_feed.proofs.RowsGoOn.{none_behind, rows_go_on}
 use Rattle.pfair_feed.proofs.Plans.{grown_same, longer, prefix_trans}
 
@@ -48,7 +48,5 @@ gone_trans f g h u v w a b =
       caught_up = b.caught_up;
       unwritten_is = unwritten;
       sound = λ none. b.sound (a.sound none);
-      written = subst (λ (text : List ℕ). Appends u w text)
-          (news_more f g h a.output_is b.grown.origin_is a.unwritten_is (even g.dispatch a.caught_up.whole) b.grown.tables_go_on b.grown.decided_go_on)
-          (appends-more u v w (news f g) (news g h) a.written b.written);
+      written = grind (arith, news_more, even, appends-more);
     }

@@ -1,6 +1,6 @@
 -- Lines that are fed, byte after byte, where only the first bytes of the open line are kept.
 use Rattle.std.proofs.Common.{drop-cons, IfErr}
-use Rattle.pfair_feed.proofs.Common.{AllByRecursion, flat_map, Consumes, IsAtEnd, cases_lt, append-nil, length-append, length-drop, length-take, take_all, take-append-le, SameShape, replica_of, Replica, Follow, IsPlannedOut, AreFedBytes, AreLines, AreTakenFrom, IsCaughtUp, IsFedLine, IsFedTo, IsLeft, IsOneLine, IsStopped, IsTakenFrom, IsWelcome, ended, question, ℕ, suc, true, Bool, ◌+◌, ◌≡◌, ◌≢◌, ◌≤◌, ◌<◌, refl, sym, ap, subst, ◌∙◌, arith, inl, inr, List, [], ◌∷◌, ◌++◌, length, take, drop, get_or, Option, Some, Result, Ok, Err, append_assoc, ◌⊎◌, slice_get, IsErrAnd, Keeps-refl, flat_map-append, is_refusal, ProgramFault}
+use Rattle.pfair_feed.proofs.Common.{AllByRecursion, flat_map, Consumes, IsAtEnd, cases_lt, append-nil, length-append, length-drop, length-take, take_all, take-append-le, SameShape, replica_of, Replica, Follow, IsPlannedOut, AreFedBytes, AreLines, AreTakenFrom, IsCaughtUp, IsFedLine, IsFedTo, IsLeft, IsStopped, IsTakenFrom, IsWelcome, ended, question, ℕ, suc, true, Bool, ◌+◌, ◌≡◌, ◌≢◌, ◌≤◌, ◌<◌, refl, sym, ap, subst, ◌∙◌, arith, inl, inr, List, [], ◌∷◌, ◌++◌, length, take, drop, get_or, Option, Some, Result, Ok, Err, append_assoc, ◌⊎◌, slice_get, IsErrAnd, Keeps-refl, flat_map-append, is_refusal, ProgramFault}
 use Rattle.std.proofs.KnownBytes.{Consumes-nil, Consumes-trans}
 use Rattle.pfair_entry_row.specs.Laws.{RowsAreShort}
 use Rattle.pfair_file.specs.declared.program_fault.ProgramFault.TheVariants.{ReadFailed}
@@ -15,20 +15,11 @@ lines_none = record { bytes_are = refl; whole = tt; open_end = tt }
 module _ (bytes : List ℕ) (lines : List (List ℕ)) (rest : List ℕ) (a : AreLines bytes lines rest) where
   -- a byte inside a line
   lines_inside : (byte : ℕ) → byte ≢ 10 → AreLines (bytes ++ byte ∷ []) lines (rest ++ byte ∷ [])
-  lines_inside byte inside = record {
-    bytes_are = ap (λ l. l ++ byte ∷ []) a.bytes_are ∙ append_assoc (flat_map ended lines) rest (byte ∷ []);
-    whole = a.whole;
-    open_end = all_append (λ b. b ≢ 10) rest (byte ∷ []) a.open_end (inside, tt);
-  }
+  lines_inside byte inside = grind (arith, append_assoc, flat_map, rest, all_append)
 
   -- the end of a line
   lines_end : AreLines (bytes ++ 10 ∷ []) (lines ++ rest ∷ []) []
-  lines_end = record {
-    bytes_are = ap (λ l. l ++ 10 ∷ []) a.bytes_are ∙ append_assoc (flat_map ended lines) rest (10 ∷ [])
-        ∙ ap (λ l. flat_map ended lines ++ l) (sym (append-nil (ended rest))) ∙ sym (flat_map-append ended lines (rest ∷ [])) ∙ sym (append-nil (flat_map ended (lines ++ rest ∷ [])));
-    whole = all_append IsOneLine lines (rest ∷ []) a.whole (a.open_end, tt);
-    open_end = tt;
-  }
+  lines_end = grind (arith, append_assoc, flat_map, rest, append-nil, flat_map-append, all_append)
 
 -- ---- a line of which the first bytes are kept
 
@@ -60,10 +51,7 @@ module _ (short : RowsAreShort) where
   taken_whole : (rest : List ℕ) (x y : Replica) → IsTakenFrom (take 257 rest) x y → IsTakenFrom rest x y
   taken_whole rest x y t = elim (kept_all rest) [
     | inl whole ↦ subst (λ (l : List ℕ). IsTakenFrom l x y) whole t
-    | inr cut ↦
-        (let none = t.other (λ p n e at is. absurd (let s = short p n e at in let l = ap length is in let size = cut.1 in omega (arith, s, l, size))) in
-        let long = cut.0 in
-        subst (λ (z : Replica). IsTakenFrom rest x z) (sym none) (long_line rest x (omega (arith, long))))
+    | inr cut ↦ grind (arith, rest, long_line)
   ]
 
   -- neither a row nor the question is longer than what is kept

@@ -1,5 +1,5 @@
 -- The slots of a whole plan.
-use Rattle.pfair_feed.proofs.Common.{length-map, replica_of, frontier, numbers_below, empty_replica, mark, said, Dispatch, IsWholePlan, course_of, Origin, table, plan, decisions, Settings, plan_decisions, Course, begin_at, arith, ℕ, ◌≡◌, ap, ◌∙◌, List, None, length, map, min, zero, suc, refl, sym, [], ◌∷◌, fold}
+use Rattle.pfair_feed.proofs.Common.{length-map, replica_of, frontier, numbers_below, empty_replica, mark, Dispatch, IsWholePlan, course_of, Origin, plan, Settings, plan_decisions, Course, begin_at, arith, ℕ, ◌≡◌, ap, ◌∙◌, List, None, length, map, min, zero, suc, refl, [], ◌∷◌, fold}
 use Rattle.pfair_table.proofs.Runs.{length_numbers}
 
 pub so_many : {A : Type 0} (f : ℕ → A) (n : ℕ) → length (map f (numbers_below n)) ≡ n
@@ -34,8 +34,4 @@ pub whole_start : (o : Origin) (d : Dispatch) (s : Settings) (capacity : ℕ) �
 whole_start o d s capacity course =
     let held : replica_of d.replica ≡ empty_replica s.processors capacity = ap (λ (c : Course). c.replica) course in
     let settled : frontier (replica_of d.replica) ≡ 0 = ap frontier held ∙ frontier_none s.processors capacity in
-    let none : min (frontier (replica_of d.replica)) d.settings.slots ≡ 0 = omega (arith, settled) in
-    record {
-      tables_are = ap (λ (c : Course). c.tables) course ∙ sym (ap (λ (n : ℕ). map (table d.origin d.settings (said (replica_of d.replica))) (numbers_below n)) none);
-      decided_are = ap (λ (c : Course). c.decided) course ∙ sym (ap (λ (n : ℕ). map (decisions d.origin d.settings (said (replica_of d.replica))) (numbers_below n)) none);
-    }
+    grind arith

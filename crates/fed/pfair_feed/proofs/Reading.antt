@@ -1,7 +1,7 @@
 -- What a line that is read brings.
 use Rattle.std.proofs.Common.{◌&&◌, not, nat_lt}
 use Rattle.pfair_replica.specs.HeldAfter.{held_after}
-use Rattle.pfair_feed.proofs.Common.{Keeps, TakesPrefix, Logged, replica_of, held, Replica, frontier, has_torn, with_entry, Follow, IsSameRun, IsStopOf, news, IsGrown, HasFailed, HasStood, IsCaughtUp, IsFedLine, IsTakenFrom, and_parts, ltb-true, Settings, arith, ℕ, ◌≡◌, ◌≢◌, refl, sym, ap, subst, ◌∙◌, List, Option, Ok, true, false, inl, inr, ◌≤◌, Bool, length, min, None, Some, ◌⊎◌, if◌then◌else◌, taken, ProgramFault, WriteFailed, Memory, is_refusal, One}
+use Rattle.pfair_feed.proofs.Common.{Keeps, TakesPrefix, Logged, replica_of, held, Replica, frontier, has_torn, with_entry, Follow, IsSameRun, IsStopOf, news, IsGrown, HasFailed, HasStood, IsCaughtUp, IsFedLine, IsTakenFrom, and_parts, ltb-true, arith, ℕ, ◌≡◌, ◌≢◌, refl, sym, ap, subst, ◌∙◌, List, Option, Ok, true, false, inl, inr, ◌≤◌, Bool, length, min, None, Some, ◌⊎◌, if◌then◌else◌, taken, ProgramFault, WriteFailed, Memory, is_refusal, One}
 use Rattle.pfair_entry_row.specs.Faults.{IsReadingOf, Reading}
 use Rattle.pfair_entry_row.specs.Row.{entry_row, IsEntryAt}
 use Rattle.pfair_replica.specs.Offered.{has_key}
@@ -53,9 +53,7 @@ as_before : (f g : Follow) (p n : ℕ) (e : Logged) → IsCaughtUp f → held f.
     → (length f.dispatch.tables ≡ min (frontier (replica_of g.dispatch.replica)) g.dispatch.settings.slots) × (length f.dispatch.tables ≤ length g.dispatch.tables)
 as_before f g p n e caught here left grown =
     let settled : frontier (replica_of g.dispatch.replica) ≡ frontier (replica_of f.dispatch.replica) = ap frontier (left ∙ taken_known (replica_of f.dispatch.replica) p n e here) in
-    let slots : g.dispatch.settings.slots ≡ f.dispatch.settings.slots = ap (λ (s : Settings). s.slots) grown.settings_are in
-    let many = planned f.dispatch caught.whole in
-    (omega (arith, many, settled, slots), longer f.dispatch.tables g.dispatch.tables grown.tables_go_on)
+    grind (arith, planned, longer)
 
 -- no allocation is asked for
 no_memory : (f g : Follow) (p n : ℕ) (e : Logged) → IsCaughtUp f → held f.dispatch.replica p n ≡ Some (One e) → IsGrown (record f.dispatch { replica = g.dispatch.replica }) g.dispatch
@@ -67,9 +65,7 @@ no_memory f g p n e caught here grown (key, inr (left, able, inl stuck)) =
     let a = ltb-true (length g.dispatch.tables) (frontier (replica_of g.dispatch.replica)) more.0 in
     let b = ltb-true (length g.dispatch.tables) g.dispatch.settings.slots more.1 in
     let was = as_before f g p n e caught here left grown in
-    let settled = was.0 in
-    let long = was.1 in
-    absurd (omega (arith, a, b, settled, long))
+    grind arith
 no_memory f g p n e caught here grown (key, inr (left, able, inr due)) = grind (arith, planned, as_before)
 
 -- ---- the follower stops at the entry whose row a line is

@@ -95,18 +95,12 @@ module _ (least : EventsLeaveTheLeast) (run : LoggedRun) (script : IsScript run)
   pub keyed : (e : Placed) → Among all_entries e → (e.0 < run.settings.processors) × (1 ≤ e.1) × (e.1 ≤ capacity)
   keyed e i =
       let h = in_logs 0 run.logs e.0 e.1 e.2 i in
-      let k_is = h.1 in
-      let inside = h.2 in
-      let small = h.4 in
-      let one_each = script.logged.one_each in
-      (omega (arith, k_is, inside, one_each), h.3, omega (arith, small, room))
+      grind arith
 
   at_key : (e : Placed) → Among all_entries e → contents_of run.logs e.0 e.1 ≡ Some (One e.2)
   at_key e i =
       let h = in_logs 0 run.logs e.0 e.1 e.2 i in
-      let k_is = h.1 in
-      let k_is' : e.0 ≡ h.0 = omega (arith, k_is) in
-      ap (λ (j : ℕ). contents_of run.logs j e.1) k_is' ∙ h.5
+      grind arith
 
   held_there : (es : List Placed) → AreAmong es all_entries → AreAmong all_entries es → held_after (empty_replica run.settings.processors capacity) es ≡ replica_with_room capacity run
   held_there es es_all all_es =
@@ -194,10 +188,7 @@ module _ (law : EachEntryHasItsRow) (processors capacity : ℕ) (all : List Plac
     es = e ∷ rest.es;
     among = (i, rest.among);
     left = rest.left ∙ ap (λ (r : Replica). held_after r rest.es) held;
-    there = λ f p k one many i'. (elim i' [
-      | inl is ↦ inl (same_placed law f e p (among_all IsPlaced all placed e i) (is ∙ same))
-      | inr more ↦ inr (rest.there f p k one many more)
-    ]);
+    there = λ f p k one many i'. grind (arith, same_placed, among_all);
   }
 
   no_more : (line : List ℕ) (lines : List (List ℕ)) (x mid y : Replica) → BringsNothing processors capacity line → mid ≡ x

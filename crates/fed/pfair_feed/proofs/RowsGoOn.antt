@@ -1,5 +1,5 @@
 -- The rows of slots, and then of more behind them.
-use Rattle.pfair_feed.proofs.Common.{cases_order, drop_all, drop-append-le, length-drop, take_all, take-append-le, Origin, Table, Output, book_before, rows_in, header_of, lines_text, ℕ, zero, suc, ◌+◌, ◌<◌, ◌≤◌, ◌≡◌, refl, sym, ap, ◌∙◌, arith, List, [], ◌∷◌, ◌++◌, length, drop, slice_get, append_assoc, None, Decided, slots_from, rows_booked, Tables, PlacedTables, Decisions, Lags, WholeRows}
+use Rattle.pfair_feed.proofs.Common.{cases_order, drop_all, drop-append-le, length-drop, take_all, take-append-le, Origin, Table, Output, book_before, rows_in, header_of, lines_text, ℕ, zero, suc, ◌+◌, ◌<◌, ◌≤◌, ◌≡◌, refl, ap, arith, List, [], ◌∷◌, ◌++◌, length, drop, slice_get, append_assoc, None, Decided, slots_from, rows_booked, Tables, PlacedTables, Decisions, Lags, WholeRows}
 use Rattle.std.proofs.Math.Seq.{drop-append_seam}
 use Rattle.pfair_table.specs.Places.{places_after, places_from, places_in}
 use Rattle.pfair_output.specs.Replay.{placed_table_rows, table_rows}
@@ -13,10 +13,7 @@ use Rattle.pfair_feed.proofs.Planned.{decided_first, tables_first}
 
 slots-append : {A : Type 0} (rows : ℕ → A → List (List (List ℕ))) (slot : ℕ) (xs ys : List A) → slots_from rows slot (xs ++ ys) ≡ slots_from rows slot xs ++ slots_from rows (slot + length xs) ys
 slots-append rows slot [] ys = ap (λ n. slots_from rows n ys) (let e : slot ≡ slot + 0 = omega arith in e)
-slots-append rows slot (x ∷ xs) ys =
-    ap (λ l. rows slot x ++ l) (slots-append rows (suc slot) xs ys)
-    ∙ ap (λ n. rows slot x ++ (slots_from rows (suc slot) xs ++ slots_from rows n ys)) (let e : suc slot + length xs ≡ slot + suc (length xs) = omega arith in e)
-    ∙ sym (append_assoc (rows slot x) (slots_from rows (suc slot) xs) (slots_from rows (slot + suc (length xs)) ys))
+slots-append rows slot (x ∷ xs) ys = grind (arith, slots-append rows (suc slot) xs ys, append_assoc)
 
 -- from a slot that isn't behind the first ones
 slots_on : {A : Type 0} (rows : ℕ → A → List (List (List ℕ))) (slot : ℕ) (xs ys : List A) → slot ≤ length xs

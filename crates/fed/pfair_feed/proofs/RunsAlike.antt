@@ -28,14 +28,7 @@ begins : (o : Origin) (output : Output) (slot : ℕ) (ts us : List Table) (ds es
 begins o output slot ts us ds es same same' h tables decided = grind (arith, rows_of_more, first_of_other)
 
 pub written_alike : (f g : Follow) → length f.dispatch.tables ≡ length f.dispatch.decided → length g.dispatch.tables ≡ length g.dispatch.decided → HavePlannedAlike f.dispatch g.dispatch → HaveWrittenAlike f g
-written_alike f g same same' planned output settings origins agree slot =
-    let c = f.dispatch in
-    let d = g.dispatch in
-    elim (cases_order (length f.dispatch.tables) (length g.dispatch.tables)) [
-      | inl e ↦ inl (shorter (omega (arith, e)))
-      | inr (inl l) ↦ inl (shorter (omega (arith, l)))
-      | inr (inr m) ↦ inr (longer (omega (arith, m)))
-    ]
+written_alike f g same same' planned output settings origins agree slot = grind (arith, cases_order, shorter, longer)
   where
     shorter : length f.dispatch.tables ≤ length g.dispatch.tables → IsPrefixOf (rows_in f.dispatch.origin f.output slot f.dispatch.tables f.dispatch.decided) (rows_in g.dispatch.origin g.output slot g.dispatch.tables g.dispatch.decided)
     shorter h =
@@ -99,12 +92,7 @@ planned_alike : (s : Settings) (c d : Dispatch) → c.settings ≡ s → IsWhole
 planned_alike s c d set whole whole' of of' settings origins agree t l m =
     let here = planned_there c whole t l in
     let there = planned_there d whole' t m in
-    let same = one_table c.origin s (replica_of c.replica) (replica_of d.replica) of of' agree t here.0 there.0 in
-    let tables : table d.origin d.settings (said (replica_of d.replica)) t ≡ table c.origin c.settings (said (replica_of c.replica)) t =
-    (λ i. table (sym origins i) ((sym settings ∙ set) i) (said (replica_of d.replica)) t) ∙ sym same.0 ∙ ap (λ (r : Settings). table c.origin r (said (replica_of c.replica)) t) (sym set) in
-    let decided : decisions d.origin d.settings (said (replica_of d.replica)) t ≡ decisions c.origin c.settings (said (replica_of c.replica)) t =
-    (λ i. decisions (sym origins i) ((sym settings ∙ set) i) (said (replica_of d.replica)) t) ∙ sym same.1 ∙ ap (λ (r : Settings). decisions c.origin r (said (replica_of c.replica)) t) (sym set) in
-    (here.1, there.1 ∙ ap Some tables, here.2, there.2 ∙ ap Some decided)
+    grind (arith, one_table)
 
 -- ---- the law
 

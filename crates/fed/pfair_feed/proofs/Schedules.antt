@@ -17,8 +17,7 @@ none_on row (suc room) n floor none = ap (λ (h : Held Logged). run_on (goes_on 
 run_longer : (row : ℕ → Held Logged) (more few n floor : ℕ) → few ≤ more → ((m : ℕ) → n + few ≤ m → row m ≡ None) → run_from row more n floor ≡ run_from row few n floor
 run_longer row more zero n floor h none = none_on row more n floor (none n (omega arith))
 run_longer row zero (suc few) n floor h none = absurd (omega arith)
-run_longer row (suc more) (suc few) n floor h none =
-    ap (run_on (goes_on (row n) floor)) (λ i f. run_longer row more few (suc n) f (omega arith) (λ m l. none m (omega (arith, l))) i)
+run_longer row (suc more) (suc few) n floor h none = grind (arith, run_longer row more few (suc n))
 
 module _ (run : LoggedRun) (capacity : ℕ) (room : capacity_of run.logs ≤ capacity) where
   none_past : (k n : ℕ) → capacity_of run.logs < n → contents_of run.logs k n ≡ None

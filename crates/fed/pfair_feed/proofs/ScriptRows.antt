@@ -1,6 +1,6 @@
 -- The entries of logs: their rows, and where they stand.
 use Rattle.std.proofs.Common.{flat_map}
-use Rattle.pfair_feed.proofs.Common.{AllByRecursion, list_all, and_parts, leb-true, append-nil, map-append, lines_text, Logged, IsLoggable, entries_text, log_rows, numbered_from, AreLines, IsOneLine, ended, Among, IsPlaced, IsScript, Placed, placed_from, placed_in, row_of, rows_of, ℕ, zero, suc, ◌+◌, ◌<◌, ◌≤◌, ◌≡◌, inl, inr, refl, ap, subst, ◌∙◌, arith, true, List, [], ◌∷◌, ◌++◌, length, map, Some, None, take, slice_get, ◌⊎◌, flat_map-append, lines_text-append, One, slots_from, LoggedRun, capacity_of, contents_of}
+use Rattle.pfair_feed.proofs.Common.{AllByRecursion, list_all, and_parts, leb-true, append-nil, map-append, lines_text, Logged, IsLoggable, entries_text, log_rows, numbered_from, AreLines, IsOneLine, ended, Among, IsPlaced, IsScript, Placed, placed_from, placed_in, row_of, rows_of, ℕ, zero, suc, ◌+◌, ◌<◌, ◌≤◌, ◌≡◌, inl, inr, refl, ap, arith, true, List, [], ◌∷◌, ◌++◌, length, map, Some, None, take, slice_get, ◌⊎◌, flat_map-append, lines_text-append, One, slots_from, LoggedRun, capacity_of, contents_of}
 use Rattle.std.proofs.lemmas.List.{take_more}
 use Rattle.std.proofs.lemmas.Option.{get_or_from_slice_get}
 use Rattle.pfair_entry_row.proofs.Lines.{rows_are_lines}
@@ -56,13 +56,7 @@ pub in_logs : (processor : ℕ) (logs : List (List Logged)) (k n : ℕ) (e : Log
     → (j : ℕ) × (k ≡ processor + j) × (j < length logs) × (1 ≤ n) × (n ≤ capacity_of logs) × (contents_of logs j n ≡ Some (One e))
 in_logs processor [] k n e i = absurd i
 in_logs processor (log ∷ logs) k n e i = elim (among_append (placed_from processor 1 log) (placed_in (suc processor) logs) (k, n, e) i) [
-  | inl here ↦
-      (let h = in_log processor 1 log k n e here in
-      let k_is = h.1 in
-      let n_is = h.2 in
-      let inside = h.3 in
-      let at : n ≡ suc h.0 = omega (arith, n_is) in
-      (0, omega (arith, k_is), omega arith, omega (arith, n_is), omega (arith, n_is, inside), ap (entry_of log) at ∙ h.4))
+  | inl here ↦ grind (arith, in_log)
   | inr there ↦
       (let h = in_logs (suc processor) logs k n e there in
       let k_is = h.1 in
@@ -89,16 +83,7 @@ at_logs processor [] j n = inl refl
 at_logs processor (log ∷ logs) zero zero = inl (none_at_0 log)
 at_logs processor (log ∷ logs) zero (suc n) = elim (at_log processor 1 log n) [
   | inl none ↦ inl none
-  | inr some ↦ inr (
-    some.0,
-    some.1,
-    omega arith,
-    omega arith,
-    (let l = some.2 in omega (arith, l)),
-    among_left (placed_from processor 1 log) (placed_in (suc processor) logs) (processor + 0, suc n, some.0)
-        (subst (λ (p : ℕ). Among (placed_from processor 1 log) (p, suc n, some.0)) (let e : processor ≡ processor + 0 = omega arith in e)
-        (subst (λ (m : ℕ). Among (placed_from processor 1 log) (processor, m, some.0)) (let e : 1 + n ≡ suc n = omega arith in e) some.3)),
-  )
+  | inr some ↦ grind (arith, among_left)
 ]
 at_logs processor (log ∷ logs) (suc j) n = grind (arith, among_right, at_logs (suc processor) logs j n)
 
