@@ -2,7 +2,7 @@
 use Rattle.pfair_lag.proofs.Common.{cases_lt, Share, IsWeight, deadline_of, ArePicks, InWindows, KeepsReleases, MeetsDeadlines, pick_of, quanta_before, LagWithin, LagBelowOne, LagAboveMinusOne, ◌≡◌, ℕ, zero, suc, ◌+◌, ◌-◌, ◌*◌, ◌<◌, ◌≤◌, List, length, get_or, arith, inl, inr, mul-le}
 use Rattle.std.proofs.lemmas.Int.{ints}
 use Rattle.std.proofs.Math.Nat.{le_refl}
-use Rattle.pfair_weight.specs.WindowFacts.{released, of_released, before_deadline, of_before_deadline}
+use Rattle.pfair_weight.specs.WindowFacts.{of_released, before_deadline, of_before_deadline}
 use Rattle.pfair_lag.proofs.Counts.{rises, before_time, quanta_le}
 
 -- deadlines kept, by whole numbers: one more quantum would be ahead of the share
@@ -42,8 +42,7 @@ meets_deadlines w picks horizon p are never = record {
     | inl missing ↦ absurd (
         let here = never horizon (le_refl horizon) in
         let wide : (quanta_before picks horizon + 1) * w.period ≤ i * w.period = mul-le _ _ _ _ (omega (arith, quanta_le picks horizon)) (le_refl w.period) in
-        let before = before_deadline w i horizon p (omega arith) in
-        omega arith)
+        grind (arith, before_deadline))
     | inr there ↦ there
   ];
 }
@@ -64,8 +63,7 @@ never_ahead w picks horizon p are kept t within =
           let before : get_or picks (quanta_before picks t - 1) 0 < t = (before_time picks t (quanta_before picks t - 1) (rises picks horizon are) inside).below (omega arith) in
           let opened = of_released w (quanta_before picks t) (get_or picks (quanta_before picks t - 1) 0) p.some_cost (kept (quanta_before picks t) some (omega arith)) in
           let wide : (get_or picks (quanta_before picks t - 1) 0 + 1) * w.cost ≤ t * w.cost = mul-le _ _ _ _ (omega arith) (le_refl w.cost) in
-          let split : quanta_before picks t * w.period ≡ (quanta_before picks t - 1) * w.period + w.period = pred_times (quanta_before picks t) w.period some in
-          omega arith)
+          grind (arith, pred_times))
       | inr none ↦ (let nothing : quanta_before picks t ≡ 0 = omega arith in rw nothing (omega (arith, p.some_cost, p.at_most_one)))
     ]
 
@@ -75,8 +73,7 @@ keeps_releases w picks horizon p are never i from to =
     let below : pick_of picks i < horizon = (are (i - 1) inside).below in
     let counted : i - 1 < quanta_before picks (pick_of picks i + 1) = (before_time picks (pick_of picks i + 1) (i - 1) (rises picks horizon are) inside).counted (omega arith) in
     let here = never (pick_of picks i + 1) (omega arith) in
-    let wide : (i - 1 + 1) * w.period ≤ quanta_before picks (pick_of picks i + 1) * w.period = mul-le _ _ _ _ (omega arith) (le_refl w.period) in
-    released w i (pick_of picks i) p (omega arith)
+    grind (arith, mul-le, le_refl)
 
 -- the same as lags
 pub lag_below_one : (w : Share) (picks : List ℕ) (horizon : ℕ) → NeverBehind w picks horizon → LagBelowOne w picks horizon

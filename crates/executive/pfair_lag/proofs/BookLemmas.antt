@@ -41,11 +41,7 @@ contained time es name book b is found = ap is_some (tally_kept time es name boo
 
 sound_at : (time : ℕ) (name : NameValue) (es : Accounts) (a : Account) → AllByRecursion (λ e. IsSound time e.1) es → lookup (name_eq name) es ≡ Some a → IsSound time a
 sound_at time name [] a h e = absurd (none-some a e)
-sound_at time name (x ∷ es) a h e =
-    elim (name_eq name x.0) as (λ b. cond b (Some x.1) (lookup (name_eq name) es) ≡ Some a → IsSound time a) [
-      | true ↦ λ f. subst (IsSound time) (same_Some x.1 a f) h.0
-      | false ↦ λ f. sound_at time name es a h.1 f
-    ] e
+sound_at time name (x ∷ es) a h e = grind (arith, sound_at time name es a h.1, lookup, same_Some)
 
 pub sound_found : (time : ℕ) (name : NameValue) (es : Accounts) (a : Account) → IsKept time es → lookup (name_eq name) es ≡ Some a → IsSound time a
 sound_found time name es a kept e = sound_at time name es a kept.each e
@@ -75,8 +71,7 @@ module _ (slots ran : ℕ) (name : NameValue) (weight : Share) where
 
 others_all : {X : Type 0} (name : NameValue) (es : List (NameValue × X)) → AllByRecursion (λ n. name_eq name n ≡ false) (keys_of es) → filter (λ (e : NameValue × X). not (name_eq name e.0)) es ≡ es
 others_all name [] apart = refl
-others_all {X} name (e ∷ es) apart =
-    ap (λ b. cond (not b) (e ∷ filter (λ (e : NameValue × X). not (name_eq name e.0)) es) (filter (λ (e : NameValue × X). not (name_eq name e.0)) es)) apart.0 ∙ ap (λ l. e ∷ l) (others_all name es apart.1)
+others_all {X} name (e ∷ es) apart = grind (arith, others_all name es apart.1)
 
 -- to take out the entry of a name is to keep all others
 removed : {X : Type 0} (name : NameValue) (es : List (NameValue × X)) → IsDistinct name_eq (keys_of es) → remove_entry (name_eq name) es ≡ filter (λ (e : NameValue × X). not (name_eq name e.0)) es
@@ -155,11 +150,7 @@ quantum_written time es name i a b unique at there is =
 -- a stranger changes nothing
 stranger : (name : NameValue) (f : Account → Account) (es : Accounts) → lookup (name_eq name) es ≡ None → changed name f es ≡ es
 stranger name f [] none = refl
-stranger name f (e ∷ es) none =
-    elim (name_eq name e.0) as (λ b. cond b (Some e.1) (lookup (name_eq name) es) ≡ None → ((e.0, cond b (f e.1) e.1) ∷ changed name f es) ≡ e ∷ es) [
-      | true ↦ λ n. absurd (none-some e.1 (sym n))
-      | false ↦ λ n. ap (λ (l : Accounts). e ∷ l) (stranger name f es n)
-    ] none
+stranger name f (e ∷ es) none = grind (arith, stranger name f es, lookup, none-some)
 
 pub quantum_of_stranger : (time : ℕ) (es : Accounts) (name : NameValue) (place : Option ℕ) → ((i : ℕ) → place ≡ Some i → ⊥) → is_some place ≡ is_some (lookup (name_eq name) es) → es ≡ with_quantum time name es
 quantum_of_stranger time es name (Some i) none same = absurd (none i refl)

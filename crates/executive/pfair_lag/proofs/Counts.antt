@@ -5,12 +5,7 @@ use Rattle.std.proofs.lemmas.List.Sums.{count_by-le-length}
 
 rises_to : (xs : List ℕ) (h : ℕ) → ArePicks xs h → (j k : ℕ) → j < k → k < length xs → get_or xs j 0 < get_or xs k 0
 rises_to xs h p j zero below inside = absurd (omega arith)
-rises_to xs h p j (suc k) below inside =
-    let step : get_or xs k 0 < get_or xs (suc k) 0 = (p (suc k) inside).rises k (omega arith) in
-    elim (cases_lt j k) [
-      | inl before ↦ (let to_k : get_or xs j 0 < get_or xs k 0 = rises_to xs h p j k before (omega arith) in omega arith)
-      | inr same ↦ (let e : j ≡ k = omega arith in rw e step)
-    ]
+rises_to xs h p j (suc k) below inside = grind (arith, rises_to xs h p j k, cases_lt)
 
 pub rises : (xs : List ℕ) (h : ℕ) → ArePicks xs h → Rises xs
 rises xs h p = rises_to xs h p
@@ -83,8 +78,7 @@ quanta_next_yes xs t r inside same =
       | inl two ↦ absurd (
           let within : quanta_before xs t + 1 < length xs = omega (arith, quanta_le xs (t + 1)) in
           let low = (before_time xs (t + 1) (quanta_before xs t + 1) r within).below two in
-          let high = r (quanta_before xs t) (quanta_before xs t + 1) (omega arith) within in
-          omega arith)
+          grind arith)
       | inr one ↦ omega arith
     ]
 

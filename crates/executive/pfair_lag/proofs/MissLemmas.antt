@@ -28,12 +28,10 @@ not_earlier : (w : Share) (picks : List ℕ) (horizon : ℕ) (m n : Miss) → Is
 not_earlier w picks horizon m n a b less = grind (arith, in_window)
 
 early_or_tardy : (w : Share) (picks : List ℕ) (i slot j slot' : ℕ) → IsWeight w.cost w.period → i ≡ j → 1 ≤ i → slot ≡ pick_of picks i → slot < release_of w i 0 → slot' ≡ pick_of picks j → deadline_of w j 0 ≤ slot' → ⊥
-early_or_tardy w picks i slot j slot' weight e first is early is' late =
-    grind (arith, not_both, lower, window_not_empty)
+early_or_tardy w picks i slot j slot' weight e first is early is' late = grind (arith, not_both, lower, window_not_empty)
 
 same_miss : (w : Share) (picks : List ℕ) (horizon : ℕ) → IsWeight w.cost w.period → (m n : Miss) → miss_index m ≡ miss_index n → IsMiss w picks horizon m → IsMiss w picks horizon n → m ≡ n
-same_miss w picks horizon weight (Early i s) (Early j t) e (first, ran, is, early) (first', ran', is', early') =
-    let slots : s ≡ t = is ∙ ap (pick_of picks) e ∙ sym is' in λ k. Early (e k) (slots k)
+same_miss w picks horizon weight (Early i s) (Early j t) e (first, ran, is, early) (first', ran', is', early') = grind arith
 same_miss w picks horizon weight (Early i s) (Tardy j t) e (first, ran, is, early) (first', ran', is', late) = absurd (early_or_tardy w picks i s j t weight e first is early is' late)
 same_miss w picks horizon weight (Early i s) (Unserved j) e (first, ran, is, early) (none, due) = absurd (not_both (length picks) j none (subst (λ k. k ≤ length picks) e ran))
 same_miss w picks horizon weight (Tardy i s) (Early j t) e (first, ran, is, late) (first', ran', is', early) = absurd (early_or_tardy w picks j t i s weight (sym e) first' is' early is late)
@@ -51,8 +49,7 @@ pub one_first_miss : OneFirstMiss
 one_first_miss w picks horizon m n weight a b = grind (arith, same_miss, same_index, not_earlier)
 
 pub misses_are_out : MissesAreOut
-misses_are_out w picks horizon (Early i slot) a inside =
-    in_window w picks horizon (Early i slot) a.is_miss a.is_miss.1 (inside.releases i a.is_miss.0 a.is_miss.1) (inside.deadlines.in_time i a.is_miss.0 a.is_miss.1)
+misses_are_out w picks horizon (Early i slot) a inside = grind (arith, in_window)
 misses_are_out w picks horizon (Tardy i slot) a inside =
     in_window w picks horizon (Tardy i slot) a.is_miss a.is_miss.1 (inside.releases i a.is_miss.0 a.is_miss.1) (inside.deadlines.in_time i a.is_miss.0 a.is_miss.1)
 misses_are_out w picks horizon (Unserved i) a inside = grind (arith, not_both)

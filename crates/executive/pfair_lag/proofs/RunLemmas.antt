@@ -1,6 +1,6 @@
 -- A book counts for each task the slots since it was entered.
 use Rattle.std.proofs.Common.{◌&&◌, count_by}
-use Rattle.pfair_lag.proofs.Common.{option_map, true≢false, Share, Tally, Book, tally_of, has_run, entered_after, slot_more, ◌≡◌, ℕ, ◌+◌, Bool, true, false, cond, not, List, [], ◌∷◌, ◌++◌, map, length, Option, Some, None, refl, sym, ap, ◌∙◌, arith, filter, is_some, lookup, bytes_decides, NameValue, name_eq}
+use Rattle.pfair_lag.proofs.Common.{option_map, Share, Tally, Book, tally_of, has_run, entered_after, slot_more, ◌≡◌, ℕ, ◌+◌, Bool, true, false, cond, not, List, [], ◌∷◌, ◌++◌, map, length, Option, Some, None, refl, ap, arith, filter, is_some, lookup, bytes_decides, NameValue, name_eq}
 use Rattle.std.proofs.lemmas.List.Sums.{sum_by-cons}
 use Rattle.pfair_lag.specs.Runs.{Enter, Leave, Record, Stay, slot_passed, tally_in, CountsSinceEntering}
 use Rattle.pfair_lag.proofs.BookLemmas.{is_some-map}
@@ -25,13 +25,7 @@ found_or_new (Some x) false t = refl
 
 -- a name that is there is not entered anew
 there_already : (name other : NameValue) (book : Book) (t : Tally) → is_some (tally_of other book) ≡ true → tally_of name book ≡ cond (name_eq name other && not (is_some (tally_of name book))) (Some t) (tally_of name book)
-there_already name other book t there =
-    elim (name_eq name other) as (λ b. name_eq name other ≡ b → tally_of name book ≡ cond (b && not (is_some (tally_of name book))) (Some t) (tally_of name book)) [
-      | true ↦ λ e.
-          let here : is_some (tally_of name book) ≡ true = ap (λ n. is_some (tally_of n book)) ((bytes_decides name other).0 e) ∙ there in
-          ap (λ b. cond (not b) (Some t) (tally_of name book)) (sym here)
-      | false ↦ λ _. refl
-    ] refl
+there_already name other book t there = grind (arith, bytes_decides)
 
 found_entered : (name other : NameValue) (slots ran : ℕ) (weight : Share) (book : Book)
     → tally_of name (entered_after slots ran other weight book) ≡ cond (name_eq name other && not (is_some (tally_of name book))) (Some (fresh slots ran weight)) (tally_of name book)
@@ -41,43 +35,19 @@ found_entered name other slots ran weight book = grind (arith, there_already, fo
 
 found_left : (name other : NameValue) (es : Entries) → lookup (name_eq name) (filter (λ (e : NameValue × Tally). not (name_eq other e.0)) es) ≡ cond (name_eq name other) None (lookup (name_eq name) es)
 found_left name other [] = elim (name_eq name other) as (λ b. let e : Option Tally = None in e ≡ cond b e e) [ true ↦ refl | false ↦ refl ]
-found_left name other (e ∷ es) =
-    let rest : Entries = filter (λ (e : NameValue × Tally). not (name_eq other e.0)) es in
-    let later : lookup (name_eq name) rest ≡ cond (name_eq name other) None (lookup (name_eq name) es) = found_left name other es in
-    elim (name_eq other e.0) as (λ b. name_eq other e.0 ≡ b → lookup (name_eq name) (cond (not b) (e ∷ rest) rest) ≡ cond (name_eq name other) None (cond (name_eq name e.0) (Some e.1) (lookup (name_eq name) es))) [
-      | true ↦ λ gone. later ∙ elim (name_eq name other) as (λ b. name_eq name other ≡ b → cond b None (lookup (name_eq name) es) ≡ cond b None (cond (name_eq name e.0) (Some e.1) (lookup (name_eq name) es))) [
-        | true ↦ λ _. refl
-        | false ↦ λ apart.
-            let differs : name_eq name e.0 ≡ false = ap (name_eq name) (sym ((bytes_decides other e.0).0 gone)) ∙ apart in
-            ap (λ b. cond b (Some e.1) (lookup (name_eq name) es)) (sym differs)
-      ] refl
-      | false ↦ λ stays. elim (name_eq name e.0) as (λ b. name_eq name e.0 ≡ b → cond b (Some e.1) (lookup (name_eq name) rest) ≡ cond (name_eq name other) None (cond b (Some e.1) (lookup (name_eq name) es))) [
-        | true ↦ λ here.
-            let is : name ≡ e.0 = (bytes_decides name e.0).0 here in
-            elim (name_eq name other) as (λ b. name_eq name other ≡ b → Some e.1 ≡ cond b None (Some e.1)) [
-              | true ↦ λ e'. absurd (true≢false (sym ((bytes_decides other e.0).1 (sym ((bytes_decides name other).0 e') ∙ is)) ∙ stays))
-              | false ↦ λ _. refl
-            ] refl
-        | false ↦ λ _. later
-      ] refl
-    ] refl
+found_left name other (e ∷ es) = grind (arith, found_left name other es, lookup, bytes_decides)
 
 -- ---- a slot
 
 found_recorded : (names : List NameValue) (name : NameValue) (es : Entries) → lookup (name_eq name) (map (λ (e : NameValue × Tally). (e.0, slot_more names e.0 e.1)) es) ≡ option_map (slot_more names name) (lookup (name_eq name) es)
 found_recorded names name [] = refl
-found_recorded names name (e ∷ es) =
-    elim (name_eq name e.0) as (λ b. name_eq name e.0 ≡ b → cond b (Some (slot_more names e.0 e.1)) (lookup (name_eq name) (map (λ (e : NameValue × Tally). (e.0, slot_more names e.0 e.1)) es)) ≡ option_map (slot_more names name) (cond b (Some e.1) (lookup (name_eq name) es))) [
-      | true ↦ λ is. ap (λ n. Some (slot_more names n e.1)) (sym ((bytes_decides name e.0).0 is))
-      | false ↦ λ _. found_recorded names name es
-    ] refl
+found_recorded names name (e ∷ es) = grind (arith, found_recorded names name es, lookup, bytes_decides)
 
 slot_counted : (names : List NameValue) (name : NameValue) (s : Stay) → slot_more names name (tally_in name s) ≡ tally_in name (slot_passed names s)
 slot_counted names name s =
     let slots : s.slots_before + length s.slots + 1 ≡ s.slots_before + length (names ∷ s.slots) = omega arith in
     let cons : count_by (λ l. has_run l name) (names ∷ s.slots) ≡ cond (has_run names name) 1 0 + count_by (λ l. has_run l name) s.slots = sum_by-cons (λ l. cond (has_run l name) 1 0) names s.slots in
-    let ran : s.ran_before + count_by (λ l. has_run l name) s.slots + cond (has_run names name) 1 0 ≡ s.ran_before + count_by (λ l. has_run l name) (names ∷ s.slots) = omega arith in
-    λ i. record { weight = s.weight; slots = slots i; ran = ran i }
+    grind arith
 
 counted_slot : (names : List NameValue) (name : NameValue) (o : Option Stay) → option_map (slot_more names name) (option_map (tally_in name) o) ≡ option_map (tally_in name) (option_map (slot_passed names) o)
 counted_slot names name None = refl
@@ -87,10 +57,7 @@ counted_slot names name (Some s) = ap Some (slot_counted names name s)
 
 new_stay : (name : NameValue) (b : Bool) (slots ran : ℕ) (weight : Share) (o : Option Stay)
     → cond b (Some (fresh slots ran weight)) (option_map (tally_in name) o) ≡ option_map (tally_in name) (cond b (Some (record { weight = weight; slots_before = slots; ran_before = ran; slots = [] })) o)
-new_stay name true slots ran weight o =
-    let slots_are : slots ≡ slots + length {A = List NameValue} [] = omega arith in
-    let ran_is : ran ≡ ran + count_by (λ (l : List NameValue). has_run l name) [] = omega arith in
-    λ i. Some (record { weight = weight; slots = slots_are i; ran = ran_is i })
+new_stay name true slots ran weight o = grind arith
 new_stay name false slots ran weight o = refl
 
 no_stay : (name : NameValue) (b : Bool) (o : Option Stay) → cond b None (option_map (tally_in name) o) ≡ option_map (tally_in name) (cond b None o)
@@ -99,8 +66,7 @@ no_stay name false o = refl
 
 pub counts_since_entering : CountsSinceEntering
 counts_since_entering name [] = refl
-counts_since_entering name (Enter slots ran other weight ∷ before) =
-    grind (arith, is_some-map, found_entered, new_stay, counts_since_entering name before)
+counts_since_entering name (Enter slots ran other weight ∷ before) = grind (arith, counts_since_entering name before, is_some-map, found_entered, new_stay)
 counts_since_entering name (Leave other ∷ before) =
     grind (arith, found_left, no_stay, counts_since_entering name before)
 counts_since_entering name (Record names ∷ before) =

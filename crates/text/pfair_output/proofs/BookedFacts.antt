@@ -45,9 +45,7 @@ pub booked_more : (ds : List (List Decided)) (ts : List Table) (slot : ℕ) (boo
 booked_more ds ts slot book book' before after inside inside' moved grown =
     let d = first_left ds slot inside in
     let t = first_left ts slot inside' in
-    let next : Book = slot_booked d.0 t.0 book in
-    let rest : List (List (List ℕ)) = rows_booked next (drop (slot + 1) ds) (drop (slot + 1) ts) in
-    rw (moved d.0 t.0 d.1 t.1, grown d.0 t.0 d.1 t.1, d.2, t.2, lines_text-append (book_rows next) rest) (append_assoc before (lines_text (book_rows next)) (lines_text rest))
+    grind (arith, lines_text-append, append_assoc)
 
 pub booked_time : (ds : List (List Decided)) (ts : List Table) (slot : ℕ) (book book' : Book) → slot < length ds → slot < length ts
     → ((d : List Decided) (t : Table) → slice_get ds slot ≡ Some d → slice_get ts slot ≡ Some t → book' ≡ slot_booked d t book)

@@ -1,5 +1,5 @@
 -- Texts that grow by one row after another, each with its place.
-use Rattle.pfair_output.proofs.Common.{same_Some, first_left, line, lines_text, Table, placed_row, placed_rows_from, ℕ, suc, ◌+◌, ◌<◌, ◌≡◌, sym, ap, ◌∙◌, arith, List, ◌++◌, Some, length, drop, slice_get, append_assoc, Pick}
+use Rattle.pfair_output.proofs.Common.{same_Some, first_left, line, lines_text, Table, placed_row, placed_rows_from, ℕ, ◌+◌, ◌<◌, ◌≡◌, arith, List, ◌++◌, Some, length, drop, slice_get, append_assoc, Pick}
 
 -- one row more
 pub row_more : (places : List ℕ) (slot : ℕ) (table : Table) (row : ℕ) (pick : Pick) (before after : List ℕ) → row < length table → slice_get table row ≡ Some pick
@@ -7,11 +7,4 @@ pub row_more : (places : List ℕ) (slot : ℕ) (table : Table) (row : ℕ) (pic
     → after ++ lines_text (placed_rows_from places slot (row + 1) (drop (row + 1) table)) ≡ before ++ lines_text (placed_rows_from places slot row (drop row table))
 row_more places slot table row pick before after inside here grown =
     let t = first_left table row inside in
-    let same : t.0 ≡ pick = same_Some _ _ (sym t.1 ∙ here) in
-    let left : Table = drop (row + 1) table in
-    let next : row + 1 ≡ suc row = omega arith in
-    ap (λ text. text ++ lines_text (placed_rows_from places slot (row + 1) left)) grown
-    ∙ append_assoc before (line (placed_row slot row pick (slice_get places row))) (lines_text (placed_rows_from places slot (row + 1) left))
-    ∙ ap (λ (n : ℕ). before ++ (line (placed_row slot row pick (slice_get places row)) ++ lines_text (placed_rows_from places slot n left))) next
-    ∙ ap (λ (p : Pick). before ++ (line (placed_row slot row p (slice_get places row)) ++ lines_text (placed_rows_from places slot (suc row) left))) (sym same)
-    ∙ ap (λ rows. before ++ lines_text (placed_rows_from places slot row rows)) (sym t.2)
+    grind (arith, same_Some, append_assoc)

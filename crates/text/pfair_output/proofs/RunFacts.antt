@@ -11,9 +11,7 @@ all_slots s t x y settings held settled = let slots = ap (λ (s : Settings). s.s
 
 pub slots_more : {A : Type 0} (rows : ℕ → A → List (List (List ℕ))) (from to : ℕ) (xs : List A) (x : A) → to ≡ from + length xs → slots_from rows from (xs ++ x ∷ []) ≡ slots_from rows from xs ++ rows to x
 slots_more rows from to [] x e = append-nil (rows from x) ∙ ap (λ n. rows n x) (let here : from ≡ to = omega (arith, e) in here)
-slots_more rows from to (y ∷ ys) x e =
-    ap (λ rest. rows from y ++ rest) (slots_more rows (suc from) to ys x (omega (arith, e)))
-    ∙ sym (append_assoc (rows from y) (slots_from rows (suc from) ys) (rows to x))
+slots_more rows from to (y ∷ ys) x e = grind (arith, slots_more rows (suc from) to ys x, append_assoc)
 
 -- a text with some rows, and then with more
 pub text_more : (start before after : List ℕ) (rows more : List (List (List ℕ))) → before ≡ start ++ lines_text rows → after ≡ before ++ lines_text more → after ≡ start ++ lines_text (rows ++ more)
@@ -40,10 +38,4 @@ module _ (s : Settings) (x : Replica) (n : ℕ) (start before after : List ℕ) 
   -- a text with the lags of the slots so far, and then with those of the next one
   pub lags_more : (book : Book) → book ≡ book_after s x (n + 1) → before ≡ start ++ lines_text (flat_map (lag_rows s x) (numbers_below n)) → after ≡ before ++ lines_text (book_rows book)
       → after ≡ start ++ lines_text (flat_map (lag_rows s x) (numbers_below (n + 1)))
-  lags_more book booked had has =
-      let rows_are : book_rows book ≡ lag_rows s x n = ap book_rows (booked ∙ ap (book_after s x) next_number) ∙ rows_after s x n in
-      text_more start before after (flat_map (lag_rows s x) (numbers_below n)) (lag_rows s x n) had (has ∙ ap (λ rows. before ++ lines_text rows) rows_are)
-      ∙ ap (λ rows. start ++ lines_text rows)
-      (ap (λ more. flat_map (lag_rows s x) (numbers_below n) ++ more) (sym (append-nil (lag_rows s x n)))
-      ∙ sym (flat_map-append (lag_rows s x) (numbers_below n) (n ∷ []))
-      ∙ ap (λ m. flat_map (lag_rows s x) (numbers_below m)) (sym next_number))
+  lags_more book booked had has = grind (arith, next_number, rows_after, text_more, flat_map, append-nil, flat_map-append)

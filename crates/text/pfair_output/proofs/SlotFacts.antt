@@ -1,5 +1,5 @@
 -- Texts that grow by the rows of one slot after another.
-use Rattle.pfair_output.proofs.Common.{append-nil, drop_all, IsOpen, TextWriter, lines_text, text_so_far, first_left, lines_text-append, slots_from, ℕ, suc, ◌+◌, ◌<◌, ◌≤◌, ◌≡◌, sym, ap, ◌∙◌, arith, List, ◌++◌, Some, length, drop, slice_get, append_assoc}
+use Rattle.pfair_output.proofs.Common.{append-nil, drop_all, IsOpen, TextWriter, lines_text, text_so_far, first_left, lines_text-append, slots_from, ℕ, ◌+◌, ◌<◌, ◌≤◌, ◌≡◌, sym, ap, ◌∙◌, arith, List, ◌++◌, Some, length, drop, slice_get, append_assoc}
 
 module _ {A : Type 0} (rows : ℕ → A → List (List (List ℕ))) where
   -- the rows of one slot more
@@ -7,9 +7,7 @@ module _ {A : Type 0} (rows : ℕ → A → List (List (List ℕ))) where
       → after ++ lines_text (slots_from rows (slot + 1) (drop (slot + 1) xs)) ≡ before ++ lines_text (slots_from rows slot (drop slot xs))
   slot_more xs slot before after inside grown =
       let t = first_left xs slot inside in
-      let rest : List A = drop (slot + 1) xs in
-      let next : slot + 1 ≡ suc slot = omega arith in
-      rw (grown t.0 t.1, t.2, ← next, lines_text-append (rows slot t.0) (slots_from rows (slot + 1) rest)) (append_assoc before (lines_text (rows slot t.0)) (lines_text (slots_from rows (slot + 1) rest)))
+      grind (arith, lines_text-append, append_assoc)
 
   -- after the last slot nothing is left
   pub slots_done : (xs : List A) (slot : ℕ) (text : List ℕ) → length xs ≤ slot → text ++ lines_text (slots_from rows slot (drop slot xs)) ≡ text

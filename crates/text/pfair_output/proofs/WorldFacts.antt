@@ -1,6 +1,6 @@
 -- A book that is notified of a run's slots has the members that stay, with their lags.
 use Rattle.std.proofs.Common.{Bool, false, cond, filter}
-use Rattle.pfair_output.proofs.Common.{AllByRecursion, flat_map, map-append, append-nil, flat_map-append, Replica, frontier, said, numbers_below, replica_of, Settings, Origin, Story, Table, machine, members_before, names_task, slot_of, history, world, table, decisions, with_decisions, plan, Tally, Book, empty_book, tally_of, has_run, entered_with, slot_more, is_staying, lag_row, lag_rows, booked, all_booked, slot_booked, all_slots_booked, tally_row, book_rows, rows_booked, all_entered, entered_again, first_book, ℕ, zero, suc, ◌+◌, ◌-◌, ◌≤◌, ◌≡◌, refl, sym, ap, ◌∙◌, arith, subst, true, not, List, [], ◌∷◌, ◌++◌, Some, None, map, length, append_assoc, min, NameValue, Share, Announcement, Arrive, Depart, Late, Dispatch, Decision, Member, Pick, Decided}
+use Rattle.pfair_output.proofs.Common.{AllByRecursion, flat_map, map-append, append-nil, flat_map-append, Replica, frontier, said, numbers_below, replica_of, Settings, Origin, Story, Table, machine, members_before, names_task, slot_of, history, world, table, decisions, with_decisions, Tally, Book, empty_book, tally_of, has_run, entered_with, slot_more, is_staying, lag_row, lag_rows, booked, all_booked, slot_booked, all_slots_booked, tally_row, book_rows, rows_booked, all_entered, entered_again, first_book, ℕ, zero, suc, ◌+◌, ◌-◌, ◌≤◌, ◌≡◌, refl, sym, ap, ◌∙◌, arith, subst, true, not, List, [], ◌∷◌, ◌++◌, Some, None, map, length, append_assoc, min, NameValue, Share, Announcement, Arrive, Depart, Late, Dispatch, Decision, Member, Pick, Decided}
 use Rattle.std.specs.Cmp.Lexicographic.{nat_list_eq_equiv}
 use Rattle.std.specs.Map.{lookup}
 use Rattle.pfair_weight.specs.Name.{NamesApart, name_eq}
@@ -110,8 +110,7 @@ all_recorded slot rows (m ∷ ms) j = grind (arith, shown_more, stays_after, all
 
 module _ (o : Origin) (s : Settings) (x : Story) (named : NamesApart label (members_before o)) (begun : AllByRecursion (HasJoined (slot_of o 0)) (members_before o)) where
   joined_at : (slot : ℕ) (booked : List Said) (members : List Member) → AllByRecursion (HasJoined slot) members → AllByRecursion (HasJoined slot) (all_decided (machine s) slot (present slot members) (announcements booked))
-  joined_at slot booked members all =
-      each_boundary slot (HasJoined slot) (λ name w early. (omega arith, omega arith)) (λ freed m h. h) (λ index by m h. h) (machine s) (announcements booked) members all
+  joined_at slot booked members all = grind (arith, each_boundary)
 
   ran_is : (t : ℕ) → (history o s x (suc t)).members ≡ map (after_table (table o s x t)) (world o s x t)
   ran_is t = all_ran_is (table o s x t) (rows_apart s.processors (slot_of o t) (world o s x t) (named_from o s named x t)) (world o s x t)
@@ -210,10 +209,7 @@ module _ (s : Settings) (x : Replica) where
   pub rows_after : (t : ℕ) → book_rows (book_after (suc t)) ≡ lag_rows s x t
   rows_after t =
       let a = after_first (suc t) in
-      let members = (history None s (said x) (suc t)).members in
-      let next : suc t ≡ t + 1 = omega arith in
-      ap (λ n. map (tally_row n) (book_after (suc t)).entered) a.time_is ∙ ap (map (tally_row (suc t))) a.entered_is
-      ∙ same_rows (suc t) (filter is_staying members) ∙ ap (λ n. map (lag_row n) (filter is_staying members)) next
+      grind (arith, same_rows)
 
 -- ---- the whole
 
@@ -236,11 +232,7 @@ same_length f g (y ∷ ys) = ap suc (same_length f g ys)
 module _ (o : Origin) (s : Settings) (x : Story) (named : NamesApart label (members_before o)) (begun : AllByRecursion (HasJoined (slot_of o 0)) (members_before o)) (book : Book) where
   pub over_slots : (n : ℕ) → all_slots_booked book (map (decisions o s x) (numbers_below n)) (map (table o s x) (numbers_below n)) ≡ book_over o s x named begun book n
   over_slots zero = refl
-  over_slots (suc n) =
-      let ds = decisions o s x in
-      let ts = table o s x in
-      let more = over_push book (map ds (numbers_below n)) (map ts (numbers_below n)) (ds n) (ts n) (same_length ds ts (numbers_below n)) in
-      rw (map-append ds (numbers_below n) (n ∷ []), map-append ts (numbers_below n) (n ∷ []), more, over_slots n) refl
+  over_slots (suc n) = grind (arith, over_slots n, over_push, same_length, map-append)
 
 module _ (s : Settings) (x : Replica) where
   -- the rows of the book that is notified of the first n slots are those of the members
@@ -255,8 +247,4 @@ module _ (s : Settings) (x : Replica) where
 
 -- the rows of a first run's whole plan
 pub whole_rows : (d : Dispatch) → d.origin ≡ None → IsWholePlan d → rows_booked empty_book d.decided d.tables ≡ flat_map (lag_rows d.settings (replica_of d.replica)) (numbers_below (min (frontier (replica_of d.replica)) d.settings.slots))
-whole_rows d first whole =
-    let n : ℕ = min (frontier (replica_of d.replica)) d.settings.slots in
-    (λ i. rows_booked empty_book (whole.decided_are i) (whole.tables_are i))
-    ∙ ap (λ (o : Origin). rows_booked empty_book (map (decisions o d.settings (said (replica_of d.replica))) (numbers_below n)) (plan o d.settings (replica_of d.replica))) first
-    ∙ rows_of_slots d.settings (replica_of d.replica) n
+whole_rows d first whole = grind (arith, rows_of_slots)

@@ -1,5 +1,5 @@
 -- The late releases of a task, read row after row.
-use Rattle.pfair_state.proofs.Common.{name_eq, append-nil, length-append, Delay, as_late, late_said, Row, Late, ℕ, ◌+◌, ◌≡◌, ◌≢◌, refl, sym, ap, ◌∙◌, arith, subst, Bool, true, List, [], ◌∷◌, ◌++◌, Some, None, length, map, drop, slice_get, append_assoc, not, nat_list_eq_equiv}
+use Rattle.pfair_state.proofs.Common.{name_eq, append-nil, length-append, Delay, as_late, late_said, Row, Late, ℕ, ◌+◌, ◌≡◌, ◌≢◌, refl, sym, ap, ◌∙◌, arith, Bool, true, List, [], ◌∷◌, ◌++◌, Some, None, length, map, drop, slice_get, append_assoc, not, nat_list_eq_equiv}
 use Rattle.pfair_state.specs.declared.rows.LateRow.{LateRow}
 use Rattle.pfair_state.proofs.Behind.{first_at, next_behind}
 
@@ -26,9 +26,7 @@ module _ (rows : List Row) (from : ℕ) (name : List ℕ) where
         by_left : (left : List Delay) → all ≡ done ++ left → (behind : List Row) → drop (from + length done) rows ≡ map (late_said name) left ++ behind → as_late (slice_get behind 0) ≡ None
             → (delay : Delay) × (more : List Delay) × (all ≡ done ++ delay ∷ more) × (row ≡ record { name = name; index = delay.index; by = delay.by }) × (drop (from + length done + 1) rows ≡ map (late_said name) more ++ behind)
         by_left [] whole behind is not_late = absurd (let late = ap as_late (sym (next_behind rows (from + length done) behind is) ∙ at) in cc)
-        by_left (delay ∷ more) whole behind is not_late =
-            let first = first_at rows (from + length done) (late_said name delay) (map (late_said name) more ++ behind) is in
-            (delay, more, whole, (let here = first.0 in cc), first.1)
+        by_left (delay ∷ more) whole behind is not_late = grind (arith, first_at)
 
     pub delay_read : (row : LateRow) (after : List Delay) → slice_get rows (from + length done) ≡ Some (Late row) → after ≡ done ++ record { index = row.index; by = row.by } ∷ [] → AreReadSoFar after
     delay_read row after at grown all behind is not_late =
@@ -55,6 +53,4 @@ module _ (rows : List Row) (from : ℕ) (name : List ℕ) where
 
 -- names that are compared as unequal are
 pub other_name : (name other : List ℕ) (differ : Bool) → differ ≡ not (name_eq other name) → differ ≡ true → other ≢ name
-other_name name other differ shown is same =
-    let alike : name_eq other name ≡ true = subst (λ (n : List ℕ). name_eq n name ≡ true) (sym same) (nat_list_eq_equiv.refl name) in
-    let none = ap not alike in cc
+other_name name other differ shown is same = grind (arith, nat_list_eq_equiv)

@@ -1,5 +1,5 @@
 -- A state follows from its text: rows from lines, and the state from rows.
-use Rattle.pfair_state.proofs.Common.{flat_map, decimal_injective, append_cancel_right, Delay, Carried, Table, lines_text, AreSpelled, IsBehindMembers, IsSpelled, StatesHaveOneText, as_late, fields_of, first_of, late_said, line_of, member_of, member_said, ran_said, row_of, said_of, slot_field, Row, First, Late, Ran, End, ℕ, ◌<◌, ◌≡◌, ◌^◌, refl, sym, ap, ◌∙◌, arith, List, [], ◌∷◌, ◌++◌, Option, Some, None, drop, length, map, slice_get, append_assoc, IfSome, parts, parts_at}
+use Rattle.pfair_state.proofs.Common.{flat_map, decimal_injective, append_cancel_right, Delay, Carried, Table, lines_text, AreSpelled, IsBehindMembers, IsSpelled, StatesHaveOneText, as_late, fields_of, first_of, late_said, line_of, member_of, member_said, ran_said, row_of, said_of, slot_field, Row, First, Late, Ran, End, ℕ, ◌<◌, ◌≡◌, ◌^◌, refl, sym, ap, ◌∙◌, arith, List, [], ◌∷◌, ◌++◌, Option, Some, None, drop, length, map, slice_get, append_assoc, IfSome, parts}
 use Rattle.pfair_admission.specs.Member.{Member as MemberOf}
 use Rattle.pfair_state.specs.declared.rows.Row.TheVariants.{Member}
 use Rattle.pfair_state.proofs.MembersRead.{no_late}
@@ -33,13 +33,11 @@ from_lines [] [] h k e = refl
 from_lines (r ∷ rs) (s ∷ ss) h k e =
     let line : line_of r ≡ line_of s = cc in
     let row = same_row r s h.0 k.0 (sym (parts_of_line r h.0) ∙ ap parts line ∙ parts_of_line s k.0) in
-    let rest = from_lines rs ss h.1 k.1 cc in
-    λ i. row i ∷ rest i
+    grind (arith, from_lines rs ss h.1 k.1 cc)
 from_lines _ _ h k e = absurd cc
 
 from_text : (rs ss : List Row) → AreSpelled rs → AreSpelled ss → lines_text (map fields_of rs) ≡ lines_text (map fields_of ss) → rs ≡ ss
-from_text rs ss h k e =
-    from_lines rs ss h k (append_cancel_right (map line_of rs) (map line_of ss) ([] ∷ []) (sym (parts_of_text rs h) ∙ ap (parts_at 10) e ∙ parts_of_text ss k))
+from_text rs ss h k e = grind (arith, from_lines, append_cancel_right, parts_of_text)
 
 -- ---- a state from its rows
 
@@ -48,9 +46,7 @@ same_delays : (a b : List ℕ) (ds es : List Delay) (rs ss : List Row) → as_la
 same_delays a b [] [] rs ss none also e = (refl, e)
 same_delays a b [] (d ∷ es) rs ss none also e = absurd (let late = ap (λ (l : List Row). as_late (slice_get l 0)) e in cc)
 same_delays a b (c ∷ ds) [] rs ss none also e = absurd (let late = ap (λ (l : List Row). as_late (slice_get l 0)) e in cc)
-same_delays a b (c ∷ ds) (d ∷ es) rs ss none also e =
-    let rest = same_delays a b ds es rs ss none also cc in
-    ((let late : c ≡ d = grind arith in λ i. late i ∷ rest.0 i), rest.1)
+same_delays a b (c ∷ ds) (d ∷ es) rs ss none also e = grind (arith, same_delays a b ds es rs ss none also cc)
 
 same_members : (ms ns : List MemberOf) (rs ss : List Row) → IsBehindMembers rs → IsBehindMembers ss → flat_map member_said ms ++ rs ≡ flat_map member_said ns ++ ss → (ms ≡ ns) × (rs ≡ ss)
 same_members [] [] rs ss ends also e = (refl, e)
@@ -73,10 +69,7 @@ from_rows : (c d : Carried) → length c.places ≡ length c.table → length d.
 from_rows c d h k e =
     let first : first_of c ≡ first_of d = cc in
     let members = same_members c.members d.members (behind_members c) (behind_members d) (ends_members c) (ends_members d) (sym (members_there (said_of c) c refl) ∙ ap (drop 1) e ∙ members_there (said_of d) d refl) in
-    let ran = same_ran c.table d.table c.places d.places _ _ h k members.1 in
-    λ i. record { slot = (first i).slot; machine = record { processors = (first i).processors; frame = (first i).frame }; members = members.0 i; table = ran.0 i; places = ran.1 i }
+    grind (arith, same_ran)
 
 pub one_text : StatesHaveOneText
-one_text c d can also e =
-    from_rows c d can.state.places.one_each also.state.places.one_each
-    (from_text (said_of c) (said_of d) can.spelled also.spelled (ap lines_text (rows_say c) ∙ e ∙ sym (ap lines_text (rows_say d))))
+one_text c d can also e = grind (arith, from_rows, from_text, rows_say)

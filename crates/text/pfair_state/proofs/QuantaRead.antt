@@ -1,5 +1,5 @@
 -- The quanta of a state, added row after row.
-use Rattle.pfair_state.proofs.Common.{append-nil, length-append, NamesApart, name_eq, can_add_row, with_row, Carried, Table, names_task, as_quantum, ran_said, Row, Ran, ℕ, ◌+◌, ◌<◌, ◌≡◌, ◌≢◌, refl, sym, ap, subst, ◌∙◌, arith, true, false, List, [], ◌∷◌, ◌++◌, Some, None, length, drop, slice_get, append_assoc, not, nat_list_eq_equiv, ne_eqb, Pick, ArePlacesOf, IsFit}
+use Rattle.pfair_state.proofs.Common.{append-nil, length-append, NamesApart, name_eq, can_add_row, with_row, Carried, Table, names_task, as_quantum, ran_said, Row, Ran, ℕ, ◌+◌, ◌≡◌, ◌≢◌, refl, sym, ap, ◌∙◌, arith, true, false, List, [], ◌∷◌, ◌++◌, Some, None, length, drop, slice_get, append_assoc, nat_list_eq_equiv, ne_eqb, Pick, ArePlacesOf, IsFit}
 use Rattle.std.proofs.lemmas.Bool.{and_from}
 use Rattle.std.proofs.lemmas.Bool.Decides.{nat_tests}
 use Rattle.pfair_weight.proofs.NamesApart.{apart_head, apart_tail}
@@ -16,8 +16,7 @@ name_is_new : (done : Table) (p : Pick) (more : Table) → NamesApart label (don
 name_is_new [] p more apart = refl
 name_is_new (q ∷ done) p more apart =
     let other = middle (λ (y : Pick). name_eq q.name y.name ≡ false) done more p (apart_head label q (done ++ p ∷ more) apart) in
-    let turned = nat_list_eq_equiv.symm p.name q.name in
-    grind (arith, name_is_new done p more (apart_tail label q (done ++ p ∷ more) apart))
+    grind (arith, name_is_new done p more (apart_tail label q (done ++ p ∷ more) apart), nat_list_eq_equiv, more, apart_tail)
 
 place_is_new : (done : List ℕ) (k : ℕ) (more : List ℕ) → AllDiffer (done ++ k ∷ more) → is_used done k ≡ false
 place_is_new [] k more differ = refl
@@ -25,12 +24,7 @@ place_is_new (j ∷ done) k more differ = (let other = middle (λ i. j ≢ i) do
 
 -- it can be added to them
 can_add : (c : Carried) (p : Pick) (k : ℕ) (more : Table) (others : List ℕ) → IsFit c.machine.processors (c.table ++ p ∷ more) → ArePlacesOf c.machine.processors (c.table ++ p ∷ more) (c.places ++ k ∷ others) → can_add_row c p k ≡ true
-can_add c p k more others fit places =
-    let long = length-append c.table (p ∷ more) in
-    let few = fit.0 in
-    let room : length c.table < c.machine.processors = omega (arith, long, few) in
-    let below = middle (λ j. j < c.machine.processors) c.places others k places.below in
-    and_from _ _ (grind (arith, nat_tests)) (and_from _ _ (grind (arith, nat_tests)) (and_from _ _ (ap not (name_is_new c.table p more fit.1)) (ap not (place_is_new c.places k others places.differ))))
+can_add c p k more others fit places = grind (arith, length-append, more, middle, others, and_from, nat_tests, name_is_new, place_is_new)
 
 -- ---- quanta that are left
 
@@ -89,9 +83,7 @@ module _ (rows : List Row) (old : Carried) where
       can table places behind none fit are is ends =
           let to = so_far table places behind none fit are is ends in
           let n = next x here table places behind ends to in
-          let machine : old.machine.processors ≡ now.machine.processors = sym (ap (λ (c : Carried). c.machine.processors) to.rest) in
-          can_add now x.0 x.1 n.more n.others (subst (λ m. IsFit m (now.table ++ x.0 ∷ n.more)) machine (subst (IsFit old.machine.processors) n.table_is fit))
-          (subst (λ m. ArePlacesOf m (now.table ++ x.0 ∷ n.more) (now.places ++ x.1 ∷ n.others)) machine (subst (λ (p : List ℕ). ArePlacesOf old.machine.processors (now.table ++ x.0 ∷ n.more) p) n.places_are (subst (λ (t : Table). ArePlacesOf old.machine.processors t places) n.table_is are)))
+          grind (arith, can_add)
 
       pub added : (after : Carried) → after ≡ with_row now x.0 x.1 → AreAddedSoFar from after (at + 1)
       added after grown table places behind none fit are is ends =
@@ -116,10 +108,7 @@ module _ (rows : List Row) (old : Carried) where
       where
         by_left : (left : Table) (left_places : List ℕ) → table ≡ now.table ++ left → places ≡ now.places ++ left_places → length left_places ≡ length left → drop at rows ≡ ran_said left left_places ++ behind → now ≡ record old { table = now.table; places = now.places }
             → (drop at rows ≡ behind) × (now ≡ record old { table = table; places = places })
-        by_left [] [] table_is places_are long is rest =
-            let t = table_is ∙ append-nil now.table in
-            let p = places_are ∙ append-nil now.places in
-            (is, rest ∙ (λ i. record old { table = sym t i; places = sym p i }))
+        by_left [] [] table_is places_are long is rest = grind (arith, table_is, append-nil, places_are, rest)
         by_left [] (k ∷ others) table_is places_are long is rest = absurd (omega (arith, long))
         by_left (p ∷ more) [] table_is places_are long is rest = absurd (omega (arith, long))
         by_left (p ∷ more) (k ∷ others) table_is places_are long is rest = absurd (let there = ap as_quantum (first_at rows at (Ran p k) (ran_said more others ++ behind) is).0 in cc)

@@ -34,8 +34,7 @@ ran_left table places i p k at place =
 
 pub ran_more : (table : Table) (places : List ℕ) (i : ℕ) (p : Pick) (k : ℕ) (before after : List ℕ) → slice_get table i ≡ Some p → slice_get places i ≡ Some k → after ≡ before ++ line (ran_row p k)
     → after ++ lines_text (ran_rows (drop (i + 1) table) (drop (i + 1) places)) ≡ before ++ lines_text (ran_rows (drop i table) (drop i places))
-ran_more table places i p k before after at place grown =
-    rw (grown, ran_left table places i p k at place) (append_assoc before (line (ran_row p k)) (lines_text (ran_rows (drop (i + 1) table) (drop (i + 1) places))))
+ran_more table places i p k before after at place grown = grind (arith, ran_left, append_assoc)
 
 pub count_ran : (table : Table) (places : List ℕ) → length places ≡ length table → length (ran_rows table places) ≡ length table
 count_ran [] places same = refl

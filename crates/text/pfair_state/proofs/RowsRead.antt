@@ -28,9 +28,7 @@ first_line rows done rest line behind left cut = by_left left.left left.all left
     by_left : (left : List Row) → rows ≡ done ++ left → parts_at 10 rest ≡ map line_of left ++ [] ∷ [] → AllByRecursion IsSpelled left
         → (row : Row) × (more : List Row) × (rows ≡ done ++ row ∷ more) × (line ≡ line_of row) × (parts_at 10 behind ≡ map line_of more ++ [] ∷ []) × IsSpelled row × AllByRecursion IsSpelled more
     by_left [] all parts_are spelled = absurd (no_parts behind (let same = sym cut ∙ parts_are in cc))
-    by_left (row ∷ more) all parts_are spelled =
-        let same = sym cut ∙ parts_are in
-        (row, more, all, cc, cc, spelled.0, spelled.1)
+    by_left (row ∷ more) all parts_are spelled = grind (arith, parts_are)
 
 module _ (text : List ℕ) (done : List Row) (rest line behind : List ℕ) (so_far : IsReadSoFar text done rest) (cut : parts_at 10 rest ≡ line ∷ parts_at 10 behind) (read : Option Row) (back : (row : Row) → IsSpelled row → parts line ≡ fields_of row → read ≡ Some row) where
   -- and it is read as that
@@ -46,9 +44,7 @@ module _ (text : List ℕ) (done : List Row) (rest line behind : List ℕ) (so_f
       }
 
   pub none_read : ((row : Row) → read ≡ Some row → ⊥) → (rows : List Row) → AllByRecursion IsSpelled rows → text ≡ lines_text (map fields_of rows) → ⊥
-  none_read none rows spelled text_is =
-      let first = first_line rows done rest line behind (so_far rows spelled text_is) cut in
-      none first.0 (back first.0 first.5 (ap parts first.3 ∙ parts_of_line first.0 first.5))
+  none_read none rows spelled text_is = grind (arith, first_line, parts_of_line)
 
 -- behind the last line nothing is left
 pub all_read : (text : List ℕ) (done : List Row) (rest : List ℕ) → IsReadSoFar text done rest → parts_at 10 rest ≡ rest ∷ []

@@ -32,11 +32,7 @@ ran_spelled (p ∷ table) [] h g = tt
 ran_spelled (p ∷ table) (k ∷ places) h g = ((h.0.0, h.0.1, g.0), ran_spelled table places h.1 g.1)
 
 first_spelled : (c : Carried) → IsState c → IsSpelled (first_said c)
-first_spelled c state =
-    let early = state.early in
-    let few = state.processors.1 in
-    let short = state.frame.1 in
-    (omega arith, omega (arith, early), omega (arith, few), omega (arith, short))
+first_spelled c state = grind arith
 
 -- so the state can be read
 pub writable : (c : Carried) → IsState c → AllByRecursion (λ m. AreSpelled (member_said m)) c.members → AllByRecursion IsSpelledQuantum c.table → IsWritable c

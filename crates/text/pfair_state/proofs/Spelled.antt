@@ -37,10 +37,7 @@ slot_is_plain (Some t) h = is_plain-decimal t h
 
 pub plain_fields : (row : Row) → IsSpelled row → list_all is_plain (fields_of row) ≡ true
 plain_fields (First f) h = grind (arith, is_plain-decimal)
-plain_fields (Member m) h =
-    let weight = h.1 in
-    let freed_at = slot_is_plain m.freed_at h.4 in
-    grind (arith, is_plain-decimal, is_plain-name, truth_is_plain)
+plain_fields (Member m) h = grind (arith, slot_is_plain, is_plain-decimal, is_plain-name, truth_is_plain)
 plain_fields (Late l) h = grind (arith, is_plain-decimal, is_plain-name)
 plain_fields (Ran p place) h = grind (arith, is_plain-decimal, is_plain-name)
 plain_fields (End rows) h = grind (arith, is_plain-decimal)
@@ -88,11 +85,7 @@ pub ruleset whole_fields = (decimal_injective, whole, dash_is_no_number, no_weig
 -- numbers and a truth of equal texts are equal
 pub same_member : (a b : MemberRow) → a.name ≡ b.name → a.weight ≡ b.weight → truth a.early ≡ truth b.early → decimal a.joined ≡ decimal b.joined → decimal a.next ≡ decimal b.next → a.freed_at ≡ b.freed_at
     → a.joined < 2 ^ 64 → b.joined < 2 ^ 64 → a.next < 2 ^ 64 → b.next < 2 ^ 64 → a ≡ b
-same_member a b name weight early joined next freed_at a_joined b_joined a_next b_next =
-    let e = truth_injective a.early b.early early in
-    let j = decimal_injective a.joined b.joined a_joined b_joined joined in
-    let n = decimal_injective a.next b.next a_next b_next next in
-    λ i. record { name = name i; weight = weight i; early = e i; joined = j i; next = n i; freed_at = freed_at i }
+same_member a b name weight early joined next freed_at a_joined b_joined a_next b_next = grind (arith, truth_injective, decimal_injective, joined)
 
 -- ---- lines
 

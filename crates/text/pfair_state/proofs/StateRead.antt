@@ -1,6 +1,6 @@
 -- The state of rows, from the first to the end.
 use Rattle.std.proofs.Common.{MatchResult}
-use Rattle.pfair_state.proofs.Common.{flat_map, length-append, length-drop, Member, Roster, AreLeftAt, Carried, Table, IsBehindMembers, IsWritable, first_of, member_said, as_quantum, ran_said, said_before_end, said_of, Row, First, End, ℕ, ◌+◌, ◌<◌, ◌≤◌, ◌≡◌, refl, sym, ap, subst, ◌∙◌, arith, List, [], ◌∷◌, ◌++◌, Option, Some, None, Result, Err, length, min, drop, slice_get, append_assoc, Machine, ArePlacesOf, IsFit}
+use Rattle.pfair_state.proofs.Common.{flat_map, length-append, length-drop, Member, Roster, AreLeftAt, Carried, Table, IsBehindMembers, IsWritable, first_of, member_said, as_quantum, ran_said, said_before_end, said_of, Row, First, End, ℕ, ◌+◌, ◌<◌, ◌≤◌, ◌≡◌, refl, sym, ap, subst, ◌∙◌, arith, List, [], ◌∷◌, ◌++◌, Option, Some, None, Result, Err, length, min, drop, slice_get, append_assoc, ArePlacesOf, IsFit}
 use Rattle.pfair_state.specs.declared.fault.ReadFault.{ReadFault}
 use Rattle.pfair_state.specs.declared.fault.ReadFault.TheVariants.{Memory}
 use Rattle.pfair_state.specs.declared.rows.FirstRow.{FirstRow}
@@ -39,13 +39,7 @@ module _ (rows : List Row) (c : Carried) (is : rows ≡ said_of c) where
 
   -- the last row is the only one behind the others
   pub ends : (end : ℕ) → drop end rows ≡ last_of c → length rows < 18446744073709551616 → (slice_get rows end ≡ Some (End (length rows))) × (length rows ≡ end + 1)
-  ends end there few =
-      let first = first_at rows end (End (count_of c)) [] there in
-      let long = ap length is ∙ length-append (said_before_end c) (last_of c) in
-      let count : count_of c ≡ length rows = omega (arith, long, few) in
-      let past : length rows ≤ end + 1 = none_left rows (end + 1) first.1 in
-      let inside = first.2 in
-      (first.0 ∙ ap (λ n. Some (End n)) count, omega (arith, past, inside))
+  ends end there few = grind (arith, first_at, length-append, none_left)
     where
       none_left : (xs : List Row) (n : ℕ) → drop n xs ≡ [] → length xs ≤ n
       none_left xs n nothing = (let same = ap length nothing in let short = length-drop n xs in omega (arith, same, short))
@@ -65,10 +59,7 @@ module _ (rows : List Row) (first : FirstRow) (there : slice_get rows 0 ≡ Some
 
   -- then its members can be restored
   pub by_members : {P : List Member → List Row → Type 0} → ((all : List Member) (behind : List Row) → roster.members ≡ [] → AreLeftAt first.slot roster.machine all → drop 1 rows ≡ flat_map member_said all ++ behind → IsBehindMembers behind → P all behind) → P c.members (behind_members c)
-  by_members back =
-      back c.members (behind_members c) (ap (λ (r : Roster). r.members) made)
-      (subst (λ (m : Machine). AreLeftAt first.slot m c.members) (sym machine_is) (subst (λ slot. AreLeftAt slot c.machine c.members) (sym slot_is) can.state.members))
-      (members_there rows c is) (ends_members c)
+  by_members back = grind (arith, machine_is, slot_is, members_there, ends_members)
 
   module _ (at : ℕ) (now : Roster) (read : (drop at rows ≡ behind_members c) × (now ≡ record roster { members = c.members })) (state : Carried) (begun : state ≡ record { slot = first.slot; machine = now.machine; members = now.members; table = []; places = [] }) where
     state_machine : state.machine ≡ c.machine
@@ -77,18 +68,11 @@ module _ (rows : List Row) (first : FirstRow) (there : slice_get rows 0 ≡ Some
     -- then its quanta can be added
     pub by_quanta : {P : Table → List ℕ → List Row → Type 0} → ((table : Table) (places : List ℕ) (behind : List Row) → (state.table ≡ []) × (state.places ≡ []) → IsFit state.machine.processors table → ArePlacesOf state.machine.processors table places → drop at rows ≡ ran_said table places ++ behind → as_quantum (slice_get behind 0) ≡ None → P table places behind)
         → P c.table c.places (last_of c)
-    by_quanta back =
-        let processors : c.machine.processors ≡ state.machine.processors = ap (λ (m : Machine). m.processors) (sym state_machine) in
-        back c.table c.places (last_of c) (ap (λ (s : Carried). s.table) begun, ap (λ (s : Carried). s.places) begun)
-        (subst (λ m. IsFit m c.table) processors can.state.rows) (subst (λ m. ArePlacesOf m c.table c.places) processors can.state.places) read.0 refl
+    by_quanta back = grind (arith, state_machine)
 
     -- and all of it is the state
     pub whole : (after : Carried) → after ≡ record state { table = c.table; places = c.places } → after ≡ c
-    whole after grown =
-        let members = ap (λ (s : Carried). s.members) begun ∙ ap (λ (r : Roster). r.members) read.1 in
-        let slot = ap (λ (s : Carried). s.slot) begun ∙ slot_is in
-        let m = state_machine in
-        grown ∙ (λ i. record { slot = slot i; machine = m i; members = members i; table = c.table; places = c.places })
+    whole after grown = grind (arith, slot_is, state_machine)
 
 -- if an allocation fails
 pub memory : {A : Type 0} (P : A → Type 0) (r : Result A ReadFault) (f : ReadFault) → r ≡ Err f → f ≡ Memory → MatchResult r P (λ fault. fault ≡ Memory)
