@@ -1,6 +1,6 @@
 -- What boundaries make of members.
-use Rattle.std.proofs.Common.{◌≡◌, ℕ, ◌%◌, ◌<◌, ◌≤◌, Bool, true, false, List, [], ◌∷◌, ◌++◌, Option, Some, None, arith, ap, refl, sym, ◌∙◌, subst, inl, inr, ⊎_elim, ◌⊎◌, not, is_some, if◌then◌else◌}
-use Rattle.pfair_in_time.proofs.Common.{true≢false, false≢true, cases_lt, cases_Bool, or_parts, ltb-false, leb-true, not_from_false, same_Some, NamesApart, Share, IsWeight, release_of, name_exact, Among, among_left, among_append, among_filter, filter_among, among_map, map_among, Member, theta, is_departing, freeing_slot, Machine, is_named, member_named, departure, late_release, decision, newcomer, with_freeing, with_delay, change, effect, is_freed, present, decided, all_decided, boundary, Descends, IsSound, IsNew, theta_earlier, cases_eq, theta_rises, le_refl}
+use Rattle.std.proofs.Common.{◌≡◌, ◌≢◌, ◌-◌, ℕ, ◌%◌, ◌<◌, ◌≤◌, Bool, true, false, List, [], ◌∷◌, ◌++◌, Option, Some, None, arith, ap, refl, sym, ◌∙◌, subst, inl, inr, ⊎_elim, ◌⊎◌, not, is_some, if◌then◌else◌}
+use Rattle.pfair_in_time.proofs.Common.{true≢false, false≢true, cases_lt, cases_Bool, or_parts, ltb-false, leb-true, not_from_false, same_Some, NamesApart, Share, IsWeight, release_of, name_exact, Among, among_left, among_append, among_filter, filter_among, among_map, map_among, Member, theta, is_departing, busy_until, freeing_slot, Machine, is_named, member_named, departure, late_release, decision, newcomer, with_freeing, with_delay, change, effect, is_freed, present, decided, all_decided, boundary, Descends, IsSound, IsNew, theta_earlier, cases_eq, theta_rises, le_refl}
 use Rattle.pfair_entry.specs.declared.entry.Announcement.{Announcement}
 use Rattle.pfair_entry.specs.Entry.{IsWeighed}
 use Rattle.pfair_admission.specs.declared.decision.Decision.TheVariants.{Departing, Delayed}
@@ -8,9 +8,10 @@ use Rattle.pfair_admission.proofs.Effects.{by_effect}
 use Rattle.pfair_admission.proofs.NamesKept.{apart_effect, apart_present}
 use Rattle.pfair_table.proofs.FirstSubtasks.{found_own}
 use Rattle.pfair_in_time.specs.Laws.{AllSound, AllHaveWeights, IsFreed, BoundariesKeepMembers}
-use Rattle.pfair_admission.proofs.Keeping.{admitted_in_frame, freed_from_claim, theta_later}
+use Rattle.pfair_admission.proofs.Keeping.{admitted_in_frame, theta_later}
 use Rattle.pfair_weight.specs.WindowFacts.{of_released, released}
 use Rattle.std.proofs.lemmas.Nat.{mul-le}
+use Rattle.std.proofs.lemmas.Bool.Decides.{nat_tests}
 
 -- ---- one member
 
@@ -23,6 +24,10 @@ descends_on t l m n a b = grind arith
 -- the departure of one that isn't departing
 freeing_descends : (t : ℕ) (m : Member) → is_departing m ≡ false → (slot : ℕ) → Descends t m (with_freeing slot m)
 freeing_descends t m active slot = record { name = refl; weight = refl; early = refl; joined = refl; next = refl; rises = λ i. omega arith; stays = λ i _. refl; departing = λ d. absurd (true≢false (sym d ∙ active)) }
+
+-- a claim ends before its member is freed
+freed_from_claim : (m : Member) (t : ℕ) → m.next ≢ 1 → busy_until m (m.next - 1) ≤ freeing_slot m t
+freed_from_claim m t ran = grind (arith, nat_tests)
 
 freeing_sound : (frame t : ℕ) (m : Member) (slot : ℕ) → slot ≡ freeing_slot m t → IsSound frame m → IsSound frame (with_freeing slot m)
 freeing_sound frame t m slot is s = grind (arith, cases_eq, freed_from_claim, same_Some)
