@@ -1,6 +1,6 @@
 -- A book of lags that is notified slot by slot, and its rows.
 use Rattle.pfair_c.proofs.Common.{◌≡◌, ◌+◌, ◌-◌, ℕ, zero, suc, ◌<◌, ◌≤◌, ◌++◌, ◌∷◌, [], List, length, map, take, drop, Some, refl, sym, arith, ◌∙◌, ap, append_assoc, slice_get, length-map, length-append, Book, Decided, Table, Dispatch, first_time, none-some, same_Some, rows_of, book_after, book_rows, lags_at, first_left}
-use Rattle.pfair_output.specs.Booked.{slot_booked, all_slots_booked, first_book}
+use Rattle.pfair_output.specs.Lags.{slot_booked, all_slots_booked, first_book}
 use Rattle.pfair_output.proofs.BookedFacts.{time-all_booked}
 use Rattle.pfair_c.proofs.SlotRows.{one-slot-more}
 

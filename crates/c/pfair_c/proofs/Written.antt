@@ -1,6 +1,6 @@
 -- One row more is written over the first of those that were there.
 use Rattle.pfair_c.proofs.Common.{◌≡◌, ◌∙◌, ◌+◌, ℕ, zero, suc, ◌<◌, ◌≤◌, List, [], ◌∷◌, ◌++◌, Some, map, refl, take, drop, set, slice_get, length, get_or, ap, arith, sym, get_or_from_slice_get, windows_of, first_left}
-use Rattle.pfair_weight.specs.Share.{Share}
+use Rattle.pfair_weight.specs.Window.{Share}
 use Rattle.pfair_c.specs.declared.window.PfairWindow.{PfairWindow}
 use Rattle.pfair_c.specs.Rows.{window_row}
 

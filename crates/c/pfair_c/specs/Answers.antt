@@ -1,17 +1,19 @@
 -- What the calls of the C library answer.
-use Rattle.std.specs.Prelude.{ℕ, ◌+◌, ◌≡◌, ◌≤◌, ◌⊎◌, true, false, ◌&&◌, nat_eq, nat_lt, nat_le, if◌then◌else◌, length, max, min, zero, suc, ◌<◌}
+use Rattle.std.specs.Prelude.{ℕ, ⊤, ◌≡◌, true, ◌+◌, ◌≤◌, ◌⊎◌, false, ◌&&◌, nat_eq, nat_lt, nat_le, if◌then◌else◌, length, max, min, zero, suc, ◌<◌, List, Option, Some, MatchOption}
 use Rattle.std.specs.declared.option.Option.TheVariants.{None}
+use Rattle.pfair_table.specs.Refinement.{Dispatch, course_of, IsStepOf, IsPlanFault, after_fault, plan_fault_number, next_run_fault_number}
+use Rattle.pfair_handle.specs.Kept.{Kept, is_kept}
+use Rattle.pfair_handle.specs.Behind.{Of, Between, IsAbsorbedTo, IsPartlyAbsorbedTo}
+use Rattle.pfair_c.specs.declared.answer.TheConstants.{DONE, NOT_OPEN, MEMORY, NO_ROOM, OPEN_ALREADY, OUT_OF_RANGE}
+use Rattle.std.specs.Fn.{Once}
 use Rattle.std.specs.List.{AllByRecursion}
 use Rattle.pfair_weight.specs.declared.weight.TheConstants.Weight.{MAX_PERIOD}
 use Rattle.pfair_weight.specs.declared.window.TheConstants.{MAX_OFFSET}
-use Rattle.pfair_replica.specs.ReplicaRows.{replica_of, SameShape}
-use Rattle.pfair_replica.specs.Replica.{has_torn}
+use Rattle.pfair_replica.specs.Replica.{replica_of, SameShape, has_torn}
 use Rattle.pfair_replica.specs.Faults.{IsMergeFaultOf}
 use Rattle.pfair_replica.specs.declared.answer.MergeFault.TheVariants.{Memory as OutOfMemory}
 use Rattle.pfair_admission.specs.declared.members.TheConstants.Members.{LAST_SLOT}
 use Rattle.pfair_admission.specs.Carried.{CanBeCarried}
-use Rattle.pfair_table.specs.Refinement.{Dispatch, course_of, IsStepOf, IsPlanFault, after_fault}
-use Rattle.pfair_table.specs.Faults.{plan_fault_number, next_run_fault_number}
 use Rattle.pfair_table.specs.NextRun.{IsFinished, IsNextRunFault, end_of, members_left, start_after}
 use Rattle.pfair_table.specs.declared.answer.NextRunFault.{NextRunFault}
 use Rattle.pfair_table.specs.declared.answer.Step.{Step}
@@ -22,13 +24,59 @@ use Rattle.pfair_table.specs.declared.run.Event.TheVariants.{Plan}
 use Rattle.pfair_table.specs.declared.script.TheConstants.Script.{LONGEST_LOG}
 use Rattle.pfair_table.specs.declared.settings.TheConstants.Settings.{MAX_SLOTS}
 use Rattle.pfair_table.specs.Table.{Settings}
-use Rattle.pfair_table.specs.Limits.{IsSettings}
+use Rattle.pfair_table.specs.Places.{IsSettings}
 use Rattle.pfair_table.specs.Events.{begin_at, happens, Course}
-use Rattle.pfair_handle.specs.Kept.{Kept, is_kept}
-use Rattle.pfair_handle.specs.Behind.{Of, Between, IsAbsorbedTo, IsPartlyAbsorbedTo}
-use Rattle.pfair_c.specs.declared.answer.TheConstants.{DONE, MEMORY, NO_ROOM, OPEN_ALREADY, OUT_OF_RANGE}
 use Rattle.pfair_c.specs.declared.plan.PfairStep.{PfairStep}
 use Rattle.pfair_c.specs.declared.window.TheConstants.{LAST_SUBTASK}
+use Rattle.pfair_weight.specs.Window.{Share}
+use Rattle.pfair_lag.specs.Lag.{ArePicks, IsFaultOf, pick_fault_number}
+use Rattle.pfair_lag.specs.declared.fault.PickFault.{PickFault}
+use Rattle.pfair_lag.specs.declared.fault.PickFault.TheVariants.{PicksNotRising, PickPastHorizon}
+use Rattle.pfair_lag.specs.declared.windows.Miss.{Miss}
+use Rattle.pfair_lag.specs.declared.windows.Miss.TheVariants.{Early, Tardy, Unserved}
+use Rattle.pfair_lag.specs.declared.TheConstants.{MAX_HORIZON}
+use Rattle.pfair_c.specs.declared.misses.PfairMiss.{PfairMiss}
+use denote.Ref.{Bor, MutBor}
+
+-- What an export answers, by what its handle has.
+
+-- the outputs of a call that has none
+abbrev pub nothing : ⊤
+nothing = tt
+
+-- a call reads: with no dispatcher it answers 102, and its outputs are untouched; with one, this holds of the dispatcher, the answer, and the
+-- outputs before and after. In both cases what the handle has is unchanged
+pub record Reads {A : Type 0} (before after : Kept) (answer : ℕ) (old new : A) (Says : Dispatch → ℕ → A → A → Type 0) : Type 0 where
+  pub closed : before ≡ None → (answer ≡ NOT_OPEN) × (new ≡ old)
+  pub opened : is_kept before ≡ true → Of before (λ d. Says d answer old new)
+  pub unchanged : after ≡ before
+
+-- a call changes: with no dispatcher it answers 102, none is there afterwards, and its outputs are untouched; with one it answers anything else,
+-- and this holds of the dispatcher before and after, the answer, and the outputs before and after
+pub record Changes {A : Type 0} (before after : Kept) (answer : ℕ) (old new : A) (Makes : Dispatch → Dispatch → ℕ → A → A → Type 0) : Type 0 where
+  pub closed : before ≡ None → (answer ≡ NOT_OPEN) × (after ≡ None) × (new ≡ old)
+  pub opened : is_kept before ≡ true → (answer ≡ NOT_OPEN → ⊥) × Between before after (λ d e. Makes d e answer old new)
+
+-- the call answers 0 and writes this of the dispatcher
+abbrev pub IsGiven : {A : Type 0} → (Dispatch → A) → Dispatch → (answer : ℕ) → (old new : A) → Type 0
+IsGiven f d answer old new = (answer ≡ DONE) × (new ≡ f d)
+
+-- the call answers this of the dispatcher, and if that is 0 it writes this over what stood there; else its outputs are untouched
+abbrev pub IsGivenIf : {A : Type 0} → (Dispatch → ℕ) → (Dispatch → A → A) → Dispatch → (answer : ℕ) → (old new : A) → Type 0
+IsGivenIf answered f d answer old new = (answer ≡ answered d) × (answer ≡ DONE → new ≡ f d old) × ((answer ≡ DONE → ⊥) → new ≡ old)
+
+-- f at the dispatcher d, a and b may give this answer, and leave a' and b'
+pub record GivesRows {F A B : Type 0}
+    (g : Once F (Bor Dispatch × (MutBor A × (MutBor B × Unit {0}))) (ℕ × (MutBor A × (MutBor B × Unit {0}))))
+    (f : F) (d : Dispatch) (a : A) (b : B) (answer : ℕ) (a' : A) (b' : B) : Type 0 where
+  pub shown : Bor Dispatch
+  pub shown_a : MutBor A
+  pub shown_b : MutBor B
+  pub left_a : MutBor A
+  pub left_b : MutBor B
+  pub met : g.post f (shown, (shown_a, (shown_b, tt))) (answer, (left_a, (left_b, tt)))
+  pub shows : (shown.now ≡ d) × (shown_a.now ≡ a) × (shown_b.now ≡ b)
+  pub leaves : (left_a.now ≡ a') × (left_b.now ≡ b')
 
 -- the answer of a call on the weight cost/period: 4 to 6 if there is no such weight, else this
 abbrev pub weight_answer : (cost period answer : ℕ) → ℕ
@@ -173,3 +221,34 @@ pub record IsReopened (d e : Dispatch) (answer : ℕ) : Type 0 where
   pub whole : (answer ≡ 30 → ⊥) → has_torn (replica_of d.replica) ≡ false
   pub done : answer ≡ DONE → e ≡ record d { spent = false }
   pub memory : answer ≡ MEMORY → e ≡ record d { spent = true }
+
+-- What the calls answer that look for the first subtask out of its window.
+
+-- a miss by its kind, its subtask and the slot in which that ran, or none
+abbrev pub miss_row : Option Miss → PfairMiss
+miss_row None = record { kind = 0; index = 0; slot = 0 }
+miss_row (Some (Early index slot)) = record { kind = 1; index = index; slot = slot }
+miss_row (Some (Tardy index slot)) = record { kind = 2; index = index; slot = slot }
+miss_row (Some (Unserved index)) = record { kind = 3; index = index; slot = 0 }
+
+-- the answer before the picks are read: 4 to 6 if there is no such weight, 100 if the horizon is too far, else 0
+abbrev pub asked_answer : (cost period horizon : ℕ) → ℕ
+asked_answer cost period horizon = weight_answer cost period (if nat_le horizon MAX_HORIZON then DONE else OUT_OF_RANGE)
+
+-- the place at which a list of picks is at fault
+abbrev pub fault_place : PickFault → ℕ
+fault_place (PicksNotRising at) = at
+fault_place (PickPastHorizon at) = at
+
+-- what is answered about the picks of a weight cost/period up to a horizon: that all is well, or the first miss, in the row `miss`, and then
+-- the picks rise and end before the horizon; or why the weight and the horizon are refused, or the picks, and these with the place at fault
+pub record IsMissAnswer (AllIsWell : Share → List ℕ → ℕ → Type 0) (IsFirst : Share → List ℕ → ℕ → Miss → Type 0) (cost period horizon : ℕ) (picks : List ℕ)
+    (answer : ℕ) (miss miss' : PfairMiss) (place place' : ℕ) : Type 0 where
+  pub valid : answer ≡ 0 → ArePicks picks horizon
+  pub asked : (asked_answer cost period horizon ≡ 0 → ⊥) → answer ≡ asked_answer cost period horizon
+  pub found : answer ≡ 0 → (found : Option Miss) × (miss' ≡ miss_row found)
+      × MatchOption found (AllIsWell (record { cost = cost; period = period }) picks horizon) (IsFirst (record { cost = cost; period = period }) picks horizon)
+  pub fault : asked_answer cost period horizon ≡ 0 → (answer ≡ 0 → ⊥)
+      → (f : PickFault) × (answer ≡ pick_fault_number f) × (place' ≡ fault_place f) × IsFaultOf picks horizon f
+  pub unchanged : (answer ≡ 0 → ⊥) → miss' ≡ miss
+  pub unread : (answer ≡ 40 → ⊥) → (answer ≡ 41 → ⊥) → place' ≡ place

@@ -1,9 +1,5 @@
-pub mod Answered
 pub mod Answers
 pub mod Entries
-pub mod Files
-pub mod Held
-pub mod Misses
 pub mod Rows
 pub mod RowsGiven
 pub mod State

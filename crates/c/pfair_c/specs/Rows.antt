@@ -1,10 +1,9 @@
 -- Rows, as C has them.
 use Rattle.std.specs.Prelude.{ℕ, zero, suc, ◌+◌, ◌-◌, List, [], ◌∷◌, ◌++◌, length, map, drop, replicate, Option, slice_get, unwrap_or}
-use Rattle.pfair_weight.specs.Share.{Share}
-use Rattle.pfair_weight.specs.Window.{release_of, deadline_of, b_bit_of, group_deadline_of}
-use Rattle.pfair_entry.specs.Names.{name_of}
-use Rattle.pfair_replica.specs.Key.{EntryKey}
-use Rattle.pfair_admission.specs.Refusal.{refusal_number}
+use Rattle.pfair_weight.specs.Window.{Share, release_of, deadline_of, b_bit_of, group_deadline_of}
+use Rattle.pfair_entry.specs.Entry.{name_of}
+use Rattle.pfair_replica.specs.Replica.{EntryKey}
+use Rattle.pfair_admission.specs.Admission.{refusal_number}
 use Rattle.pfair_admission.specs.declared.decision.Decision.{Decision}
 use Rattle.pfair_admission.specs.declared.decision.Decision.TheVariants.{Admitted, Departing, Delayed, Refused}
 use Rattle.pfair_table.specs.declared.slot.Pick.{Pick}

@@ -3,18 +3,15 @@ use Rattle.std.specs.Prelude.{ℕ, suc, ⊤, ◌≡◌, ◌+◌, ◌≤◌, ◌<
 use Rattle.std.specs.declared.option.Option.TheVariants.{None, Some}
 use Rattle.pfair_lattice.specs.declared.join_map.Flat.TheVariants.{One, Torn as TornContent}
 use Rattle.pfair_lattice.specs.Held.{Held}
-use Rattle.pfair_entry.specs.Entry.{Logged}
-use Rattle.pfair_entry.specs.Same.{entry_eq}
-use Rattle.pfair_replica.specs.ReplicaRows.{ReplicaRows, held, replica_of}
-use Rattle.pfair_replica.specs.Replica.{Replica}
-use Rattle.pfair_replica.specs.Offered.{has_key, taken}
+use Rattle.pfair_entry.specs.Entry.{Logged, entry_eq}
+use Rattle.pfair_replica.specs.Replica.{ReplicaRows, held, replica_of, Replica, has_key, taken}
 use Rattle.pfair_replica.specs.Faults.{IsTakeFaultOf, take_fault_number}
 use Rattle.pfair_replica.specs.declared.answer.Taken.{Taken}
 use Rattle.pfair_replica.specs.declared.answer.Taken.TheVariants.{New, Known, Torn}
 use Rattle.pfair_replica.specs.declared.answer.TakeFault.{TakeFault}
 use Rattle.pfair_table.specs.Refinement.{Dispatch}
 use Rattle.pfair_c.specs.Entries.{logged_of, IsMeant, IsEntryFault}
-use Rattle.pfair_c.specs.Held.{key_answer}
+use Rattle.pfair_c.specs.RowsGiven.{key_answer}
 use Rattle.pfair_c.specs.declared.answer.TheConstants.{DONE}
 use Rattle.pfair_c.specs.declared.entry.PfairEntry.{PfairEntry}
 use Rattle.pfair_c.specs.declared.take.PfairTakenLog.{PfairTakenLog}

@@ -1,6 +1,6 @@
 //! The decisions of several slots, in rows.
 ghost use Rattle.std.specs.Prelude.{◌≡◌, ◌≤◌, ◌<◌, length, map, min};
-ghost use Rattle.pfair_c.specs.Answered.{Reads};
+ghost use Rattle.pfair_c.specs.Answers.{Reads};
 ghost use Rattle.pfair_c.specs.Rows.{decision_row, decisions_of, written_over};
 ghost use Rattle.pfair_c.specs.RowsGiven.{AreGiven, rows_counted, decisions_between};
 

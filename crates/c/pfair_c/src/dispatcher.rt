@@ -1,11 +1,10 @@
 //! Dispatchers behind handles: opened, begun anew, joined and closed.
 ghost use Rattle.std.specs.Prelude.{◌≡◌, ◌⊎◌, ◌&&◌, None, true, false};
-ghost use Rattle.pfair_replica.specs.ReplicaRows.{SameShape};
+ghost use Rattle.pfair_replica.specs.Replica.{SameShape};
 ghost use Rattle.pfair_handle.specs.Kept.{is_kept};
 ghost use Rattle.pfair_handle.specs.Behind.{Between};
 ghost use Rattle.pfair_c.specs.declared.answer.TheConstants.{MEMORY};
-ghost use Rattle.pfair_c.specs.Answered.{Changes, nothing};
-ghost use Rattle.pfair_c.specs.Answers.{IsOpenAnswer, IsJoinedTo, IsPartlyJoinedTo, IsNextRunAnswer};
+ghost use Rattle.pfair_c.specs.Answers.{Changes, nothing, IsOpenAnswer, IsJoinedTo, IsPartlyJoinedTo, IsNextRunAnswer};
 
 use crate::answer::{DONE, NOT_OPEN, OPEN_ALREADY, OUT_OF_RANGE};
 use crate::open::{put_new, with_open};

@@ -1,6 +1,6 @@
 //! Task files, read into dispatchers.
 ghost use Rattle.std.specs.Prelude.{◌≡◌};
-ghost use Rattle.pfair_c.specs.Files.{IsReadAnswer, fault_row};
+ghost use Rattle.pfair_c.specs.State.{IsReadAnswer, fault_row};
 
 use crate::answer::{FILE_TOO_LONG, MEMORY, OPEN_ALREADY};
 use crate::open::put_new;

@@ -1,11 +1,10 @@
 //! What a dispatcher holds, and what it plans for.
 ghost use Rattle.std.specs.Prelude.{◌≡◌, ◌≤◌, ◌++◌, None, true, length, map};
-ghost use Rattle.pfair_replica.specs.ReplicaRows.{replica_of};
-ghost use Rattle.pfair_replica.specs.Replica.{Below};
+ghost use Rattle.pfair_replica.specs.Replica.{replica_of, Below};
 ghost use Rattle.pfair_handle.specs.Kept.{is_kept};
 ghost use Rattle.pfair_handle.specs.Behind.{Between};
-ghost use Rattle.pfair_c.specs.Answered.{Reads, IsGiven};
-ghost use Rattle.pfair_c.specs.Held.{IsHeldGiven, IsMarkGiven, IsMissingGiven, AreFaultsGiven, key_answer, settings_row};
+ghost use Rattle.pfair_c.specs.Answers.{Reads, IsGiven};
+ghost use Rattle.pfair_c.specs.RowsGiven.{IsHeldGiven, IsMarkGiven, IsMissingGiven, AreFaultsGiven, key_answer, settings_row};
 ghost use Rattle.pfair_c.specs.Rows.{key_row, written_over};
 
 use crate::answer::{DONE, MEMORY, NO_ROOM, NO_SUCH_NUMBER, NO_SUCH_PROCESSOR, NOT_OPEN};

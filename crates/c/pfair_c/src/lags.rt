@@ -1,6 +1,6 @@
 //! The lags in several slots, in rows.
 ghost use Rattle.std.specs.Prelude.{◌≡◌, ◌≤◌, ◌+◌, ◌++◌, length, min, IfOk, OnOk};
-ghost use Rattle.pfair_c.specs.Answered.{Reads};
+ghost use Rattle.pfair_c.specs.Answers.{Reads};
 ghost use Rattle.pfair_c.specs.RowsGiven.{AreLagsGiven, book_rows, lags_of};
 
 use crate::answer::{DONE, MEMORY, NOT_PLANNED};

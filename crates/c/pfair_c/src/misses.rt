@@ -1,10 +1,8 @@
 //! Whether the slots in which a task ran are right: its first subtask that is out of its window, or
 //! late.
 ghost use Rattle.std.specs.Prelude.{◌≡◌, ◌≤◌, IfOk, IfErr};
-ghost use Rattle.pfair_lag.specs.Picks.{InWindows, MeetsDeadlines};
-ghost use Rattle.pfair_lag.specs.Miss.{IsFirstMiss, IsFirstLate};
-ghost use Rattle.pfair_lag.specs.PickFault.{pick_fault_number};
-ghost use Rattle.pfair_c.specs.Misses.{IsMissAnswer, asked_answer, fault_place, miss_row};
+ghost use Rattle.pfair_lag.specs.Lag.{InWindows, MeetsDeadlines, IsFirstMiss, IsFirstLate, pick_fault_number};
+ghost use Rattle.pfair_c.specs.Answers.{IsMissAnswer, asked_answer, fault_place, miss_row};
 
 use crate::answer::{DONE, OUT_OF_RANGE};
 use pfair_lag::{MAX_HORIZON, Miss, PickFault, first_late, first_miss};

@@ -7,7 +7,7 @@ ghost use Rattle.std.specs.Prelude.{◌≡◌, Some, None, true, Ok, IsSomeAnd, 
 ghost use Rattle.std.specs.Fn.{FnOnceReturnsAtMut, FnOnceTakesAtMut};
 ghost use Rattle.pfair_handle.specs.Kept.{is_kept};
 ghost use Rattle.pfair_handle.specs.Behind.{Of, Between};
-ghost use Rattle.pfair_c.specs.Answered.{GivesRows};
+ghost use Rattle.pfair_c.specs.Answers.{GivesRows};
 ghost use Rattle.pfair_c.specs.RowsGiven.{are_readable};
 
 use crate::answer::{DONE, MEMORY, NO_ROOM, NOT_OPEN};

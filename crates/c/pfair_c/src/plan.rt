@@ -1,10 +1,8 @@
 //! Plans, and how far they have come.
 ghost use Rattle.std.specs.Prelude.{◌≡◌, ◌≤◌, ◌⊎◌, length, IfOk, IfErr, OnOk};
-ghost use Rattle.pfair_replica.specs.ReplicaRows.{replica_of};
-ghost use Rattle.pfair_replica.specs.Replica.{frontier};
-ghost use Rattle.pfair_table.specs.Faults.{plan_fault_number};
-ghost use Rattle.pfair_c.specs.Answered.{Reads, Changes, IsGiven, nothing};
-ghost use Rattle.pfair_c.specs.Answers.{IsPlannedOn, IsStopOf, IsStoppedBy, IsPlanAnswer, IsPlanToAnswer, IsReopened, forgetting, step_row, fault_row};
+ghost use Rattle.pfair_replica.specs.Replica.{replica_of, frontier};
+ghost use Rattle.pfair_table.specs.Refinement.{plan_fault_number};
+ghost use Rattle.pfair_c.specs.Answers.{Reads, Changes, IsGiven, nothing, IsPlannedOn, IsStopOf, IsStoppedBy, IsPlanAnswer, IsPlanToAnswer, IsReopened, forgetting, step_row, fault_row};
 
 use crate::answer::{DONE, MEMORY, NOT_OPEN, OUT_OF_RANGE};
 use crate::open::with_open;

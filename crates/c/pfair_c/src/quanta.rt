@@ -1,6 +1,6 @@
 //! The quanta of several slots, in rows.
 ghost use Rattle.std.specs.Prelude.{◌≡◌, ◌≤◌, ◌<◌, length, slice_get};
-ghost use Rattle.pfair_c.specs.Answered.{Reads};
+ghost use Rattle.pfair_c.specs.Answers.{Reads};
 ghost use Rattle.pfair_c.specs.Rows.{quantum_row, quanta_in, quanta_of, written_over};
 ghost use Rattle.pfair_c.specs.RowsGiven.{AreGiven, rows_count, quanta_between};
 

@@ -3,7 +3,7 @@ ghost use Rattle.std.specs.Prelude.{◌≡◌, IfOk, OnOk};
 ghost use Rattle.pfair_c.specs.State.{IsResumeAnswer, state_fault_row, began, AreBytesGiven};
 ghost use Rattle.pfair_state.specs.Reading.{IsWritable};
 ghost use Rattle.pfair_state.specs.Rows.{state_text};
-ghost use Rattle.pfair_c.specs.Answered.{Reads};
+ghost use Rattle.pfair_c.specs.Answers.{Reads};
 
 use crate::answer::{FILE_TOO_LONG, MEMORY, OPEN_ALREADY, OUT_OF_RANGE, PAST_LAST_SLOT};
 use crate::open::{give_rows, lay_rows, put_new};

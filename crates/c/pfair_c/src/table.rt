@@ -1,6 +1,6 @@
 //! The table of a slot, and its places, in rows.
 ghost use Rattle.std.specs.Prelude.{◌≡◌, ◌≤◌, length, map};
-ghost use Rattle.pfair_c.specs.Answered.{Reads};
+ghost use Rattle.pfair_c.specs.Answers.{Reads};
 ghost use Rattle.pfair_c.specs.Rows.{pick_row, written_over};
 ghost use Rattle.pfair_c.specs.RowsGiven.{AreGiven, rows_count, table_of, places_at};
 

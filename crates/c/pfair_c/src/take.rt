@@ -1,8 +1,7 @@
 //! Entries, one or several of a log at once.
 ghost use Rattle.std.specs.Prelude.{◌≡◌, ◌≤◌, ◌<◌, ◌+◌, true, IfOk, IfErr, OnOk, OnErr};
-ghost use Rattle.pfair_replica.specs.ReplicaRows.{held, replica_of};
-ghost use Rattle.pfair_replica.specs.Offered.{has_key, taken as offered_to};
-ghost use Rattle.pfair_c.specs.Answered.{Changes};
+ghost use Rattle.pfair_replica.specs.Replica.{held, replica_of, has_key, taken as offered_to};
+ghost use Rattle.pfair_c.specs.Answers.{Changes};
 ghost use Rattle.pfair_c.specs.Entries.{logged_of, IsMeant};
 ghost use Rattle.pfair_c.specs.Taking.{met, one_more, IsRefusal, IsTakeAnswer, IsTakeLogAnswer};
 

@@ -1,8 +1,7 @@
 -- What holds of the dispatchers behind handles.
 use Rattle.std.specs.Prelude.{◌≡◌}
 use Rattle.std.specs.declared.option.Option.TheVariants.{None, Some}
-use Rattle.pfair_replica.specs.ReplicaRows.{replica_of}
-use Rattle.pfair_replica.specs.Offered.{absorbed}
+use Rattle.pfair_replica.specs.Replica.{replica_of, absorbed}
 use Rattle.pfair_replica.specs.Faults.{IsPartlyMerged}
 use Rattle.pfair_table.specs.Refinement.{Dispatch}
 use Rattle.pfair_handle.specs.Kept.{Kept}

@@ -4,8 +4,7 @@
 #![tactic(auto)]
 
 ghost use Rattle.std.specs.Prelude.{◌≡◌, true, false, None, Some, IfErr, OnOk, OnErr, Err};
-ghost use Rattle.pfair_replica.specs.ReplicaRows.{replica_of, SameShape};
-ghost use Rattle.pfair_replica.specs.Replica.{Below};
+ghost use Rattle.pfair_replica.specs.Replica.{replica_of, SameShape, Below};
 ghost use Rattle.pfair_replica.specs.Faults.{IsMergeFaultOf};
 ghost use Rattle.pfair_handle.specs.Kept.{is_kept};
 ghost use Rattle.pfair_handle.specs.Behind.{Between, IsAbsorbedTo, IsPartlyAbsorbedTo};

@@ -3,7 +3,7 @@ use Rattle.std.proofs.Common.{filter}
 use Rattle.pfair_admission.proofs.Common.{values_of, set_value_at, option_map, Depart, Late, Decision, Member, change, effect, present, running, ran, quantum_of, seatless, Roster, is_there, IsOnly, Numbered, ◌≡◌, ℕ, Bool, true, List, Option, Some, Result, IfOk, OnErr, refl, sym, ap, ◌∙◌, arith, if◌then◌else◌}
 use Rattle.std.specs.Option.{is_some}
 use Rattle.pfair_admission.specs.declared.members.Quantum.{Quantum}
-use Rattle.pfair_admission.specs.Change.{after_departure, after_late_release, after_quantum}
+use Rattle.pfair_admission.specs.Admission.{after_departure, after_late_release, after_quantum}
 use Rattle.pfair_admission.proofs.Written.{filter_again, filter_all, only_written, same_written, values_written}
 
 -- those that count, where the named one, m, has become n: they stay where it stays, and change as it does

@@ -1,16 +1,12 @@
 -- The names that many of these proofs cite, passed on from one place. Declares nothing.
 pub use Rattle.indexmap.proofs.CallerLemmas.{filter-RetainsPairs, insert_entry-new}
 pub use Rattle.indexmap.specs.IndexMap.{insert_entry, set_value_at, with_value_at}
-pub use Rattle.pfair_admission.specs.Admission.{Machine, all_decided, all_decisions, announcements, arrival, boundary, boundary_decisions, change, claimed, decided, decision, departure, effect, is_freed, is_named, late_release, member_named, newcomer, present, quantum_of, ran, running, seatless, with_delay, with_freeing, with_quantum}
-pub use Rattle.pfair_admission.specs.Carried.{CanBeCarried, all_raised, as_one, carried, carried_delays, coming_delays, delays_from, jobs_done, lowered, passed_delays, raised, subtasks_done, subtasks_of, taken_off}
+pub use Rattle.pfair_admission.specs.Admission.{Machine, all_decided, all_decisions, announcements, arrival, boundary, boundary_decisions, change, claimed, decided, decision, departure, effect, is_freed, is_named, late_release, member_named, newcomer, present, quantum_of, ran, running, seatless, with_delay, with_freeing, with_quantum, Membership, IsNotBefore, NoneFreed, NoneFreedBefore, earlier_of, EachBounded, EachHasRoom, IsCutShort, Roster, after_boundary}
+pub use Rattle.pfair_admission.specs.Carried.{CanBeCarried, all_raised, as_one, carried, carried_delays, coming_delays, delays_from, jobs_done, lowered, passed_delays, raised, subtasks_done, subtasks_of, taken_off, CanBeRestored, IsLeftAt, is_left_at, is_summed_up, member_in}
 pub use Rattle.pfair_admission.specs.Incarnation.{IsIncarnation, StandsAtNext, member_of, own_delay}
 pub use Rattle.pfair_admission.specs.Laws.{AreInFrame, HaveRoom}
 pub use Rattle.pfair_admission.specs.Ledger.{IsDecided, IsFound, IsLedger, IsNamedIn, IsNumberOf, IsOnly, IsPlace, IsRegister, IsUnswept, CanJoin, Numbered, after_all, decisions_on, has_number, is_there, listed, membership, whole}
 pub use Rattle.pfair_admission.specs.Member.{IsMember, Member, busy_until, eligible_from, freeing_slot, is_delayed_at, is_departing, lag_at, last_offset, next_key, theta}
-pub use Rattle.pfair_admission.specs.Membership.{Membership}
-pub use Rattle.pfair_admission.specs.Removal.{IsNotBefore, NoneFreed, NoneFreedBefore, earlier_of}
-pub use Rattle.pfair_admission.specs.Restored.{CanBeRestored, IsLeftAt, is_left_at, is_summed_up, member_in}
-pub use Rattle.pfair_admission.specs.Roster.{EachBounded, EachHasRoom, IsCutShort, Roster, after_boundary}
 pub use Rattle.pfair_admission.specs.declared.decision.Decision.{Decision}
 pub use Rattle.pfair_admission.specs.declared.decision.Decision.TheVariants.{Admitted, Delayed, Departing, Refused}
 pub use Rattle.pfair_admission.specs.declared.decision.Refusal.{Refusal}
@@ -24,11 +20,9 @@ pub use Rattle.pfair_entry.specs.declared.entry.Announcement.TheVariants.{Arrive
 pub use Rattle.pfair_entry.specs.declared.entry.Said.{Said}
 pub use Rattle.pfair_entry.specs.declared.entry.TheConstants.Entry.{LAST_INDEX, LONGEST_DELAY}
 pub use Rattle.pfair_weight.proofs.NamesApart.{apart_head, apart_push, apart_tail}
-pub use Rattle.pfair_weight.specs.JobFacts.{starts_job_repeats}
+pub use Rattle.pfair_weight.specs.WindowFacts.{starts_job_repeats}
 pub use Rattle.pfair_weight.specs.Name.{NameValue, NamesApart, name_eq}
-pub use Rattle.pfair_weight.specs.Position.{Position}
-pub use Rattle.pfair_weight.specs.Share.{IsWeight, Share, units_of}
-pub use Rattle.pfair_weight.specs.Window.{release_of}
+pub use Rattle.pfair_weight.specs.Window.{Position, IsWeight, Share, units_of, release_of}
 pub use Rattle.pfair_weight.specs.declared.window.TheConstants.{MAX_INDEX, MAX_OFFSET}
 pub use Rattle.std.proofs.Common.{arith, ◌≡◌, ap, ◌∙◌, sym, ◌+◌, ℕ, List, [], ◌∷◌, ◌≤◌, Some, refl, true, ◌++◌, cond, subst, ◌<◌, Bool, false, None, ◌*◌, map, length, take, ◌-◌, Option, not, get_or, slice_get, if◌then◌else◌, nat_eq, rules, Result, Ok, Err, OnOk, suc, IfOk, OnErr, zero, ◌%◌, length-append, IfSome, ◌≢◌}
 pub use Rattle.std.proofs.Math.Bool.{or-true}

@@ -1,7 +1,7 @@
 -- What is left when an announcement is decided.
 use Rattle.pfair_admission.proofs.Common.{Refused, Announcement, decision, filter-append, sum_by_push, cases_lt, nat_tests, same_Some, Share, units_of, MAX_OFFSET, Arrive, Late, Decision, Admitted, LONGEST_DELAY, MAX_PROCESSORS, MAX_FRAME, Member, last_offset, Machine, member_named, claimed, arrival, late_release, newcomer, effect, present, decided, NoneFreed, EachHasRoom, IsDecided, Membership, ◌≡◌, ℕ, ◌+◌, ◌*◌, ◌≤◌, Bool, List, [], ◌∷◌, ◌++◌, Option, Some, None, Result, Ok, Err, IfOk, OnOk, OnErr, ap, arith}
 use Rattle.pfair_admission.specs.declared.decision.Refusal.TheVariants.{NoSuchTask}
-use Rattle.pfair_weight.specs.Options.{nothing}
+use Rattle.pfair_weight.specs.Window.{nothing}
 use Rattle.pfair_admission.proofs.MemberLists.{present_all}
 use Rattle.pfair_admission.proofs.Written.{filter_again}
 

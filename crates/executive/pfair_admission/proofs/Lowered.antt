@@ -2,8 +2,7 @@
 use Rattle.std.proofs.Common.{nat_le}
 use Rattle.pfair_admission.proofs.Common.{cases_lt, nat_tests, IsWeight, Delay, Member, theta, busy_until, freeing_slot, is_delayed_at, eligible_from, next_key, jobs_done, subtasks_done, carried_delays, ◌≡◌, ℕ, ◌+◌, ◌-◌, ◌*◌, ◌≤◌, List, sym, arith, release_of, starts_job_repeats}
 use Rattle.pfair_weight.specs.Window.{deadline_of, b_bit_of, group_deadline_of}
-use Rattle.pfair_weight.specs.GroupFacts.{by_kind, group_deadline_light, group_deadline_whole, group_deadline_heavy}
-use Rattle.pfair_weight.specs.JobFacts.{release_repeats, deadline_repeats, b_bit_repeats, group_deadline_repeats, starts_after_jobs}
+use Rattle.pfair_weight.specs.WindowFacts.{by_kind, group_deadline_light, group_deadline_whole, group_deadline_heavy, release_repeats, deadline_repeats, b_bit_repeats, group_deadline_repeats, starts_after_jobs}
 use Rattle.pfair_admission.proofs.CarriedAgain.{done_low}
 use Rattle.pfair_admission.proofs.Carrying.{any_from, part_from}
 use Rattle.pfair_admission.proofs.Keeping.{freed_never_ran}

@@ -1,7 +1,7 @@
 -- Boundaries and quanta keep the names of members apart.
 use Rattle.pfair_admission.proofs.Common.{AllByRecursion, NamesApart, Announcement, Member, Machine, member_named, newcomer, change, with_freeing, with_delay, with_quantum, effect, is_freed, present, decision, boundary, ran, ◌≡◌, ℕ, false, List, [], ◌∷◌, None, refl, sym, ap, ◌∙◌, arith, not, nat_list_eq_equiv, apart_push}
 use Rattle.pfair_weight.proofs.NamesApart.{apart_filter, apart_map}
-use Rattle.pfair_entry.specs.Same.{name_eq}
+use Rattle.pfair_entry.specs.Entry.{name_eq}
 use Rattle.pfair_admission.proofs.Deciding.{admitted_new}
 use Rattle.pfair_admission.proofs.Effects.{by_boundary, by_effect}
 

@@ -1,6 +1,6 @@
 -- The members that a run begins with, restored one behind the other.
 use Rattle.pfair_admission.proofs.Common.{AllByRecursion, all_by_recursion_push, nat_tests, sum_by-append, sum_by-cons, sum_by_push, NamesApart, IsWeight, Share, units_of, Admitted, Member, arrival, claimed, member_named, Machine, carried, CanBeCarried, IsNotBefore, CanBeRestored, IsLeftAt, ◌≡◌, ℕ, ◌+◌, ◌*◌, ◌%◌, ◌<◌, ◌≤◌, false, cond, List, [], ◌∷◌, ◌++◌, map, None, Some, refl, sym, ap, ◌∙◌, arith, nat_list_eq_equiv, apart_head, apart_push, apart_tail, AreInFrame, HaveRoom}
-use Rattle.pfair_entry.specs.Same.{name_eq}
+use Rattle.pfair_entry.specs.Entry.{name_eq}
 use Rattle.pfair_admission.proofs.CarriedAgain.{able_again, carried_again, done_low}
 use Rattle.pfair_admission.proofs.Deciding.{admitted_new, admitted_room}
 use Rattle.pfair_admission.proofs.Each.{each}

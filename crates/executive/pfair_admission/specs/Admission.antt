@@ -1,8 +1,7 @@
 -- Who is a member, and what is decided at the boundary of a slot.
-use Rattle.std.specs.Prelude.{ℕ, ◌||◌, ◌+◌, ◌*◌, ◌%◌, Bool, false, not, nat_lt, nat_le, ◌==◌, List, [], ◌∷◌, ◌++◌, map, filter, find, sum_by, Option, Some, None, is_some, if◌then◌else◌}
-use Rattle.pfair_weight.specs.Share.{Share, units_of}
-use Rattle.pfair_weight.specs.Window.{release_of}
-use Rattle.pfair_entry.specs.Same.{name_eq}
+use Rattle.std.specs.Prelude.{ℕ, ◌||◌, ◌+◌, ◌*◌, ◌%◌, Bool, false, not, nat_lt, nat_le, ◌==◌, List, [], ◌∷◌, ◌++◌, map, filter, find, sum_by, Option, Some, None, is_some, if◌then◌else◌, min, ◌≡◌, ◌≤◌, ⊤, length, take}
+use Rattle.pfair_weight.specs.Window.{Share, units_of, release_of}
+use Rattle.pfair_entry.specs.Entry.{name_eq}
 use Rattle.pfair_entry.specs.declared.entry.Announcement.{Announcement}
 use Rattle.pfair_entry.specs.declared.entry.Announcement.TheVariants.{Arrive, Depart, Late}
 use Rattle.pfair_entry.specs.declared.entry.Said.{Said}
@@ -10,7 +9,12 @@ use Rattle.pfair_admission.specs.declared.decision.Decision.{Decision}
 use Rattle.pfair_admission.specs.declared.decision.Decision.TheVariants.{Admitted, Departing, Delayed, Refused}
 use Rattle.pfair_admission.specs.declared.members.Quantum.{Quantum}
 use Rattle.pfair_admission.specs.declared.decision.Refusal.TheVariants.{NameTaken, PeriodOutsideFrame, NoRoom, NoSuchTask, AlreadyDeparting, AlreadyReleased}
-use Rattle.pfair_admission.specs.Member.{Member, theta, is_departing, freeing_slot, eligible_from, next_key}
+use Rattle.pfair_admission.specs.Member.{Member, theta, is_departing, freeing_slot, eligible_from, next_key, last_offset}
+use Rattle.std.specs.List.{AllByRecursion}
+use Rattle.pfair_weight.specs.declared.window.TheConstants.{MAX_OFFSET}
+use Rattle.pfair_entry.specs.declared.entry.TheConstants.Entry.{LONGEST_DELAY}
+use Rattle.pfair_admission.specs.declared.members.TheConstants.Members.{LAST_SLOT}
+use Rattle.pfair_admission.specs.declared.decision.Refusal.{Refusal}
 
 -- the processors, and the slots of a frame, that weights are shares of
 pub record Machine : Type 0 where
@@ -130,3 +134,87 @@ quantum_of m = record { index = m.next; seat = 0; next_from = eligible_from m (m
 -- the members after the named one has had a quantum
 abbrev pub ran : List ℕ → List Member → List Member
 ran name members = change name with_quantum members
+
+-- The members, with the machine that they share.
+
+pub record Membership : Type 0 where
+  pub machine : Machine
+  pub members : List Member
+
+-- A member after what is decided on it.
+
+-- after the decision on its departure
+abbrev pub after_departure : Decision → Member → Member
+after_departure (Departing slot) m = with_freeing slot m
+after_departure _ m = m
+
+-- after the decision on its late release
+abbrev pub after_late_release : ℕ → ℕ → Decision → Member → Member
+after_late_release index by Delayed m = with_delay index by m
+after_late_release index by _ m = m
+
+-- after a slot in which it is to have a quantum
+abbrev pub after_quantum : Member → Member
+after_quantum m = if is_departing m then m else with_quantum m
+
+-- Members that go, and when the first of them goes.
+
+-- the earlier of two slots, if there are any
+abbrev pub earlier_of : Option ℕ → Option ℕ → Option ℕ
+earlier_of None right = right
+earlier_of (Some a) None = Some a
+earlier_of (Some a) (Some b) = Some (min a b)
+
+-- no freeing slot is before the first
+abbrev pub IsNotBefore : Option ℕ → Option ℕ → Type 0
+IsNotBefore first None = ⊤
+IsNotBefore None (Some slot) = ⊥
+IsNotBefore (Some first) (Some slot) = first ≤ slot
+
+-- no member is freed before the first freeing slot, and none at all if there is none
+abbrev pub NoneFreedBefore : Option ℕ → List Member → Type 0
+NoneFreedBefore first members = AllByRecursion (λ m. IsNotBefore first m.freed_at) members
+
+-- who is freed at slot t is gone
+abbrev pub NoneFreed : ℕ → List Member → Type 0
+NoneFreed t members = AllByRecursion (λ m. is_freed t m.freed_at ≡ false) members
+
+-- What a contract sees of the members.
+
+pub record Roster : Type 0 where
+  pub machine : Machine
+  pub members : List Member  -- in the order of admission
+  pub heard : ℕ  -- how many announcements, over all boundaries
+  pub last_slot : Option ℕ  -- of the last boundary
+
+-- the boundary of slot t: who is freed is gone, the announcements are decided one by one, and all count as heard
+abbrev pub after_boundary : ℕ → List Said → Roster → Roster
+after_boundary t announced r = record {
+  machine = r.machine;
+  members = boundary r.machine t r.members (announcements announced);
+  heard = r.heard + length announced;
+  last_slot = Some t;
+}
+
+-- the same of a boundary that an allocation failed in: only some beginning of the announcements is decided
+abbrev pub IsCutShort : ℕ → List Said → Roster → Roster → Type 0
+IsCutShort t announced old new =
+    (k : ℕ) × (new ≡ record (after_boundary t announced old) { members = boundary old.machine t old.members (take k (announcements announced)) })
+
+-- after so many announcements no member's offsets are past what as many of the longest delays make of the last slot
+abbrev pub EachBounded : ℕ → List Member → Type 0
+EachBounded heard members = AllByRecursion (λ m. last_offset m ≤ LAST_SLOT + LONGEST_DELAY * heard) members
+
+-- each member has room for one delay more
+abbrev pub EachHasRoom : List Member → Type 0
+EachHasRoom members = AllByRecursion (λ m. last_offset m + LONGEST_DELAY ≤ MAX_OFFSET) members
+
+-- Under which number each refusal is reported.
+
+abbrev pub refusal_number : Refusal → ℕ
+refusal_number NameTaken = 20
+refusal_number PeriodOutsideFrame = 21
+refusal_number NoRoom = 22
+refusal_number NoSuchTask = 23
+refusal_number AlreadyDeparting = 24
+refusal_number AlreadyReleased = 25

@@ -4,7 +4,7 @@ use Rattle.std.specs.List.{list_any}
 use Rattle.std.specs.Ordering.{nat_cmp}
 use Rattle.std.specs.BTreeMap as map
 use Rattle.std.specs.BTreeMap.{BTreeMap}
-use Rattle.pfair_weight.specs.Position.{Position}
+use Rattle.pfair_weight.specs.Window.{Position}
 use Rattle.pfair_admission.specs.declared.delay.Delay.{Delay}
 use Rattle.pfair_admission.specs.Member.{Member, IsMember, theta, is_delayed_at}
 use Rattle.pfair_admission.specs.declared.incarnation.Incarnation.TheInside.{Inside}

@@ -2,16 +2,13 @@
 use Rattle.std.specs.Prelude.{ℕ, ◌≡◌, ◌≢◌, ◌+◌, ◌-◌, ◌*◌, ◌%◌, ◌<◌, ◌≤◌, true, false, List, [], ◌∷◌, ◌++◌, length, map, AllPairs, Some}
 use Rattle.std.specs.List.{AllByRecursion}
 use Rattle.pfair_weight.specs.Name.{NamesApart}
-use Rattle.pfair_weight.specs.Share.{IsWeight}
-use Rattle.pfair_weight.specs.Window.{release_of, deadline_of, b_bit_of, group_deadline_of, starts_job_of}
+use Rattle.pfair_weight.specs.Window.{IsWeight, release_of, deadline_of, b_bit_of, group_deadline_of, starts_job_of}
 use Rattle.pfair_entry.specs.declared.entry.Announcement.{Announcement}
 use Rattle.pfair_admission.specs.declared.decision.Decision.TheVariants.{Refused}
 use Rattle.pfair_admission.specs.declared.decision.Refusal.{Refusal}
 use Rattle.pfair_admission.specs.Member.{Member, theta, busy_until, freeing_slot, is_delayed_at, eligible_from, next_key}
-use Rattle.pfair_admission.specs.Admission.{Machine, claimed, with_delay, decision, decided, boundary, boundary_decisions, ran}
-use Rattle.pfair_admission.specs.Carried.{carried, jobs_done, subtasks_done, CanBeCarried}
-use Rattle.pfair_admission.specs.Removal.{IsNotBefore, NoneFreed}
-use Rattle.pfair_admission.specs.Restored.{CanBeRestored, IsLeftAt}
+use Rattle.pfair_admission.specs.Admission.{Machine, claimed, with_delay, decision, decided, boundary, boundary_decisions, ran, IsNotBefore, NoneFreed}
+use Rattle.pfair_admission.specs.Carried.{carried, jobs_done, subtasks_done, CanBeCarried, CanBeRestored, IsLeftAt}
 
 -- a name stands once among the members
 pub record NamesStayApart : Type 0 where

@@ -1,18 +1,17 @@
 -- What the ledger of members keeps.
-use Rattle.std.specs.Prelude.{ℕ, ◌≡◌, ◌≤◌, ◌<◌, ◌+◌, ◌-◌, ◌*◌, ◌^◌, Bool, true, not, nat_eq, List, filter, slice_get, Option, Some, None, is_some, Result, IfOk, OnOk, OnErr}
+use Rattle.std.specs.Prelude.{ℕ, ◌≡◌, ◌≤◌, ◌<◌, ◌+◌, ◌-◌, ◌*◌, ◌^◌, Bool, true, not, nat_eq, List, filter, slice_get, Option, Some, None, is_some, Result, IfOk, OnOk, OnErr, length}
 use Rattle.std.specs.List.{AllByRecursion, IsDistinct}
 use Rattle.std.specs.Map.{keys_of, values_of, lookup}
 use Rattle.pfair_weight.specs.Name.{NameValue, name_eq}
-use Rattle.pfair_weight.specs.Share.{Share, units_of}
+use Rattle.pfair_weight.specs.Window.{Share, units_of}
 use Rattle.pfair_entry.specs.declared.entry.Announcement.{Announcement}
 use Rattle.pfair_admission.specs.declared.decision.Decision.{Decision}
 use Rattle.pfair_admission.specs.Member.{Member}
-use Rattle.pfair_admission.specs.Admission.{all_decided, all_decisions, arrival, claimed, decided, decision, is_freed, is_named, member_named, present}
-use Rattle.pfair_admission.specs.Removal.{NoneFreedBefore}
-use Rattle.pfair_admission.specs.Roster.{EachBounded}
-use Rattle.pfair_admission.specs.Membership.{Membership}
+use Rattle.pfair_admission.specs.Admission.{all_decided, all_decisions, arrival, claimed, decided, decision, is_freed, is_named, member_named, present, NoneFreedBefore, EachBounded, Membership, Roster}
 use Rattle.pfair_admission.specs.declared.members.TheConstants.Members.{MAX_PROCESSORS, MAX_FRAME, MAX_HEARD}
 use Rattle.pfair_admission.specs.declared.ledger.Ledger.{Ledger}
+use Rattle.std.specs.Option.{ForNone}
+use Rattle.pfair_admission.specs.declared.members.Members.TheInside.{Inside}
 
 -- the members, in the order of admission, with those that are gone
 abbrev pub listed : Ledger → List Member
@@ -140,3 +139,20 @@ pub record HasDecided (t n : ℕ) (old new : Ledger) : Type 0 where
   pub kept : IsLedger (is_there t) new
   pub admitted : new.admitted ≤ old.admitted + n
   pub bounded : (heard : ℕ) → EachBounded heard (present t (listed old)) → EachBounded (heard + n) (present t (listed new))
+
+-- What the members keep.
+
+abbrev pub roster_of : Inside → Roster
+roster_of a = record {
+  machine = record { processors = a.ledger.processors; frame = a.ledger.frame };
+  members = listed a.ledger;
+  heard = a.heard;
+  last_slot = a.last_slot;
+}
+
+pub record IsKept (a : Inside) : Type 0 where
+  pub few_heard : a.heard ≤ MAX_HEARD
+  pub admitted : a.ledger.admitted ≤ 2 ^ 63 + a.heard  -- a run begins with no more members than a map can have
+  pub begun : ForNone a.last_slot (a.ledger.admitted ≡ length (listed a.ledger))  -- before the first boundary nobody is gone
+  pub bounded : EachBounded a.heard (listed a.ledger)
+  pub kept : IsLedger (λ _. true) a.ledger

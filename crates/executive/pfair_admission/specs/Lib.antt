@@ -1,13 +1,6 @@
 pub mod Admission
 pub mod Carried
-pub mod Change
 pub mod Incarnation
 pub mod Laws
 pub mod Ledger
 pub mod Member
-pub mod Members
-pub mod Membership
-pub mod Refusal
-pub mod Removal
-pub mod Restored
-pub mod Roster

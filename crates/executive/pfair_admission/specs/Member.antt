@@ -1,8 +1,7 @@
 -- A member: a task from its joining slot to its freeing slot.
 use Rattle.std.specs.Prelude.{ℕ, ℤ, pos, ◌≤◌, ◌+◌, ◌-◌, ◌-ℤ◌, ◌*◌, ◌||◌, max, Bool, not, nat_le, nat_lt, ◌==◌, List, sum_by, filter, Option, is_some, if◌then◌else◌}
 use Rattle.std.specs.List.{list_any}
-use Rattle.pfair_weight.specs.Share.{Share}
-use Rattle.pfair_weight.specs.Window.{release_of, deadline_of, b_bit_of, group_deadline_of, starts_job_of}
+use Rattle.pfair_weight.specs.Window.{Share, release_of, deadline_of, b_bit_of, group_deadline_of, starts_job_of}
 use Rattle.pfair_weight.specs.declared.window.TheConstants.{MAX_INDEX, MAX_OFFSET}
 use Rattle.pfair_order.specs.declared.Key.{Key}
 use Rattle.pfair_admission.specs.declared.delay.Delay.{Delay}

@@ -1,6 +1,6 @@
 //! What is decided on an announcement, and why it is refused.
 ghost use Rattle.std.specs.Prelude.{◌≡◌};
-ghost use Rattle.pfair_admission.specs.Refusal.{refusal_number};
+ghost use Rattle.pfair_admission.specs.Admission.{refusal_number};
 
 use thiserror::Error;
 

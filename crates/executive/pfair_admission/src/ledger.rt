@@ -2,15 +2,12 @@
 ghost use Rattle.std.specs.Prelude.{◌≡◌, ℕ, ◌≤◌, ◌<◌, ◌+◌, ◌-◌, ◌*◌, ◌^◌, Bool, true, [], ◌∷◌, ◌++◌, filter, nat_eq, OnOk, OnErr, IfOk, IfErr, IfSome, IfNone, None, Some, length, map, take};
 ghost use Rattle.std.specs.List.{AllByRecursion};
 ghost use Rattle.indexmap.specs.IndexMap.{values, IsUnique};
-ghost use Rattle.pfair_weight.specs.Share.{units_of};
+ghost use Rattle.pfair_weight.specs.Window.{units_of};
 ghost use Rattle.pfair_entry.specs.Entry.{IsWithinLimits};
 ghost use Rattle.pfair_entry.specs.declared.entry.Announcement.TheVariants.{Arrive, Depart, Late};
 ghost use Rattle.pfair_admission.specs.Member.{Member};
-ghost use Rattle.pfair_admission.specs.Admission.{member_named, arrival, announcements, claimed, present};
-ghost use Rattle.pfair_admission.specs.Carried.{carried, CanBeCarried};
-ghost use Rattle.pfair_admission.specs.Removal.{earlier_of, NoneFreed, NoneFreedBefore};
-ghost use Rattle.pfair_admission.specs.Roster.{EachHasRoom};
-ghost use Rattle.pfair_admission.specs.Restored.{member_in, CanBeRestored, IsRestoreFault};
+ghost use Rattle.pfair_admission.specs.Admission.{member_named, arrival, announcements, claimed, present, earlier_of, NoneFreed, NoneFreedBefore, EachHasRoom};
+ghost use Rattle.pfair_admission.specs.Carried.{carried, CanBeCarried, member_in, CanBeRestored, IsRestoreFault};
 ghost use Rattle.pfair_admission.specs.Ledger.{after, after_all, decisions_on, has_number, is_there, listed, membership, decision_on, whole, CanDecide, CanJoin, HasDecided, HasRegister, IsArrivalByWeight, IsDecided, IsFound, IsLedger, IsPlace, IsUnswept};
 
 use crate::decision::{Decision, Refusal};

@@ -1,8 +1,8 @@
 //! Members as a run begins with them.
 ghost use Rattle.std.specs.Prelude.{◌≡◌, ◌+◌, nat_le, sum_by};
 ghost use Rattle.std.specs.List.{list_all};
-ghost use Rattle.pfair_weight.specs.Share.{IsWeight};
-ghost use Rattle.pfair_admission.specs.Restored.{is_left_at, is_summed_up, member_in};
+ghost use Rattle.pfair_weight.specs.Window.{IsWeight};
+ghost use Rattle.pfair_admission.specs.Carried.{is_left_at, is_summed_up, member_in};
 
 use crate::decision::Refusal;
 use crate::delay::{Delay, leaves_room};

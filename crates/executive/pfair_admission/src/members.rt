@@ -3,10 +3,8 @@ ghost use Rattle.std.specs.Prelude.{◌≡◌, ◌≤◌, ◌<◌, ◌+◌, [], 
 ghost use Rattle.std.specs.List.{AllByRecursion};
 ghost use Rattle.std.specs.Option.{ForSome, option_copied, option_map};
 ghost use Rattle.pfair_entry.specs.Entry.{IsWithinLimits};
-ghost use Rattle.pfair_admission.specs.Admission.{member_named, boundary, boundary_decisions, announcements, decision, running, ran, quantum_of, seatless};
-ghost use Rattle.pfair_admission.specs.Carried.{carried, CanBeCarried, IsFirstLeft};
-ghost use Rattle.pfair_admission.specs.Restored.{member_in, CanBeRestored, IsRestoreFault};
-ghost use Rattle.pfair_admission.specs.Roster.{after_boundary, IsCutShort};
+ghost use Rattle.pfair_admission.specs.Admission.{member_named, boundary, boundary_decisions, announcements, decision, running, ran, quantum_of, seatless, after_boundary, IsCutShort};
+ghost use Rattle.pfair_admission.specs.Carried.{carried, CanBeCarried, IsFirstLeft, member_in, CanBeRestored, IsRestoreFault};
 
 use crate::decision::Decision;
 use crate::incarnation::Incarnation;
@@ -42,11 +40,11 @@ pub struct Members {
 }
 
 impl Model for Members {
-    ghost use Rattle.pfair_admission.specs.Roster.{Roster};
+    ghost use Rattle.pfair_admission.specs.Admission.{Roster};
 
     ghost Value = { Roster };
 
-    ghost use Rattle.pfair_admission.specs.Members.{roster_of, IsKept};
+    ghost use Rattle.pfair_admission.specs.Ledger.{roster_of, IsKept};
 
     ghost view = { roster_of };
 

@@ -12,8 +12,7 @@ use Rattle.std.proofs.SliceLists.{all_by_recursion_push}
 use Rattle.indexmap.specs.IndexMap.{set_value_at}
 use Rattle.pfair_weight.specs.declared.window.TheConstants.{MAX_INDEX}
 use Rattle.pfair_lag.specs.declared.TheConstants.{MAX_HORIZON}
-use Rattle.pfair_weight.specs.Name.{NamesApart}
-use Rattle.pfair_weight.specs.NameFacts.{name_at}
+use Rattle.pfair_weight.specs.Name.{NamesApart, name_at}
 
 abbrev pub Accounts : Type 0
 Accounts = List (NameValue × Account)

@@ -1,14 +1,10 @@
 -- The names that many of these proofs cite, passed on from one place. Declares nothing.
-pub use Rattle.pfair_lag.specs.Accounts.{EachFits, IsKept, IsSound, counted_at, entered_shown, tally_shown, with_quanta, with_quantum}
-pub use Rattle.pfair_lag.specs.Book.{Book, Tally, entered_after, has_run, lag_of, left, recorded, slot_more, tally_of}
-pub use Rattle.pfair_lag.specs.Lag.{LagAboveMinusOne, LagBelowOne, LagWithin, quanta_before}
-pub use Rattle.pfair_lag.specs.Picks.{ArePicks, InWindows, IsPick, KeepsReleases, MeetsDeadlines, Rises, pick_of}
+pub use Rattle.pfair_lag.specs.Book.{EachFits, IsKept, IsSound, counted_at, entered_shown, tally_shown, with_quanta, with_quantum, Book, Tally, entered_after, has_run, lag_of, left, recorded, slot_more, tally_of}
+pub use Rattle.pfair_lag.specs.Lag.{LagAboveMinusOne, LagBelowOne, LagWithin, quanta_before, ArePicks, InWindows, IsPick, KeepsReleases, MeetsDeadlines, Rises, pick_of}
 pub use Rattle.pfair_lag.specs.declared.book.Account.{Account}
 pub use Rattle.pfair_lag.specs.declared.book.TheConstants.{START}
 pub use Rattle.pfair_weight.specs.Name.{NameValue, name_eq}
-pub use Rattle.pfair_weight.specs.Options.{nothing}
-pub use Rattle.pfair_weight.specs.Share.{IsWeight, Share}
-pub use Rattle.pfair_weight.specs.Window.{deadline_of, release_of}
+pub use Rattle.pfair_weight.specs.Window.{nothing, IsWeight, Share, deadline_of, release_of}
 pub use Rattle.std.proofs.Common.{arith, ◌≡◌, ℕ, sym, ◌<◌, ap, ◌∙◌, ◌+◌, ◌≤◌, List, length, Some, refl, is_some, ◌*◌, not, Option, ◌-◌, get_or, subst, Bool, true, false, [], ◌∷◌, map, None, zero, suc, inl, inr, cond, ◌++◌, filter, take, slice_get}
 pub use Rattle.std.proofs.lemmas.Bool.{cases_lt, true≢false}
 pub use Rattle.std.proofs.lemmas.Grind.{common_steps}

@@ -4,8 +4,7 @@ use Rattle.pfair_lag.proofs.Common.{cases_lt, Share, IsWeight, release_of, deadl
 use Rattle.pfair_weight.specs.WindowFacts.{deadline_rises, window_not_empty}
 use Rattle.pfair_lag.specs.declared.windows.Miss.{Miss}
 use Rattle.pfair_lag.specs.declared.windows.Miss.TheVariants.{Early, Tardy, Unserved}
-use Rattle.pfair_lag.specs.Miss.{miss_index, IsMiss, IsFirstMiss, IsLate, IsFirstLate}
-use Rattle.pfair_lag.specs.Laws.{OneFirstMiss, OneFirstLate, MissesAreOut, LateMissDeadlines}
+use Rattle.pfair_lag.specs.Lag.{miss_index, IsMiss, IsFirstMiss, IsLate, IsFirstLate, OneFirstMiss, OneFirstLate, MissesAreOut, LateMissDeadlines}
 
 not_both : (a b : ℕ) → a < b → b ≤ a → ⊥
 not_both a b l m = omega arith

@@ -2,7 +2,7 @@
 use Rattle.std.proofs.Common.{◌&&◌, count_by}
 use Rattle.pfair_lag.proofs.Common.{option_map, Share, Tally, Book, tally_of, has_run, entered_after, slot_more, ◌≡◌, ℕ, ◌+◌, Bool, true, false, cond, not, List, [], ◌∷◌, ◌++◌, map, length, Option, Some, None, refl, ap, arith, filter, is_some, lookup, bytes_decides, NameValue, name_eq}
 use Rattle.std.proofs.lemmas.List.Sums.{sum_by-cons}
-use Rattle.pfair_lag.specs.Runs.{Enter, Leave, Record, Stay, slot_passed, tally_in, CountsSinceEntering}
+use Rattle.pfair_lag.specs.Book.{Enter, Leave, Record, Stay, slot_passed, tally_in, CountsSinceEntering}
 use Rattle.pfair_lag.proofs.BookLemmas.{is_some-map}
 
 abbrev Entries : Type 0

@@ -2,8 +2,7 @@
 ghost use Rattle.std.specs.Prelude.{◌≡◌, ◌+◌, ◌*◌, ◌^◌, ◌≤◌, ◌<◌, length, IsTrue, IfOk, OnErr, false, not, is_some, map, slice_get};
 ghost use Rattle.std.specs.Option.{option_map};
 ghost use Rattle.pfair_weight.specs.Name.{NamesApart};
-ghost use Rattle.pfair_lag.specs.Book.{empty_book, tally_of, lag_of, entered_with, entered_after, left, recorded};
-ghost use Rattle.pfair_lag.specs.Accounts.{tally_shown, IsSound, EachFits, counted_at, with_quantum, with_quanta};
+ghost use Rattle.pfair_lag.specs.Book.{empty_book, tally_of, lag_of, entered_with, entered_after, left, recorded, tally_shown, IsSound, EachFits, counted_at, with_quantum, with_quanta};
 
 use crate::MAX_HORIZON;
 use indexmap::IndexMap;
@@ -63,8 +62,7 @@ pub struct LagBook {
 impl Model for LagBook {
     ghost use Rattle.std.specs.Prelude.{◌-◌};
     ghost use Rattle.pfair_lag.specs.declared.book.TheConstants.{START};
-    ghost use Rattle.pfair_lag.specs.Book.{Book};
-    ghost use Rattle.pfair_lag.specs.Accounts.{entered_shown, IsKept};
+    ghost use Rattle.pfair_lag.specs.Book.{Book, entered_shown, IsKept};
 
     ghost Value = { Book };
 

@@ -1,11 +1,8 @@
 //! Tests of a schedule by the deadlines of subtasks alone, for tasks that may run ahead of their
 //! windows.
 ghost use Rattle.std.specs.Prelude.{◌≤◌, ◌↔◌, IsTrue, IfOk, IfErr, OnOk, MatchOption};
-ghost use Rattle.pfair_weight.specs.Share.{IsWeight};
-ghost use Rattle.pfair_lag.specs.Picks.{ArePicks, MeetsDeadlines};
-ghost use Rattle.pfair_lag.specs.Lag.{LagBelowOne};
-ghost use Rattle.pfair_lag.specs.Miss.{IsFirstLate};
-ghost use Rattle.pfair_lag.specs.PickFault.{IsFaultOf};
+ghost use Rattle.pfair_weight.specs.Window.{IsWeight};
+ghost use Rattle.pfair_lag.specs.Lag.{ArePicks, MeetsDeadlines, LagBelowOne, IsFirstLate, IsFaultOf};
 
 use crate::MAX_HORIZON;
 use crate::fault::{PickFault, check_picks};

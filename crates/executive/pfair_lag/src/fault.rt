@@ -1,7 +1,6 @@
 //! Whether slots may be those in which a task ran.
 ghost use Rattle.std.specs.Prelude.{◌≡◌, ◌≤◌, IfErr, OnOk, length};
-ghost use Rattle.pfair_lag.specs.Picks.{ArePicks, Rises};
-ghost use Rattle.pfair_lag.specs.PickFault.{IsFaultOf, pick_fault_number};
+ghost use Rattle.pfair_lag.specs.Lag.{ArePicks, Rises, IsFaultOf, pick_fault_number};
 
 use thiserror::Error;
 

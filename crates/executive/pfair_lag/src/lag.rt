@@ -1,8 +1,6 @@
 //! Tests of a schedule by the lag: how far the task is behind its share at each time.
 ghost use Rattle.std.specs.Prelude.{◌≡◌, ◌+◌, ◌≤◌, ◌↔◌, IsTrue, IfOk, IfErr, OnOk};
-ghost use Rattle.pfair_lag.specs.Picks.{ArePicks, Rises, InWindows, MeetsDeadlines};
-ghost use Rattle.pfair_lag.specs.Lag.{quanta_before, LagWithin, LagBelowOne};
-ghost use Rattle.pfair_lag.specs.PickFault.{IsFaultOf};
+ghost use Rattle.pfair_lag.specs.Lag.{ArePicks, Rises, InWindows, MeetsDeadlines, quanta_before, LagWithin, LagBelowOne, IsFaultOf};
 
 use crate::MAX_HORIZON;
 use crate::fault::{PickFault, check_picks};

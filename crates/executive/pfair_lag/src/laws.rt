@@ -1,8 +1,8 @@
 //! Laws of lags and windows, for every weight, schedule and horizon, and of the book of lags.
 //!
 //! Each function states one law and does nothing.
-ghost use Rattle.pfair_lag.specs.Laws.{LagsKeepWindows, LagsKeepDeadlines, OneFirstMiss, OneFirstLate, MissesAreOut, LateMissDeadlines};
-ghost use Rattle.pfair_lag.specs.Runs.{CountsSinceEntering};
+ghost use Rattle.pfair_lag.specs.Lag.{LagsKeepWindows, LagsKeepDeadlines, OneFirstMiss, OneFirstLate, MissesAreOut, LateMissDeadlines};
+ghost use Rattle.pfair_lag.specs.Book.{CountsSinceEntering};
 
 /// The lag stays strictly between -1 and 1 up to a horizon exactly if each subtask that ran did
 /// so in its window, and each whose deadline is at most the horizon ran (Baruah, Cohen, Plaxton and

@@ -1,10 +1,7 @@
 //! Tests of a schedule by the windows of subtasks: which subtask ran in which slot.
 ghost use Rattle.std.specs.Prelude.{◌≤◌, ◌↔◌, IsTrue, IfOk, IfErr, OnOk, MatchOption};
-ghost use Rattle.pfair_weight.specs.Share.{IsWeight};
-ghost use Rattle.pfair_lag.specs.Picks.{ArePicks, InWindows};
-ghost use Rattle.pfair_lag.specs.Lag.{LagWithin};
-ghost use Rattle.pfair_lag.specs.Miss.{IsFirstMiss};
-ghost use Rattle.pfair_lag.specs.PickFault.{IsFaultOf};
+ghost use Rattle.pfair_weight.specs.Window.{IsWeight};
+ghost use Rattle.pfair_lag.specs.Lag.{ArePicks, InWindows, LagWithin, IsFirstMiss, IsFaultOf};
 
 use crate::MAX_HORIZON;
 use crate::fault::{PickFault, check_picks};

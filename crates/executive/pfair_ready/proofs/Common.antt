@@ -3,15 +3,10 @@ pub use Rattle.itertools.specs.Extremes.{IsKLeast, by_cmp}
 pub use Rattle.pfair_order.proofs.ByRank.{by_rank_of_split}
 pub use Rattle.pfair_order.proofs.KeyLaws.{keys_exact, keys_total}
 pub use Rattle.pfair_order.proofs.RankLemmas.{IsSplit, at_place, first_within, less_of, place_of, split_from_least, split_more, split_of_permutation}
-pub use Rattle.pfair_order.specs.Order.{pd2_cmp, tie_group_of}
-pub use Rattle.pfair_order.specs.Rank.{first_by_rank}
+pub use Rattle.pfair_order.specs.Order.{pd2_cmp, tie_group_of, first_by_rank}
 pub use Rattle.pfair_order.specs.declared.Key.{Key}
-pub use Rattle.pfair_ready.specs.Calendar.{IsAmong, IsCovered, IsNear, IsNoted, Keeps, Moves, in_bucket, later_cmp, under}
-pub use Rattle.pfair_ready.specs.Names.{NameValue, name_cmp, name_eq}
-pub use Rattle.pfair_ready.specs.PlainList.{first_named, queue_of}
-pub use Rattle.pfair_ready.specs.Queue.{Content, Queue, released, without}
-pub use Rattle.pfair_ready.specs.Turns.{AreTurns, HasTurn, KeepsTurns, turn_cmp, turn_of}
-pub use Rattle.pfair_ready.specs.Waiting.{Entries, IsEntryOf, IsKeyIn, held_under, is_due, is_turn_of, key_under, live, queue_in, with_entry}
+pub use Rattle.pfair_ready.specs.Waiting.{IsAmong, IsCovered, IsNear, IsNoted, Keeps, Moves, in_bucket, later_cmp, under, first_named, queue_of, AreTurns, HasTurn, KeepsTurns, turn_cmp, turn_of, Entries, IsEntryOf, IsKeyIn, held_under, is_due, is_turn_of, key_under, live, queue_in, with_entry}
+pub use Rattle.pfair_ready.specs.Queue.{NameValue, name_cmp, name_eq, Content, Queue, released, without}
 pub use Rattle.pfair_ready.specs.declared.calendar.Calendar.{Calendar}
 pub use Rattle.pfair_ready.specs.declared.calendar.Date.{Date}
 pub use Rattle.pfair_ready.specs.declared.heap.Turn.{Turn}
@@ -20,8 +15,7 @@ pub use Rattle.pfair_ready.specs.declared.waiting.Entry.{Entry}
 pub use Rattle.pfair_ready.specs.declared.waiting.HeldKey.{HeldKey}
 pub use Rattle.pfair_weight.proofs.ByteOrder.{is_number, name_back}
 pub use Rattle.pfair_weight.proofs.NamesApart.{apart_filter, apart_head, apart_map, apart_nil, apart_push, apart_tail}
-pub use Rattle.pfair_weight.specs.Name.{IsTaskName}
-pub use Rattle.pfair_weight.specs.Number.{name_of, IsNumber}
+pub use Rattle.pfair_weight.specs.Name.{IsTaskName, name_of, IsNumber}
 pub use Rattle.std.proofs.Common.{◌≡◌, ◌∙◌, ap, sym, refl, arith, List, subst, ◌≤◌, Some, ℕ, length, ◌∷◌, [], ◌<◌, map, Option, false, None, rules, true, inl, inr, Contains, slice_get, not, is_some, ◌+◌, ◌⊎◌, cond, Bool, ◌++◌, IfSome, slice_index_or, nat_le, min, vec_capacity, Ok, Err, ◌&&◌, zero, suc, Vec, Global, ◌%◌, IfNone, take, OnErr}
 pub use Rattle.std.proofs.lemmas.Bool.{and_parts, cases_order, leb-false, leb-true, true≢false}
 pub use Rattle.std.proofs.lemmas.Fn.{filter_same}

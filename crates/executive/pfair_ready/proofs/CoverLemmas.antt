@@ -1,5 +1,5 @@
 -- What waits is in the calendar, or has a turn.
-use Rattle.pfair_weight.specs.Options.{nothing}
+use Rattle.pfair_weight.specs.Window.{nothing}
 use Rattle.pfair_ready.proofs.Common.{is_eq, eq_by_cmp, Equal-is, tied_itself, get-empty, get-insert, get-remove, same_map, none-some, same_Some, Key, Calendar, NameValue, name_cmp, Queue, HasTurn, IsCovered, IsNoted, Keeps, Moves, AreTurns, IsHeap, IsPermutation, KeepsTurns, Turn, heap_items, later_cmp, turn_of, ◌≡◌, ℕ, ◌≤◌, ◌⊎◌, inl, inr, Bool, true, false, cond, List, ◌∷◌, refl, sym, ap, subst, ◌∙◌, arith, Option, Some, None, IsTaskName}
 use Rattle.std.specs.FinMap as finmap
 use Rattle.pfair_ready.proofs.HeapLemmas.{top_or_stays}

@@ -3,7 +3,7 @@ use Rattle.std.proofs.Common.{nat_eq}
 use Rattle.pfair_ready.proofs.Common.{IsPermutation, Key, Less, Equal, Greater, NameValue, PopsGreatest, is_due, is_turn_of, name_cmp, nat_cmp, ordering_then, pd2_cmp, AreTurns, HasTurn, KeepsTurns, Turn, turn_cmp, turn_of, ◌≡◌, ℕ, ◌≤◌, true, ◌&&◌, List, ◌∷◌, refl, ◌∙◌, arith, Some, Ordering, All-permutation, IsTaskName, IsNumber, name_of, is_number, name_back}
 use Rattle.std.proofs.lemmas.Bool.Decides.{nat_tests}
 use Rattle.std.proofs.lemmas.List.Elements.{All-tail}
-use Rattle.pfair_weight.specs.Number.{number_of}
+use Rattle.pfair_weight.specs.Name.{number_of}
 use Rattle.pfair_weight.proofs.ByteOrder.{numbers_order}
 use Rattle.pfair_ready.proofs.Names.{names_exact}
 

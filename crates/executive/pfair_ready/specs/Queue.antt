@@ -1,11 +1,19 @@
 -- The queue of a ready structure: the release and the key of each name.
+use Rattle.std.specs.declared.cmp.Ordering.{Ordering}
+use Rattle.std.specs.Ordering.{nat_cmp}
+use Rattle.std.specs.Cmp.Lexicographic.{slice_cmp}
+pub use Rattle.pfair_weight.specs.Name.{NameValue, name_eq}
 use Rattle.std.specs.Prelude.{ℕ, List, map, filter, nat_le, not, refl}
 use Rattle.std.specs.List.{list_any}
-use Rattle.pfair_ready.specs.Names.{name_cmp, name_eq}
-use Rattle.std.specs.FinMap as finmap
 use Rattle.std.specs.Coded.{Coded, code_by, coded×, coded_ℕ, coded_list}
 use Rattle.pfair_order.specs.declared.Key.{Key}
-use Rattle.pfair_order.specs.KeyCode.{key_code}
+use Rattle.pfair_order.specs.Order.{key_code}
+use Rattle.std.specs.FinMap as finmap
+
+-- Names and their order, as the maps use them: by the bytes, a proper prefix first.
+
+abbrev pub name_cmp : NameValue → NameValue → Ordering
+name_cmp = slice_cmp nat_cmp
 
 -- from names to the release and the key
 abbrev pub Queue : Type 0

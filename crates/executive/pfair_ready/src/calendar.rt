@@ -1,7 +1,7 @@
 //! When the keys that wait are released.
 ghost use Rattle.std.specs.Prelude.{◌≡◌, ◌≤◌, ◌<◌, ◌%◌, ◌+◌, [], Contains, All, IfNone, IfSome, OnOk, OnSome, length};
 ghost use Rattle.pfair_ready.specs.declared.calendar.Date.{Date};
-ghost use Rattle.pfair_ready.specs.Calendar.{IsFirstDate, IsNoted, Keeps, Moves, later_cmp, under};
+ghost use Rattle.pfair_ready.specs.Waiting.{IsFirstDate, IsNoted, Keeps, Moves, later_cmp, under};
 ghost use Rattle.std.specs.BinaryHeap.{heap_items, IsHeap};
 
 use crate::heap::{Turn, add_turn};

@@ -8,8 +8,7 @@
 
 ghost use Rattle.std.specs.Prelude.{◌≡◌, ◌≤◌, ℕ, IsTrue, IfOk, OnErr, false, map, not, if◌then◌else◌};
 ghost use Rattle.std.specs.FinMap as finmap;
-ghost use Rattle.pfair_order.specs.Order.{pd2_cmp};
-ghost use Rattle.pfair_order.specs.Rank.{first_by_rank, EachOnce};
+ghost use Rattle.pfair_order.specs.Order.{pd2_cmp, first_by_rank, EachOnce};
 ghost use Rattle.pfair_ready.specs.Queue.{Queue, released, without};
 
 mod calendar;

@@ -3,8 +3,8 @@ ghost use Rattle.std.specs.Prelude.{◌≡◌, IfOk, map, filter, nat_le, not};
 ghost use Rattle.std.specs.List.{list_any};
 ghost use Rattle.itertools.specs.Extremes.{IsKLeast, by_cmp};
 ghost use Rattle.pfair_order.specs.Order.{pd2_cmp};
-ghost use Rattle.pfair_ready.specs.Names.{name_eq};
-ghost use Rattle.pfair_ready.specs.PlainList.{first_named};
+ghost use Rattle.pfair_ready.specs.Queue.{name_eq};
+ghost use Rattle.pfair_ready.specs.Waiting.{first_named};
 
 use crate::Ready;
 use itertools::Itertools;
@@ -39,7 +39,7 @@ impl Model for PlainReady {
     ghost coded = { content_code };
 
     ghost use Rattle.pfair_weight.specs.Name.{NamesApart};
-    ghost use Rattle.pfair_ready.specs.PlainList.{queue_of};
+    ghost use Rattle.pfair_ready.specs.Waiting.{queue_of};
 
     ghost view = { λ a. record { now = a.now; held = queue_of a.waiting.items } };
 

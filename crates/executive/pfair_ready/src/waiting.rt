@@ -2,9 +2,9 @@
 ghost use Rattle.std.specs.Prelude.{◌≡◌, IfOk, IfSome, IfNone, OnErr, OnOk, None, Some, false, is_some, not, if◌then◌else◌};
 ghost use Rattle.std.specs.FinMap as finmap;
 ghost use Rattle.indexmap.specs.IndexMap.{get as at_name, IsUnique};
-ghost use Rattle.pfair_ready.specs.Names.{NameValue, name_eq};
+ghost use Rattle.pfair_ready.specs.Queue.{NameValue, name_eq};
 ghost use Rattle.pfair_ready.specs.Waiting.{IsEntryOf, IsKeyIn, is_due, key_under, queue_in};
-ghost use Rattle.pfair_weight.specs.Number.{IsNumber, name_of};
+ghost use Rattle.pfair_weight.specs.Name.{IsNumber, name_of};
 
 use crate::heap::Turn;
 use crate::{Seated, Seats};

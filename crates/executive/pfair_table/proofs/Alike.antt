@@ -3,7 +3,7 @@ use Rattle.pfair_table.proofs.Common.{Torn, entry_eq, entry_exact, Replica, IsRe
 use Rattle.pfair_table.proofs.TableLaws.{one_table}
 use Rattle.pfair_table.proofs.Runs.{get_numbers, untorn_left, one_schedule}
 use Rattle.pfair_table.proofs.Steps.{plan_of_held}
-use Rattle.pfair_table.specs.PlaceLaws.{OnePlacing}
+use Rattle.pfair_table.specs.Refinement.{OnePlacing}
 use Rattle.pfair_table.proofs.Keeping.{tables_listed, is_of_held}
 use Rattle.pfair_table.proofs.PlacesKept.{follow_on, places_follow_tables}
 

@@ -2,7 +2,7 @@
 use Rattle.std.proofs.Common.{replicate}
 use Rattle.pfair_table.proofs.Common.{cases_eq, length-set, length-replicate, get_or-set_same, get_or-set_other, name_eq, name_exact, name_itself, Pick, Table, nat_list_eq_equiv, NamesApart, apart_head, apart_tail, place_of, common_steps, ℕ, zero, suc, ◌+◌, ◌≤◌, ◌<◌, ◌≡◌, false, refl, sym, ap, ◌∙◌, arith, List, [], ◌∷◌, length, Some, None, ◌≢◌, slice_get, slice_index, set, Name}
 use Rattle.pfair_order.proofs.RankLemmas.{at_each}
-use Rattle.pfair_table.specs.Buckets.{bucket, AreBucketsOf}
+use Rattle.pfair_table.specs.Places.{bucket, AreBucketsOf}
 
 -- a task that no row names has no place
 no_place : (rows : Table) (places : List ℕ) (name : Name) → ((r : ℕ) (p : Pick) → slice_get rows r ≡ Some p → name ≡ p.name → ⊥) → place_of rows places name ≡ None

@@ -2,50 +2,37 @@
 pub use Rattle.pfair_admission.proofs.Each.{both, each, each_filter, each_map}
 pub use Rattle.pfair_admission.proofs.Effects.{by_boundary, by_effect, each_change}
 pub use Rattle.pfair_admission.proofs.NamesKept.{apart_boundary, apart_effect, apart_present, apart_ran}
-pub use Rattle.pfair_admission.specs.Admission.{Machine, all_decided, announcements, boundary, boundary_decisions, change, effect, is_freed, is_named, member_named, newcomer, present, quantum_of, ran, running, seatless, with_delay, with_freeing, with_quantum}
-pub use Rattle.pfair_admission.specs.Carried.{CanBeCarried, IsFirstLeft, all_raised, carried, carried_delays, jobs_done, subtasks_done, subtasks_of, taken_off}
+pub use Rattle.pfair_admission.specs.Admission.{Machine, all_decided, announcements, boundary, boundary_decisions, change, effect, is_freed, is_named, member_named, newcomer, present, quantum_of, ran, running, seatless, with_delay, with_freeing, with_quantum, Roster}
+pub use Rattle.pfair_admission.specs.Carried.{CanBeCarried, IsFirstLeft, all_raised, carried, carried_delays, jobs_done, subtasks_done, subtasks_of, taken_off, IsLeftAt}
 pub use Rattle.pfair_admission.specs.Member.{Member, eligible_from, is_departing, next_key, theta}
-pub use Rattle.pfair_admission.specs.Restored.{IsLeftAt}
-pub use Rattle.pfair_admission.specs.Roster.{Roster}
 pub use Rattle.pfair_admission.specs.declared.decision.Decision.{Decision}
 pub use Rattle.pfair_admission.specs.declared.members.Quantum.{Quantum}
 pub use Rattle.pfair_admission.specs.declared.members.TheConstants.Members.{LAST_SLOT}
-pub use Rattle.pfair_entry.specs.Entry.{IsEntry, IsWeighed, IsWithinLimits, Logged}
-pub use Rattle.pfair_entry.specs.Exact.{entry_exact, name_exact, name_itself}
-pub use Rattle.pfair_entry.specs.Same.{entry_eq, name_eq}
+pub use Rattle.pfair_entry.specs.Entry.{IsEntry, IsWeighed, IsWithinLimits, Logged, entry_exact, name_exact, name_itself, entry_eq, name_eq}
 pub use Rattle.pfair_entry.specs.declared.entry.Announcement.{Announcement}
 pub use Rattle.pfair_entry.specs.declared.entry.Said.{Said}
-pub use Rattle.pfair_lattice.specs.HeldLaws.{join_second, join_least, below_itself, below_trans}
+pub use Rattle.pfair_lattice.specs.Held.{join_second, join_least, below_itself, below_trans}
 pub use Rattle.pfair_lattice.specs.declared.join_map.Flat.TheVariants.{One, Torn}
 pub use Rattle.pfair_order.proofs.NamesApart.{first_names}
 pub use Rattle.pfair_order.specs.Order.{GoesBefore}
 pub use Rattle.pfair_order.specs.declared.Key.{Key}
 pub use Rattle.pfair_ready.proofs.Names.{tied_names}
-pub use Rattle.pfair_ready.specs.Names.{name_cmp, NameValue as Name}
-pub use Rattle.pfair_ready.specs.Queue.{Queue, released, without}
+pub use Rattle.pfair_ready.specs.Queue.{name_cmp, NameValue as Name, Queue, released, without}
 pub use Rattle.pfair_ready.specs.declared.Seated.{Seated}
 pub use Rattle.pfair_replica.proofs.Marks.{below_agree, frontier_le, mark_le, same_said}
 pub use Rattle.pfair_replica.proofs.OfferedTo.{offered_stays}
 pub use Rattle.pfair_replica.proofs.SoundEntries.{beginnings_grow, held_within, read_by_number, some_at}
 pub use Rattle.pfair_replica.proofs.TornKeys.{test_by_untorn, untorn_by_test}
-pub use Rattle.pfair_replica.specs.Among.{Among, all_among, among_all, among_below, among_contains, among_filter, among_map, among_right, contains_among, filter_among, map_among, map_same}
-pub use Rattle.pfair_replica.specs.Offered.{absorbed, has_key, has_shape, taken}
-pub use Rattle.pfair_replica.specs.Replica.{Agree, Below, IsReplica, Replica, Untorn, empty_replica, frontier, has_torn, join, numbers_below, only, said, said_behind, said_by, said_in, sound_beginning, sound_total, with_entry}
-pub use Rattle.pfair_replica.specs.ReplicaRows.{IsShape, ReplicaRows, SameShape, replica_of}
-pub use Rattle.pfair_table.specs.Events.{Course, IsEvent, begin_at, happens, is_plannable, run, run_of, with_next_slot}
-pub use Rattle.pfair_table.specs.Laws.{IsOf, IsPrefixOf, OnePlan, OneSchedule, OneTable, PlanSoFar, PlansGoOn, RunsAreCounted, TablesAreOrdered}
-pub use Rattle.pfair_table.specs.Limits.{AreLeftAt, IsCarried, IsOrigin, IsSettings, IsState, can_add_row, with_row}
-pub use Rattle.pfair_table.specs.NextRun.{CanBeFollowed, IsFinished, IsNextRunFault, IsResumeFault, LeaveAlike, end_of, left_by, members_left}
-pub use Rattle.pfair_table.specs.Places.{AllDiffer, ArePlacesOf, IsFit, all_kept, filled, free_place, is_used, kept_places, place_of, places_after, places_before, places_from, places_in, table_before}
-pub use Rattle.pfair_table.specs.PlacesInUse.{AreInUse}
+pub use Rattle.pfair_replica.specs.Laws.{Among, all_among, among_all, among_below, among_contains, among_filter, among_map, among_right, contains_among, filter_among, map_among, map_same}
+pub use Rattle.pfair_replica.specs.Replica.{absorbed, has_key, has_shape, taken, Agree, Below, IsReplica, Replica, Untorn, empty_replica, frontier, has_torn, join, numbers_below, only, said, said_behind, said_by, said_in, sound_beginning, sound_total, with_entry, IsShape, ReplicaRows, SameShape, replica_of}
+pub use Rattle.pfair_table.specs.Events.{Course, IsEvent, begin_at, happens, is_plannable, run, run_of, with_next_slot, IsOf, IsPrefixOf, OnePlan, OneSchedule, OneTable, PlanSoFar, PlansGoOn, RunsAreCounted, TablesAreOrdered}
+pub use Rattle.pfair_table.specs.Places.{AreLeftAt, IsCarried, IsOrigin, IsSettings, IsState, can_add_row, with_row, AllDiffer, ArePlacesOf, IsFit, all_kept, filled, free_place, is_used, kept_places, place_of, places_after, places_before, places_from, places_in, table_before, AreInUse}
+pub use Rattle.pfair_table.specs.NextRun.{CanBeFollowed, IsFinished, IsNextRunFault, IsResumeFault, LeaveAlike, end_of, left_by, members_left, HasBegun, IsBegun, IsWeighedStory, last_places, last_table}
 pub use Rattle.pfair_table.specs.Planned.{AreKept, IsNext, PlannedSlots, as_places, as_tables, decided_to, last_or, tables_to, with_next}
-pub use Rattle.pfair_table.specs.Queue.{IsNotifiedOf, IsQueue, IsQueueBesides, IsQueueBut, IsQueueWithout, IsSteady, MayRun, has_key_of, is_of_some, is_said, keys_of, queued}
-pub use Rattle.pfair_table.specs.Ranks.{first_by_rank}
-pub use Rattle.pfair_table.specs.Readings.{AreReadingsOf, AreWhole, IsReadingOf, entries_read, said_by_all}
+pub use Rattle.pfair_table.specs.Planning.{IsNotifiedOf, IsQueue, IsQueueBesides, IsQueueBut, IsQueueWithout, IsSteady, MayRun, has_key_of, is_of_some, is_said, keys_of, queued, AreReadingsOf, AreWhole, IsReadingOf, entries_read, said_by_all}
+pub use Rattle.pfair_table.specs.Table.{first_by_rank, Carried, History, Origin, Settings, Story, Table, all_ran, chosen, counted, counted_one, decisions, eligible, history, index_of, is_eligible, machine, members_at, members_before, names_task, next_index, pick, plan, plan_decisions, quanta, slot_of, table, with_decisions, world}
 pub use Rattle.pfair_table.specs.Refinement.{Dispatch, HavePlannedAlike, IsInStep, IsKept, IsNextStep, IsPlanFault, IsPlanOf, IsWholePlan, course_of, heard_before, members_after}
-pub use Rattle.pfair_table.specs.RunsOn.{HasBegun, IsBegun, IsWeighedStory, last_places, last_table}
 pub use Rattle.pfair_table.specs.Script.{IsLoggedRun, LoggedRun, capacity_of, contents_of, entry_of, held_of, is_short, lists_of, replica_of_logs, row_of}
-pub use Rattle.pfair_table.specs.Table.{Carried, History, Origin, Settings, Story, Table, all_ran, chosen, counted, counted_one, decisions, eligible, history, index_of, is_eligible, machine, members_at, members_before, names_task, next_index, pick, plan, plan_decisions, quanta, slot_of, table, with_decisions, world}
 pub use Rattle.pfair_table.specs.declared.answer.Step.{Step}
 pub use Rattle.pfair_table.specs.declared.answer.Step.TheVariants.{Done}
 pub use Rattle.pfair_table.specs.declared.planned.PlannedSlot.{PlannedSlot}
@@ -57,7 +44,7 @@ pub use Rattle.pfair_table.specs.declared.slot.Pick.{Pick}
 pub use Rattle.pfair_table.specs.declared.slot.SlotPlan.{SlotPlan}
 pub use Rattle.pfair_weight.proofs.NamesApart.{apart_cons, apart_filter, apart_head, apart_map, apart_nil, apart_push, apart_tail}
 pub use Rattle.pfair_weight.specs.Name.{NamesApart}
-pub use Rattle.pfair_weight.specs.Share.{Share}
+pub use Rattle.pfair_weight.specs.Window.{Share}
 pub use Rattle.pfair_weight.specs.declared.window.TheConstants.{MAX_INDEX}
 pub use Rattle.std.proofs.Common.{◌≡◌, sym, arith, ◌∙◌, ap, subst, List, ℕ, length, [], ◌∷◌, ◌<◌, refl, Some, None, ◌+◌, false, ◌≤◌, ◌++◌, suc, Bool, map, zero, drop, Option, slice_get, if◌then◌else◌, true, take, inl, inr, not, ◌≢◌, ◌-◌, cond, ◌||◌, Result, nat_lt, get_or, Ok, IfErr, min, ◌&&◌, ◌==◌, ◌*◌, IfOk, Err, is_some, IsTrue, ◌%◌, Vec, Global, OnOk, AllPairs, ◌⊎◌, slice_index, set, ◌^◌, bit_or, ⊎_elim, flat_map, nat_le, Bor}
 pub use Rattle.std.proofs.Math.Seq.{drop-nil, take-length, take-suc}

@@ -1,7 +1,6 @@
 -- The first by rank, of keys whose names differ: what the laws of the PD2 order say of them.
 use Rattle.pfair_table.proofs.Common.{NamesApart, Key, first_by_rank, Among, among_contains, contains_among, ℕ, ◌≤◌, ◌≡◌, List, length, AllPairs, GoesBefore}
-use Rattle.pfair_order.specs.Order.{pd2_cmp}
-use Rattle.pfair_order.specs.Rank.{AreFirst}
+use Rattle.pfair_order.specs.Order.{pd2_cmp, AreFirst}
 use Rattle.pfair_order.proofs.KeyLaws.{keys_total}
 use Rattle.pfair_order.proofs.OrderLemmas.{goes_before}
 use Rattle.pfair_order.proofs.RankLemmas.{place_of, first_pairs, first_within}

@@ -1,9 +1,8 @@
 -- What events leave is the least that is above all that they bring.
 use Rattle.pfair_table.proofs.Common.{AllByRecursion, eqb-true, eq-eqb, ltb-true, leb-true, lt-ltb, le-leb, and_from, and_parts, One, Logged, entry_eq, entry_exact, replica_of, has_key, has_shape, taken, absorbed, Replica, Below, join, only, with_entry, Course, begin_at, happens, run, Settings, ℕ, ◌≡◌, refl, sym, ◌∙◌, subst, arith, Bool, true, false, cond, List, [], ◌∷◌, Some, ◌&&◌, ◌==◌, nat_lt, nat_le, join_least, join_second, below_itself, below_trans, offered_stays, Event, Take, Absorb, Plan}
-use Rattle.pfair_lattice.specs.Held.{HeldBelow}
-use Rattle.pfair_lattice.specs.HeldLaws.{none_below}
-use Rattle.pfair_replica.specs.HeldAfter.{only_here}
-use Rattle.pfair_table.specs.EventLaws.{IsBroughtBelow, EventsLeaveTheLeast}
+use Rattle.pfair_lattice.specs.Held.{HeldBelow, none_below}
+use Rattle.pfair_replica.specs.Laws.{only_here}
+use Rattle.pfair_table.specs.Events.{IsBroughtBelow, EventsLeaveTheLeast}
 use Rattle.pfair_table.proofs.Runs.{below_all}
 
 -- a replica of these processors and this capacity

@@ -1,7 +1,7 @@
 -- What a run leaves is what a next run can begin with, wherever it began.
 use Rattle.pfair_table.proofs.Common.{AllByRecursion, Announcement, apart_map, apart_nil, Machine, announcements, boundary, is_freed, ran, with_quantum, carried, CanBeCarried, Member, both, each, each_map, each_change, AreLeftAt, IsOrigin, Settings, Origin, Story, Table, machine, members_before, slot_of, all_ran, history, table, world, ℕ, zero, suc, ◌+◌, ◌≡◌, refl, sym, ap, subst, arith, false, List, [], ◌∷◌, Option, Some, None, map, nat_tests, IsLeftAt, HasBegun, IsBegun, IsWeighedStory}
 use Rattle.pfair_admission.specs.Laws.{AreInFrame, HaveRoom}
-use Rattle.pfair_admission.specs.Removal.{IsNotBefore}
+use Rattle.pfair_admission.specs.Admission.{IsNotBefore}
 use Rattle.pfair_admission.proofs.Keeping.{frame_boundary, frame_carried, frame_ran, none_freed_boundary, room_boundary, room_carried, room_ran}
 use Rattle.pfair_admission.proofs.RestoredRuns.{left_carried}
 use Rattle.pfair_table.proofs.Members.{label, named_before, named_history}

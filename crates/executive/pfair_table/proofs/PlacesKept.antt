@@ -1,6 +1,6 @@
 -- Places are processors, no two of a table are equal, and a task that goes on running keeps its own.
 use Rattle.pfair_table.proofs.Common.{AllByRecursion, true≢false, length-map, name_eq, name_exact, name_itself, Settings, Origin, Table, names_task, Pick, NamesApart, apart_head, apart_tail, place_of, kept_places, all_kept, free_place, filled, places_after, places_before, places_from, table_before, IsFit, AllDiffer, ArePlacesOf, IsOrigin, Among, all_among, among_all, none-some, same_Some, ℕ, zero, suc, ◌+◌, ◌<◌, ◌≤◌, ◌≡◌, refl, sym, ap, ◌∙◌, subst, arith, inr, Bool, true, false, List, [], ◌∷◌, length, Option, Some, None, ◌⊎◌, ◌≢◌, ◌||◌, slice_get, if◌then◌else◌, Name}
-use Rattle.pfair_table.specs.PlaceLaws.{KeepPlace, PlacesAreKept, PlacesFollowTables}
+use Rattle.pfair_table.specs.Refinement.{KeepPlace, PlacesAreKept, PlacesFollowTables}
 use Rattle.pfair_table.proofs.FreePlaces.{among_used, free_place_is_free}
 
 -- ---- a task that goes on running

@@ -5,7 +5,7 @@ use Rattle.std.specs.FinMap as finmap
 use Rattle.std.specs.FinMap.{get-empty, get-insert, get-remove, same_map}
 use Rattle.pfair_ready.proofs.Names.{names_exact}
 use Rattle.std.proofs.lemmas.List.Recursion.{found_push_other}
-use Rattle.pfair_entry.specs.Names.{name_of}
+use Rattle.pfair_entry.specs.Entry.{name_of}
 
 -- ---- what is found
 

@@ -3,7 +3,7 @@ use Rattle.std.proofs.Common.{add-one}
 use Rattle.pfair_table.proofs.Common.{map-append, apart_nil, ReplicaRows, replica_of, Replica, IsReplica, has_torn, frontier, numbers_below, said, Queue, Roster, Decided, is_plannable, Settings, Table, table, decisions, Dispatch, IsInStep, IsKept, IsWholePlan, tables_to, decided_to, ℕ, min, ◌+◌, ◌≤◌, ◌<◌, ◌≡◌, sym, ap, ◌∙◌, subst, arith, Bool, false, List, [], ◌∷◌, ◌++◌, length, IsTrue, Some, None, Result, Ok, Err, IfErr, IsErrAnd, SlotPlan}
 use Rattle.pfair_table.specs.declared.answer.PlanFault.{PlanFault}
 use Rattle.pfair_table.specs.declared.answer.PlanFault.TheVariants.{Memory}
-use Rattle.pfair_table.specs.SlotPlans.{IsNextPlan, after_plan}
+use Rattle.pfair_table.specs.Refinement.{IsNextPlan, after_plan}
 use Rattle.pfair_table.proofs.Keeping.{plan_now, step_now, kept_next, whole_plan}
 use Rattle.pfair_table.proofs.Kept.{tables_long}
 use Rattle.pfair_table.proofs.Members.{label}

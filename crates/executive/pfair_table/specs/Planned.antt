@@ -1,8 +1,7 @@
 -- The tables, decisions and places of planned slots.
 use Rattle.std.specs.Prelude.{ℕ, ◌≡◌, ◌+◌, ◌<◌, ◌≤◌, Vec, List, [], ◌∷◌, ◌++◌, drop, length, map}
 use Rattle.std.specs.declared.alloc.Global.{Global}
-use Rattle.pfair_replica.specs.ReplicaRows.{ReplicaRows, replica_of}
-use Rattle.pfair_replica.specs.Replica.{numbers_below, said}
+use Rattle.pfair_replica.specs.Replica.{ReplicaRows, replica_of, numbers_below, said}
 use Rattle.pfair_table.specs.declared.slot.Pick.{Pick}
 use Rattle.pfair_table.specs.declared.slot.Decided.{Decided}
 use Rattle.pfair_table.specs.declared.planned.PlannedSlot.{PlannedSlot}

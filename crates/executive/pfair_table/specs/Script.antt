@@ -1,13 +1,16 @@
 -- Logs, and the replica that they make.
-use Rattle.std.specs.Prelude.{ℕ, zero, suc, ◌≡◌, Bool, IsTrue, nat_le, max, List, [], ◌∷◌, length, map, Option, Some, None, slice_get, Vec}
+use Rattle.std.specs.Prelude.{ℕ, zero, suc, ◌≡◌, Bool, IsTrue, nat_le, max, List, [], ◌∷◌, length, map, Option, Some, None, slice_get, Vec, ◌<◌, ◌≤◌, false}
 use Rattle.std.specs.List.{list_all}
 use Rattle.std.specs.declared.alloc.Global.{Global}
 use Rattle.pfair_lattice.specs.Held.{Held}
 use Rattle.pfair_lattice.specs.declared.join_map.Flat.TheVariants.{One}
 use Rattle.pfair_entry.specs.Entry.{Logged}
-use Rattle.pfair_replica.specs.Replica.{Replica, Contents}
+use Rattle.pfair_replica.specs.Replica.{Replica, Contents, frontier, has_torn, ReplicaRows, replica_of}
 use Rattle.pfair_table.specs.Table.{Settings}
 use Rattle.pfair_table.specs.declared.script.TheConstants.Script.{LONGEST_LOG}
+use Rattle.pfair_table.specs.declared.answer.RunFault.{RunFault}
+use Rattle.pfair_table.specs.declared.answer.RunFault.TheVariants.{Memory, GateGaveUp, Astray, Stalled}
+use Rattle.pfair_table.specs.Refinement.{Dispatch}
 
 -- a run's settings, and the log of each processor
 pub record LoggedRun : Type 0 where
@@ -54,3 +57,18 @@ replica_of_logs logs = record { processors = length logs; capacity = capacity_of
 -- the same with what some logs have, which are the first ones or begin with as many entries
 abbrev pub held_of : List (List Logged) → List (List Logged) → Replica
 held_of logs begun = record { processors = length logs; capacity = capacity_of logs; at = contents_of begun }
+
+-- A script's run by slots.
+
+-- why a script isn't run to its end: its logs settle too few slots
+abbrev pub IsScriptFaultOf : LoggedRun → RunFault → Type 0
+IsScriptFaultOf r (Stalled slot) = (slot ≡ frontier (replica_of_logs r.logs)) × (slot < r.settings.slots)
+IsScriptFaultOf r Memory = Unit {0}
+IsScriptFaultOf r GateGaveUp = ⊥
+IsScriptFaultOf r Astray = ⊥
+
+-- all slots can be planned of a replica that stands elsewhere
+pub record IsBySlot (x : ReplicaRows) (d : Dispatch) : Type 0 where
+  pub held_is : d.replica ≡ x
+  pub whole : has_torn (replica_of x) ≡ false
+  pub settled : d.settings.slots ≤ frontier (replica_of x)

@@ -1,17 +1,24 @@
 -- Which subtasks run in each slot, as far as a replica settles it.
+use Rattle.std.specs.Prelude.{ℕ, List, zero, suc, ◌+◌, min, Bool, not, ◌&&◌, nat_le, [], ◌∷◌, ◌++◌, map, filter, count_by, drop, Option, Some, None}
+use Rattle.pfair_order.specs.Order.{pd2_cmp}
+use Rattle.pfair_order.specs.declared.Key.{Key}
 use Rattle.pfair_table.specs.declared.slot.Pick.{Pick}
 use Rattle.pfair_table.specs.declared.slot.Decided.{Decided}
-use Rattle.std.specs.Prelude.{ℕ, zero, suc, ◌+◌, min, Bool, not, ◌&&◌, nat_le, List, [], ◌∷◌, ◌++◌, map, filter, count_by, drop, Option, Some, None}
 use Rattle.std.specs.List.{list_any, zip}
-use Rattle.pfair_ready.specs.Names.{NameValue as Name}
-use Rattle.pfair_order.specs.declared.Key.{Key}
-use Rattle.pfair_table.specs.Ranks.{first_by_rank}
-use Rattle.pfair_entry.specs.Same.{name_eq}
+use Rattle.pfair_ready.specs.Queue.{NameValue as Name}
+use Rattle.pfair_entry.specs.Entry.{name_eq}
 use Rattle.pfair_replica.specs.Replica.{Replica, said, frontier, numbers_below}
 use Rattle.pfair_entry.specs.declared.entry.Said.{Said}
 use Rattle.pfair_admission.specs.Admission.{Machine, member_named, announcements, boundary, boundary_decisions, ran}
 use Rattle.pfair_admission.specs.Member.{Member, is_departing, eligible_from, next_key}
 use Rattle.pfair_admission.specs.declared.decision.Decision.{Decision}
+use Rattle.pfair_order.specs.Order as by
+
+-- The first of some subtasks' keys in the PD2 order, by rank.
+
+-- those that fewer than m of the keys go before, by how many do
+abbrev pub first_by_rank : ℕ → List Key → List Key
+first_by_rank = by.first_by_rank pd2_cmp
 
 pub record Settings : Type 0 where
   pub processors : ℕ

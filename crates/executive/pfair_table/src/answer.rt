@@ -1,6 +1,6 @@
 //! What a plan and a run answer.
 ghost use Rattle.std.specs.Prelude.{◌≡◌};
-ghost use Rattle.pfair_table.specs.Faults.{plan_fault_number, next_run_fault_number, run_fault_number};
+ghost use Rattle.pfair_table.specs.Refinement.{plan_fault_number, next_run_fault_number, run_fault_number};
 
 use pfair_weight::TaskName;
 use std::alloc::AllocError;
@@ -111,7 +111,7 @@ impl From<AllocError> for NextRunFault {
 
 impl From<PlanFault> for NextRunFault {
     ghost use Rattle.std.specs.Prelude.{◌≡◌};
-    ghost use Rattle.pfair_table.specs.Faults.{next_run_fault_of};
+    ghost use Rattle.pfair_table.specs.Refinement.{next_run_fault_of};
 
     ghost from_gives = { λ fault f. f ≡ next_run_fault_of fault };
 

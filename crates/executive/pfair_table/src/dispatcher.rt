@@ -1,19 +1,15 @@
 //! The dispatcher.
 ghost use Rattle.std.specs.Prelude.{◌≡◌, ◌≤◌, ◌<◌, true, false, IfOk, IfErr, IfSome, IfNone, OnOk, OnErr, Err, None, length, max, min, slice_get};
 ghost use Rattle.std.specs.Option.{option_map};
-ghost use Rattle.pfair_replica.specs.Replica.{has_torn};
-ghost use Rattle.pfair_replica.specs.Offered.{taken, absorbed};
-ghost use Rattle.pfair_replica.specs.ReplicaRows.{IsShape, SameShape, held, replica_of};
+ghost use Rattle.pfair_replica.specs.Replica.{has_torn, taken, absorbed, IsShape, SameShape, held, replica_of};
 ghost use Rattle.pfair_replica.specs.Faults.{IsKeyOf, IsTakenAs, IsTakeFaultOf, IsMergeFaultOf, IsPartlyMerged};
 ghost use Rattle.pfair_table.specs.declared.run.Event.TheVariants.{Plan as PlanEvent};
 ghost use Rattle.pfair_table.specs.Events.{begin_at, happens};
 ghost use Rattle.std.specs.List.{AllByRecursion};
-ghost use Rattle.pfair_table.specs.Limits.{IsOrigin};
-ghost use Rattle.pfair_table.specs.Places.{places_in, IsFit};
-ghost use Rattle.pfair_table.specs.PlaceLaws.{HavePlacedAlike};
-ghost use Rattle.pfair_table.specs.Readings.{AreReadingsOf};
+ghost use Rattle.pfair_table.specs.Places.{IsOrigin, places_in, IsFit};
+ghost use Rattle.pfair_table.specs.Refinement.{HavePlacedAlike, AreMembersOf, course_of, members_after, IsStepOf, IsPlanFault, after_fault, IsReopenFault, IsLast, IsWholePlan, HavePlannedAlike};
+ghost use Rattle.pfair_table.specs.Planning.{AreReadingsOf};
 ghost use Rattle.pfair_table.specs.NextRun.{LeaveAlike};
-ghost use Rattle.pfair_table.specs.Refinement.{AreMembersOf, course_of, members_after, IsStepOf, IsPlanFault, after_fault, IsReopenFault, IsLast, IsWholePlan, HavePlannedAlike};
 
 use crate::answer::{PlanFault, Step};
 use crate::places::places_beside;
@@ -42,8 +38,8 @@ pub struct Dispatcher<R: Ready> {
 
 impl<R: Ready> Model for Dispatcher<R> {
     ghost use Rattle.std.specs.Prelude.{◌≡◌};
-    ghost use Rattle.pfair_replica.specs.ReplicaRows.{replica_of};
-    ghost use Rattle.pfair_table.specs.Readings.{AreReadingsOf};
+    ghost use Rattle.pfair_replica.specs.Replica.{replica_of};
+    ghost use Rattle.pfair_table.specs.Planning.{AreReadingsOf};
     ghost use Rattle.pfair_table.specs.Refinement.{Dispatch, IsKept};
 
     ghost Value = { Dispatch };

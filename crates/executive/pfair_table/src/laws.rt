@@ -1,9 +1,8 @@
 //! The laws of agreement, over all replicas and all events, of a first run and of each run that
 //! follows. Each function does nothing: its contract is the law.
-ghost use Rattle.pfair_table.specs.EventLaws.{EventsLeaveTheLeast};
-ghost use Rattle.pfair_table.specs.Laws.{OneTable, PlansGoOn, OnePlan, TablesAreOrdered, OneSchedule, PlanSoFar, RunsAreCounted};
-ghost use Rattle.pfair_table.specs.RunsOn.{RunsGoOn};
-ghost use Rattle.pfair_table.specs.PlaceLaws.{PlacesAreKept, PlacesFollowTables, OnePlacing};
+ghost use Rattle.pfair_table.specs.Events.{EventsLeaveTheLeast, OneTable, PlansGoOn, OnePlan, TablesAreOrdered, OneSchedule, PlanSoFar, RunsAreCounted};
+ghost use Rattle.pfair_table.specs.NextRun.{RunsGoOn};
+ghost use Rattle.pfair_table.specs.Refinement.{PlacesAreKept, PlacesFollowTables, OnePlacing};
 
 /// Agreement: two replicas that agree give every slot below both frontiers one table and the same
 /// decisions, wherever the run began.

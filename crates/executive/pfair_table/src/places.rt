@@ -2,10 +2,8 @@
 //! it is.
 ghost use Rattle.std.specs.Prelude.{ℕ, ◌≡◌, ◌≤◌, ◌<◌, ◌+◌, ◌^◌, ◌∷◌, List, IfOk, length, slice_get};
 ghost use Rattle.std.specs.List.{AllByRecursion};
-ghost use Rattle.pfair_table.specs.Places.{all_kept, free_place, filled, places_after, IsFit, place_of};
-ghost use Rattle.pfair_table.specs.PlacesInUse.{AreInUse};
+ghost use Rattle.pfair_table.specs.Places.{all_kept, free_place, filled, places_after, IsFit, place_of, AreInUse, bucket, AreBucketsOf};
 ghost use Rattle.pfair_weight.specs.Name.{NamesApart};
-ghost use Rattle.pfair_table.specs.Buckets.{bucket, AreBucketsOf};
 
 use crate::settings::Settings;
 use crate::slot::{Pick, emptied};

@@ -1,13 +1,11 @@
 //! The state between slots, beside the replica and the tables: the members, the ready structure,
 //! and how far the replica was read.
 ghost use Rattle.std.specs.Prelude.{◌≡◌, ◌≤◌, ◌<◌, ◌+◌, false, is_err, IfOk, IfErr, OnOk, length, ℕ, []};
-ghost use Rattle.pfair_replica.specs.ReplicaRows.{replica_of};
-ghost use Rattle.pfair_replica.specs.Replica.{Replica as Held, IsReplica, has_torn, Untorn, sound_beginning, said};
-ghost use Rattle.pfair_table.specs.Limits.{IsOrigin};
-ghost use Rattle.pfair_table.specs.Readings.{AreReadingsOf, IsReadingOf, AreWhole, AreSilentAfter, entries_read};
+ghost use Rattle.pfair_replica.specs.Replica.{replica_of, Replica as Held, IsReplica, has_torn, Untorn, sound_beginning, said};
+ghost use Rattle.pfair_table.specs.Places.{IsOrigin};
+ghost use Rattle.pfair_table.specs.Planning.{AreReadingsOf, IsReadingOf, AreWhole, AreSilentAfter, entries_read, CanBePlanned, IsPlanOfSlot};
 ghost use Rattle.pfair_table.specs.Refinement.{IsInStep, IsNextStep, IsNoStep};
-ghost use Rattle.pfair_table.specs.Planning.{CanBePlanned, IsPlanOfSlot};
-ghost use Rattle.pfair_replica.specs.Agenda.{said_at};
+ghost use Rattle.pfair_replica.specs.Counters.{said_at};
 
 use crate::answer::{PlanFault, Step};
 use crate::settings::Settings;

@@ -1,9 +1,8 @@
 //! What can happen to a dispatcher, and what a list of such events leaves.
 ghost use Rattle.std.specs.Prelude.{◌≡◌, false, IfOk, OnErr, OnOk};
-ghost use Rattle.pfair_replica.specs.ReplicaRows.{IsShape, replica_of};
+ghost use Rattle.pfair_replica.specs.Replica.{IsShape, replica_of, taken};
 ghost use Rattle.pfair_replica.specs.Faults.{IsTakeFaultOf};
 ghost use Rattle.pfair_replica.specs.declared.answer.TakeFault.TheVariants.{Memory};
-ghost use Rattle.pfair_replica.specs.Offered.{taken};
 ghost use Rattle.std.specs.List.{AllByRecursion};
 ghost use Rattle.pfair_table.specs.Events.{IsEvent, happens, run_of};
 ghost use Rattle.pfair_table.specs.Refinement.{CanFail, course_of};

@@ -1,7 +1,7 @@
 //! The logs of a run.
 ghost use Rattle.std.specs.Prelude.{◌≡◌, ◌<◌, ◌≤◌, ◌↔◌, IsTrue, IfOk, IfErr, Some, slice_get, length};
 ghost use Rattle.std.specs.List.{list_all};
-ghost use Rattle.pfair_replica.specs.ReplicaRows.{IsShape};
+ghost use Rattle.pfair_replica.specs.Replica.{IsShape};
 ghost use Rattle.pfair_table.specs.Script.{IsLoggedRun, is_short, lists_of, capacity_of};
 
 use crate::settings::Settings;

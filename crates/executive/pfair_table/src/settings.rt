@@ -1,7 +1,7 @@
 //! What a run is set to.
 ghost use Rattle.std.specs.Prelude.{◌≡◌};
 ghost use Rattle.std.specs.Option.{SomeIff};
-ghost use Rattle.pfair_table.specs.Limits.{IsSettings};
+ghost use Rattle.pfair_table.specs.Places.{IsSettings};
 
 use pfair_admission::Members;
 use pfair_entry::Entry;
@@ -18,7 +18,7 @@ pub struct Settings {
 
 impl Model for Settings {
     ghost use Rattle.pfair_table.specs.Table.{Settings as Setting};
-    ghost use Rattle.pfair_table.specs.Limits.{IsSettings};
+    ghost use Rattle.pfair_table.specs.Places.{IsSettings};
 
     ghost Value = { Setting };
 

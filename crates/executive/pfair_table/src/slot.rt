@@ -4,12 +4,11 @@ ghost use Rattle.std.specs.Option.{ForSome};
 ghost use Rattle.std.specs.List.{AllByRecursion};
 ghost use Rattle.pfair_weight.specs.Name.{NamesApart};
 ghost use Rattle.pfair_order.specs.declared.Key.{Key};
-ghost use Rattle.pfair_replica.specs.Among.{Among};
+ghost use Rattle.pfair_replica.specs.Laws.{Among};
 ghost use Rattle.pfair_entry.specs.Entry.{IsWithinLimits};
-ghost use Rattle.pfair_table.specs.Planning.{decisions_at, world_at, rows_at};
+ghost use Rattle.pfair_table.specs.Planning.{decisions_at, world_at, rows_at, IsQueue, IsQueueBut, IsQueueWithout, IsNotifiedOf, MayRun, keys_of};
 ghost use Rattle.pfair_table.specs.Table.{with_decisions, pick, all_ran};
 ghost use Rattle.pfair_weight.specs.declared.window.TheConstants.{MAX_INDEX};
-ghost use Rattle.pfair_table.specs.Queue.{IsQueue, IsQueueBut, IsQueueWithout, IsNotifiedOf, MayRun, keys_of};
 
 use pfair_admission::{Decision, Members};
 use pfair_entry::{Announcement, Said};

@@ -1,12 +1,9 @@
 //! What plans slot after slot of a replica that is held elsewhere.
 ghost use Rattle.std.specs.Prelude.{◌≡◌, ◌≤◌, ◌<◌, ◌+◌, [], false, IfOk, IfErr, OnOk, None, length};
-ghost use Rattle.pfair_replica.specs.Replica.{Below, has_torn};
-ghost use Rattle.pfair_replica.specs.ReplicaRows.{SameShape, replica_of};
-ghost use Rattle.pfair_table.specs.Script.{replica_of_logs};
-ghost use Rattle.pfair_table.specs.Readings.{AreReadingsOf};
-ghost use Rattle.pfair_table.specs.ScriptRun.{IsBySlot, IsScriptFaultOf};
-ghost use Rattle.pfair_table.specs.Refinement.{after_fault, IsPlanFault, IsWholePlan};
-ghost use Rattle.pfair_table.specs.SlotPlans.{IsNextPlan, after_plan, seeing};
+ghost use Rattle.pfair_replica.specs.Replica.{Below, has_torn, SameShape, replica_of};
+ghost use Rattle.pfair_table.specs.Script.{replica_of_logs, IsBySlot, IsScriptFaultOf};
+ghost use Rattle.pfair_table.specs.Planning.{AreReadingsOf};
+ghost use Rattle.pfair_table.specs.Refinement.{after_fault, IsPlanFault, IsWholePlan, IsNextPlan, after_plan, seeing};
 
 use crate::answer::{PlanFault, RunFault, Step};
 use crate::planner::Planner;
@@ -36,8 +33,8 @@ pub struct SlotPlanner<R: Ready> {
 
 impl<R: Ready> Model for SlotPlanner<R> {
     ghost use Rattle.std.specs.Prelude.{None};
-    ghost use Rattle.pfair_replica.specs.ReplicaRows.{replica_of};
-    ghost use Rattle.pfair_table.specs.Readings.{AreReadingsOf};
+    ghost use Rattle.pfair_replica.specs.Replica.{replica_of};
+    ghost use Rattle.pfair_table.specs.Planning.{AreReadingsOf};
     ghost use Rattle.pfair_table.specs.Refinement.{Dispatch, IsKept};
     ghost use Rattle.pfair_table.specs.Planned.{tables_to, decided_to};
 

@@ -1,7 +1,7 @@
 //! What a run begins with: at slot 0 without members, or with what the run before has left.
 ghost use Rattle.std.specs.Prelude.{◌≡◌, ◌≤◌, ◌==◌, [], IfOk, OnErr, if◌then◌else◌, ◌<◌, ◌^◌, None};
 ghost use Rattle.pfair_admission.specs.declared.members.TheConstants.Members.{LAST_SLOT};
-ghost use Rattle.pfair_table.specs.Limits.{AreLeftAt, IsState, can_add_row, first_state, with_row, IsOrigin};
+ghost use Rattle.pfair_table.specs.Places.{AreLeftAt, IsState, can_add_row, first_state, with_row, IsOrigin};
 ghost use Rattle.pfair_table.specs.Table.{names_task, machine, slot_of, members_before};
 
 use crate::settings::Settings;
@@ -27,7 +27,7 @@ pub struct State {
 
 impl Model for State {
     ghost use Rattle.pfair_table.specs.Table.{Carried};
-    ghost use Rattle.pfair_table.specs.Limits.{IsState};
+    ghost use Rattle.pfair_table.specs.Places.{IsState};
 
     ghost Value = { Carried };
 

@@ -1,7 +1,7 @@
 -- Books of lags that are notified of some slots, and then of more.
 use Rattle.pfair_feed.proofs.Common.{cases_order, drop_all, length-take, take_all, take-append-drop, take-append-le, IsPrefixOf, Origin, Table, Dispatch, IsGrown, IsBookIfAny, IsBookOf, KeepsUnwritten, Output, book_before, rows_in, ℕ, ◌+◌, ◌-◌, ◌≤◌, ◌≡◌, refl, sym, ap, subst, ◌∙◌, arith, List, [], ◌∷◌, ◌++◌, length, min, take, drop, append_assoc, Option, None, Some, max, Book, Decided, first_book, rows_booked, Lags}
 use Rattle.std.proofs.Math.Seq.{take-add}
-use Rattle.pfair_output.specs.Booked.{all_slots_booked, slot_booked}
+use Rattle.pfair_output.specs.Lags.{all_slots_booked, slot_booked}
 use Rattle.pfair_output.proofs.BookedFacts.{time-all_booked}
 use Rattle.pfair_output.proofs.BookFacts.{first_time}
 use Rattle.pfair_feed.proofs.Plans.{longer}

@@ -1,17 +1,11 @@
 -- The names that many of these proofs cite, passed on from one place. Declares nothing.
 pub use Rattle.csv.proofs.WriteFacts.{appends-more}
-pub use Rattle.pfair_entry.specs.Entry.{Logged}
-pub use Rattle.pfair_entry.specs.Exact.{entry_exact}
+pub use Rattle.pfair_entry.specs.Entry.{Logged, entry_exact, entry_eq}
 pub use Rattle.pfair_entry.specs.Notice.{IsLoggable}
-pub use Rattle.pfair_entry.specs.Same.{entry_eq}
 pub use Rattle.pfair_entry_row.specs.Laws.{RowsAreLines}
-pub use Rattle.pfair_feed.specs.Entries.{entries_text, log_rows, numbered_from}
-pub use Rattle.pfair_feed.specs.Feeding.{AreFedBytes, AreLines, AreTakenFrom, AreWelcome, HasFailed, HasGoneOn, HasStood, IsCaughtUp, IsFedLine, IsFedTo, IsLeft, IsOneLine, IsStopped, IsTakenFrom, IsWelcome, ended, question}
-pub use Rattle.pfair_feed.specs.Follow.{Follow, HaveWrittenAlike, IsGrown, IsPlannedOut, IsSameRun, IsStopOf, missing_of, news}
-pub use Rattle.pfair_feed.specs.Missing.{dropped_line, dropped_of, is_past, key_line, missing_lines}
-pub use Rattle.pfair_feed.specs.RoundTrip.{AreAmong, BringsNothing, HasScheduleOf, HaveTheRows, IsBegun, IsPlaced, IsScript, Placed, placed_from, placed_in, replica_with_room, row_of, rows_of}
-pub use Rattle.pfair_feed.specs.RowLaws.{WholeRows, text_of}
-pub use Rattle.pfair_feed.specs.Rows.{IsBookIfAny, IsBookOf, KeepsUnwritten, book_before, header_of, rows_in}
+pub use Rattle.pfair_feed.specs.Laws.{entries_text, log_rows, numbered_from, AreAmong, BringsNothing, HasScheduleOf, HaveTheRows, IsBegun, IsPlaced, IsScript, Placed, placed_from, placed_in, replica_with_room, row_of, rows_of, WholeRows, text_of}
+pub use Rattle.pfair_feed.specs.Feeding.{AreFedBytes, AreLines, AreTakenFrom, AreWelcome, HasFailed, HasGoneOn, HasStood, IsCaughtUp, IsFedLine, IsFedTo, IsLeft, IsOneLine, IsStopped, IsTakenFrom, IsWelcome, ended, question, dropped_line, dropped_of, is_past, key_line, missing_lines}
+pub use Rattle.pfair_feed.specs.Follow.{Follow, HaveWrittenAlike, IsGrown, IsPlannedOut, IsSameRun, IsStopOf, missing_of, news, IsBookIfAny, IsBookOf, KeepsUnwritten, book_before, header_of, rows_in}
 pub use Rattle.pfair_feed.specs.declared.output.Output.{Output}
 pub use Rattle.pfair_feed.specs.declared.output.Output.TheVariants.{Lags, Tables, PlacedTables, Decisions}
 pub use Rattle.pfair_file.specs.ProgramFaults.{is_refusal}
@@ -20,21 +14,17 @@ pub use Rattle.pfair_file.specs.declared.program_fault.ProgramFault.TheVariants.
 pub use Rattle.pfair_lag.specs.Book.{Book}
 pub use Rattle.pfair_lattice.specs.Held.{Held}
 pub use Rattle.pfair_lattice.specs.declared.join_map.Flat.TheVariants.{One}
-pub use Rattle.pfair_output.specs.Booked.{rows_booked, first_book}
-pub use Rattle.pfair_output.specs.Slots.{slots_from}
-pub use Rattle.pfair_replica.specs.Among.{Among}
-pub use Rattle.pfair_replica.specs.Offered.{taken}
-pub use Rattle.pfair_replica.specs.Replica.{Below, Replica, empty_replica, frontier, goes_on, has_torn, last_floor, mark, numbers_below, only, run_from, run_on, said, said_in, sound_beginning, with_entry}
-pub use Rattle.pfair_replica.specs.ReplicaRows.{ReplicaRows, SameShape, held, replica_of}
-pub use Rattle.pfair_table.specs.Events.{Course, begin_at, run, run_of}
-pub use Rattle.pfair_table.specs.Laws.{IsOf, IsPrefixOf, OneTable}
+pub use Rattle.pfair_output.specs.Lags.{rows_booked, first_book}
+pub use Rattle.pfair_output.specs.Replay.{slots_from}
+pub use Rattle.pfair_replica.specs.Laws.{Among}
+pub use Rattle.pfair_replica.specs.Replica.{taken, Below, Replica, empty_replica, frontier, goes_on, has_torn, last_floor, mark, numbers_below, only, run_from, run_on, said, said_in, sound_beginning, with_entry, ReplicaRows, SameShape, held, replica_of}
+pub use Rattle.pfair_table.specs.Events.{Course, begin_at, run, run_of, IsOf, IsPrefixOf, OneTable}
 pub use Rattle.pfair_table.specs.Refinement.{Dispatch, HavePlannedAlike, IsWholePlan, course_of}
 pub use Rattle.pfair_table.specs.Script.{LoggedRun, capacity_of, contents_of, replica_of_logs}
 pub use Rattle.pfair_table.specs.Table.{Origin, Settings, Table, decided_at, decisions, history, members_at, plan, plan_decisions, slot_after, table, table_of, world}
 pub use Rattle.pfair_table.specs.declared.slot.Decided.{Decided}
 pub use Rattle.pfair_text.proofs.RowFacts.{lines_text-append}
-pub use Rattle.pfair_text.specs.Output.{TakesPrefix}
-pub use Rattle.pfair_text.specs.Rows.{IsOpen, line, lines_text, text_so_far}
+pub use Rattle.pfair_text.specs.Rows.{TakesPrefix, IsOpen, line, lines_text, text_so_far}
 pub use Rattle.std.proofs.Common.{◌≡◌, ◌∙◌, arith, sym, ap, ℕ, length, List, [], ◌++◌, refl, subst, ◌<◌, ◌∷◌, ◌≤◌, ◌+◌, Some, None, inl, inr, suc, drop, append_assoc, take, Option, true, Ok, Err, zero, slice_get, map, ◌⊎◌, Result, min, max, ◌≢◌, Bool, rules, OnErr, OnOk, fold, ◌-◌, false, if◌then◌else◌, get_or}
 pub use Rattle.std.proofs.KnownBytes.{Keeps-refl}
 pub use Rattle.std.proofs.lemmas.Bool.{and_parts, cases_lt, cases_order, eqb-true, leb-true, ltb-true}

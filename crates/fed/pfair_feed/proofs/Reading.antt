@@ -1,10 +1,9 @@
 -- What a line that is read brings.
 use Rattle.std.proofs.Common.{◌&&◌, not, nat_lt}
-use Rattle.pfair_replica.specs.HeldAfter.{held_after}
+use Rattle.pfair_replica.specs.Laws.{held_after}
 use Rattle.pfair_feed.proofs.Common.{Keeps, TakesPrefix, Logged, replica_of, held, Replica, frontier, has_torn, with_entry, Follow, IsSameRun, IsStopOf, news, IsGrown, HasFailed, HasStood, IsCaughtUp, IsFedLine, IsTakenFrom, and_parts, ltb-true, arith, ℕ, ◌≡◌, ◌≢◌, refl, sym, ap, subst, ◌∙◌, List, Option, Ok, true, false, inl, inr, ◌≤◌, Bool, length, min, None, Some, ◌⊎◌, if◌then◌else◌, taken, ProgramFault, WriteFailed, Memory, is_refusal, One}
-use Rattle.pfair_entry_row.specs.Faults.{IsReadingOf, Reading}
-use Rattle.pfair_entry_row.specs.Row.{entry_row, IsEntryAt}
-use Rattle.pfair_replica.specs.Offered.{has_key}
+use Rattle.pfair_entry_row.specs.Row.{IsReadingOf, Reading, entry_row, IsEntryAt}
+use Rattle.pfair_replica.specs.Replica.{has_key}
 use Rattle.pfair_file.specs.declared.program_fault.ProgramFault.TheVariants.{NoSuchProcessor, NumberOutOfRange, Row}
 use Rattle.pfair_feed.proofs.Going.{stays}
 use Rattle.pfair_feed.proofs.Plans.{longer}

@@ -2,10 +2,9 @@
 use Rattle.pfair_feed.proofs.Common.{cases_order, drop_all, drop-append-le, length-drop, take_all, take-append-le, Origin, Table, Output, book_before, rows_in, header_of, lines_text, ℕ, zero, suc, ◌+◌, ◌<◌, ◌≤◌, ◌≡◌, refl, ap, arith, List, [], ◌∷◌, ◌++◌, length, drop, slice_get, append_assoc, None, Decided, slots_from, rows_booked, Tables, PlacedTables, Decisions, Lags, WholeRows}
 use Rattle.std.proofs.Math.Seq.{drop-append_seam}
 use Rattle.pfair_table.specs.Places.{places_after, places_from, places_in}
-use Rattle.pfair_output.specs.Replay.{placed_table_rows, table_rows}
-use Rattle.pfair_output.specs.Decisions.{decided_rows}
+use Rattle.pfair_output.specs.Replay.{placed_table_rows, table_rows, decided_rows}
 use Rattle.pfair_output.proofs.WorldFacts.{whole_rows}
-use Rattle.pfair_feed.specs.RowLaws.{RowsGoOn}
+use Rattle.pfair_feed.specs.Laws.{RowsGoOn}
 use Rattle.pfair_feed.proofs.Books.{all_booked_before, rows-append}
 use Rattle.pfair_feed.proofs.Planned.{decided_first, tables_first}
 

@@ -1,9 +1,8 @@
 -- More room in the logs doesn't change the schedule of the contents.
 use Rattle.std.proofs.Common.{flat_map, filter}
 use Rattle.pfair_feed.proofs.Common.{Logged, Replica, frontier, goes_on, last_floor, numbers_below, run_from, run_on, said, said_in, sound_beginning, Settings, decisions, history, plan, table, lines_text, Output, HasScheduleOf, replica_with_room, ℕ, zero, suc, ◌+◌, ◌<◌, ◌≤◌, ◌≡◌, inl, inr, refl, ap, arith, [], ◌∷◌, map, min, None, fold, Held, LoggedRun, capacity_of, contents_of, replica_of_logs, Tables, PlacedTables, Decisions, Lags, text_of}
-use Rattle.pfair_output.specs.Decisions.{decisions_text}
+use Rattle.pfair_output.specs.Replay.{decisions_text, placed_replay_text, replay_text}
 use Rattle.pfair_output.specs.Lags.{is_staying, lag_row, lags_header}
-use Rattle.pfair_output.specs.Replay.{placed_replay_text, replay_text}
 use Rattle.pfair_feed.proofs.ScriptRows.{at_logs}
 
 -- ---- the same sound beginnings

@@ -4,7 +4,7 @@ use Rattle.pfair_feed.proofs.Common.{AllByRecursion, list_all, and_parts, leb-tr
 use Rattle.std.proofs.lemmas.List.{take_more}
 use Rattle.std.proofs.lemmas.Option.{get_or_from_slice_get}
 use Rattle.pfair_entry_row.proofs.Lines.{rows_are_lines}
-use Rattle.pfair_replica.specs.Among.{among_append, among_left, among_right}
+use Rattle.pfair_replica.specs.Laws.{among_append, among_left, among_right}
 use Rattle.pfair_table.specs.Script.{entry_of, is_short}
 
 -- ---- their rows

@@ -1,8 +1,8 @@
 //! The complaints about refused lines, about logs that are short, and about what a run drops.
 ghost use Rattle.std.specs.Prelude.{◌≤◌, ℕ, List, length, OnErr, OnOk};
 ghost use Rattle.std.specs.Io.KnownBytes.{Appends};
-ghost use Rattle.pfair_text.specs.Output.{TakesPrefix};
-ghost use Rattle.pfair_feed.specs.Missing.{dropped_text, key_line, missing_text};
+ghost use Rattle.pfair_text.specs.Rows.{TakesPrefix};
+ghost use Rattle.pfair_feed.specs.Feeding.{dropped_text, key_line, missing_text};
 
 use crate::follower::Follower;
 use itoa::Buffer;

@@ -1,7 +1,6 @@
 //! The entries of a script as rows.
 ghost use Rattle.std.specs.Prelude.{◌≡◌, IfOk, OnOk};
-ghost use Rattle.pfair_feed.specs.Entries.{entries_text};
-ghost use Rattle.pfair_feed.specs.RoundTrip.{IsScript};
+ghost use Rattle.pfair_feed.specs.Laws.{entries_text, IsScript};
 
 use pfair_entry_row::add_entry;
 use pfair_table::Script;

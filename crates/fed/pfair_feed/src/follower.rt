@@ -1,22 +1,18 @@
 //! The follower.
 ghost use Rattle.std.specs.Prelude.{◌≡◌, ◌≢◌, ◌⊎◌, ◌<◌, ◌≤◌, [], Err, IfErr, IfOk, IfSome, IsErrOf, OnErr, OnOk, Some, false, length, max, None};
 ghost use Rattle.std.specs.Io.KnownBytes.{Appends, Keeps};
-ghost use Rattle.pfair_text.specs.Output.{TakesPrefix};
-ghost use Rattle.pfair_text.specs.Rows.{line};
-ghost use Rattle.pfair_replica.specs.ReplicaRows.{IsShape, held, replica_of};
-ghost use Rattle.pfair_replica.specs.Offered.{taken};
+ghost use Rattle.pfair_text.specs.Rows.{TakesPrefix, line};
+ghost use Rattle.pfair_replica.specs.Replica.{IsShape, held, replica_of, taken, has_torn};
 ghost use Rattle.pfair_replica.specs.Faults.{IsKeyOf, IsTakenAs};
 ghost use Rattle.pfair_table.specs.Events.{begin_at};
-ghost use Rattle.pfair_table.specs.Limits.{settings_from};
+ghost use Rattle.pfair_table.specs.Places.{settings_from};
 ghost use Rattle.pfair_table.specs.NextRun.{IsResumeFault};
 ghost use Rattle.pfair_table.specs.Refinement.{IsWholePlan, course_of};
-ghost use Rattle.pfair_feed.specs.Missing.{is_past};
-ghost use Rattle.pfair_feed.specs.Rows.{header_of};
-ghost use Rattle.pfair_feed.specs.RoundTrip.{IsBegun};
-ghost use Rattle.pfair_feed.specs.Follow.{HasFollowed, HaveWrittenAlike, IsSameRun, IsStopOf, missing_of, news, IsGrown, IsEndOfPlans};
+ghost use Rattle.pfair_feed.specs.Feeding.{is_past};
+ghost use Rattle.pfair_feed.specs.Follow.{header_of, HasFollowed, HaveWrittenAlike, IsSameRun, IsStopOf, missing_of, news, IsGrown, IsEndOfPlans};
+ghost use Rattle.pfair_feed.specs.Laws.{IsBegun};
 ghost use Rattle.pfair_file.specs.declared.program_fault.ProgramFault.TheVariants.{Memory, WriteFailed};
 ghost use Rattle.pfair_feed.specs.declared.output.Output.TheVariants.{Lags};
-ghost use Rattle.pfair_replica.specs.Replica.{has_torn};
 
 use crate::output::{Output, add_rows, send_now};
 use pfair_entry::Entry;
@@ -44,8 +40,7 @@ pub struct Follower<R: Ready> {
 }
 
 impl<R: Ready> Model for Follower<R> {
-    ghost use Rattle.pfair_feed.specs.Rows.{IsBookIfAny, KeepsUnwritten};
-    ghost use Rattle.pfair_feed.specs.Follow.{Follow};
+    ghost use Rattle.pfair_feed.specs.Follow.{IsBookIfAny, KeepsUnwritten, Follow};
 
     ghost Value = { Follow };
 

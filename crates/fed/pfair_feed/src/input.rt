@@ -1,7 +1,7 @@
 //! The lines of a reader, one after another.
 ghost use Rattle.std.specs.Prelude.{◌≡◌, ◌≢◌, ℕ, List, Some, IfErr, OnOk, false, true, IsErrOf};
 ghost use Rattle.std.specs.Io.KnownBytes.{Consumes};
-ghost use Rattle.pfair_replica.specs.ReplicaRows.{SameShape, held};
+ghost use Rattle.pfair_replica.specs.Replica.{SameShape, held};
 ghost use Rattle.pfair_file.specs.ProgramFaults.{is_refusal};
 ghost use Rattle.pfair_feed.specs.Feeding.{IsCaughtUp, IsFedLine, IsFedTo, IsLeft, IsStopped, IsWelcome, question, HasFailed, IsRowAt};
 ghost use Rattle.pfair_lattice.specs.declared.join_map.Flat.TheVariants.{One};

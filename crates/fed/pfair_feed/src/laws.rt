@@ -2,8 +2,7 @@
 //! nothing, or calls other laws: its contract is the law.
 #![tactic(auto, using(crate::proofs::RoundTrip::most_laws))]
 
-ghost use Rattle.pfair_feed.specs.Laws.{EntriesAreTheirRows, EntriesGiveTheirSchedule, FedEntriesGiveTheirText, LinesAreOne, OrderIsNothing, RunsWriteAlike, WholeText};
-ghost use Rattle.pfair_feed.specs.RowLaws.{RowsGoOn, WholeRows};
+ghost use Rattle.pfair_feed.specs.Laws.{EntriesAreTheirRows, EntriesGiveTheirSchedule, FedEntriesGiveTheirText, LinesAreOne, OrderIsNothing, RunsWriteAlike, WholeText, RowsGoOn, WholeRows};
 
 use pfair_entry_row::laws::each_entry_has_its_row;
 use pfair_table::laws::events_leave_the_least;

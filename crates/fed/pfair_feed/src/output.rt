@@ -1,9 +1,8 @@
 //! What is written of a run, and the rows of it that are new.
 ghost use Rattle.std.specs.Prelude.{◌≡◌, ◌++◌, ◌≢◌, [], IfErr, IfOk, OnErr, OnOk};
 ghost use Rattle.std.specs.Io.KnownBytes.{Appends};
-ghost use Rattle.pfair_text.specs.Output.{TakesPrefix};
-ghost use Rattle.pfair_text.specs.Rows.{IsOpen, text_so_far};
-ghost use Rattle.pfair_feed.specs.Rows.{IsBookIfAny, IsWholeBook, KeepsUnwritten, rows_text};
+ghost use Rattle.pfair_text.specs.Rows.{TakesPrefix, IsOpen, text_so_far};
+ghost use Rattle.pfair_feed.specs.Follow.{IsBookIfAny, IsWholeBook, KeepsUnwritten, rows_text};
 ghost use Rattle.pfair_file.specs.declared.program_fault.ProgramFault.TheVariants.{WriteFailed};
 
 use csv::Writer;

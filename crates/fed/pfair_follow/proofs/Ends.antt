@@ -4,16 +4,13 @@ use Rattle.std.proofs.lemmas.Bool.{false≢true}
 use Rattle.std.specs.List.{list_any}
 use Rattle.std.specs.Io.KnownBytes.{Appends, Consumes, IsAtEnd}
 use Rattle.pfair_text.specs.Rows.{line, lines_text}
-use Rattle.pfair_replica.specs.ReplicaRows.{replica_of}
-use Rattle.pfair_replica.specs.Replica.{Replica, empty_replica, frontier, has_torn, numbers_below}
+use Rattle.pfair_replica.specs.Replica.{replica_of, Replica, empty_replica, frontier, has_torn, numbers_below}
 use Rattle.pfair_table.specs.Events.{Course}
 use Rattle.pfair_table.specs.Table.{Origin, Settings, plan, plan_decisions}
 use Rattle.pfair_feed.specs.declared.output.Output.{Output}
-use Rattle.pfair_feed.specs.Follow.{Follow, IsPlannedOut, news}
-use Rattle.pfair_feed.specs.RowLaws.{text_of}
-use Rattle.pfair_feed.specs.Rows.{header_of, rows_in}
+use Rattle.pfair_feed.specs.Follow.{Follow, IsPlannedOut, news, header_of, rows_in}
+use Rattle.pfair_feed.specs.Laws.{text_of, WholeText}
 use Rattle.pfair_feed.specs.Feeding.{AreFedBytes, AreTakenFrom, AreWelcome, IsCaughtUp, IsFedTo}
-use Rattle.pfair_feed.specs.Laws.{WholeText}
 use Rattle.pfair_file.specs.declared.program_fault.ProgramFault.{ProgramFault}
 use Rattle.pfair_feed.proofs.Planned.{planned, whole_start}
 use Rattle.pfair_follow.specs.Runs.{AreBrought, AreTakenAll, HasReachedLast, IsEndOf, IsFed, IsFedEndOf, IsFedShort, IsFollowed, IsFresh, IsSettled, IsSettledBelow, IsShort, head_from, rows_of_plan, text_from}

@@ -6,17 +6,14 @@ use Rattle.pfair_replica.specs.Replica.{Replica, empty_replica, frontier, number
 use Rattle.pfair_table.specs.Script.{LoggedRun, replica_of_logs}
 use Rattle.pfair_table.specs.Table.{Origin, Settings}
 use Rattle.pfair_feed.specs.declared.output.Output.{Output}
-use Rattle.pfair_feed.specs.Rows.{rows_in}
+use Rattle.pfair_feed.specs.Follow.{rows_in, Follow, IsStopOf}
 use Rattle.pfair_feed.specs.Feeding.{AreTakenFrom, IsLeft}
-use Rattle.pfair_feed.specs.Laws.{EntriesGiveTheirSchedule, LinesAreOne}
-use Rattle.pfair_feed.specs.RoundTrip.{HasScheduleOf, HaveTheRows, rows_of}
+use Rattle.pfair_feed.specs.Laws.{EntriesGiveTheirSchedule, LinesAreOne, HasScheduleOf, HaveTheRows, rows_of}
 use Rattle.pfair_file.specs.declared.program_fault.ProgramFault.{ProgramFault}
 use Rattle.pfair_file.specs.declared.program_fault.ProgramFault.TheVariants.{Memory, ReadFailed, Row, Stalled, WriteFailed}
 use Rattle.pfair_entry_row.specs.declared.fault.RowFault.TheVariants.{NoRow}
-use Rattle.pfair_feed.specs.Follow.{Follow, IsStopOf}
 use Rattle.pfair_table.proofs.Scripts.{capacity_short}
-use Rattle.pfair_follow.specs.Runs.{IsEndOf, IsFollowed, IsSettled, IsSettledBelow, text_from}
-use Rattle.pfair_follow.specs.Scripts.{HasScript, IsScriptStalled, IsScriptWritten, OfItsScript}
+use Rattle.pfair_follow.specs.Runs.{IsEndOf, IsFollowed, IsSettled, IsSettledBelow, text_from, HasScript, IsScriptStalled, IsScriptWritten, OfItsScript}
 
 -- all that the reader had to give was read
 all_read : (given left : Option (List ℕ)) (bytes : List ℕ) → Consumes given left bytes → IsAtEnd left → (P : List ℕ → Type 0) → P bytes → IfSome given P

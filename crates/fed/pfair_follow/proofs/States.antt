@@ -1,19 +1,15 @@
 -- The state that a run leaves, by what was brought.
 use Rattle.std.proofs.Common.{ℕ, Bool, true, false, ◌≡◌, ap, subst, ◌∙◌, inl, inr, List, Option, Result, Ok, Err, IfErr, IfOk, IfSome}
-use Rattle.pfair_replica.specs.ReplicaRows.{replica_of}
-use Rattle.pfair_replica.specs.Replica.{said}
+use Rattle.pfair_replica.specs.Replica.{replica_of, said}
 use Rattle.pfair_table.specs.Events.{Course}
-use Rattle.pfair_table.specs.NextRun.{left_by, start_after}
+use Rattle.pfair_table.specs.NextRun.{left_by, start_after, left_over}
 use Rattle.pfair_table.specs.Refinement.{Dispatch, course_of}
-use Rattle.pfair_table.specs.RunsOn.{left_over}
 use Rattle.pfair_table.specs.Table.{Origin, Settings}
 use Rattle.pfair_state.specs.Rows.{state_text}
 use Rattle.pfair_feed.specs.Follow.{Follow, IsPlannedOut}
 use Rattle.pfair_feed.specs.Laws.{WholeText}
 use Rattle.pfair_follow.specs.declared.fault.FollowFault.{FollowFault}
-use Rattle.pfair_follow.specs.Faults.{is_refused}
-use Rattle.pfair_follow.specs.Runs.{IsFed, IsFresh}
-use Rattle.pfair_follow.specs.States.{HasLeft, IsEndOfLeaving, IsNoneLeft, IsTextLeft}
+use Rattle.pfair_follow.specs.Runs.{is_refused, IsFed, IsFresh, HasLeft, IsEndOfLeaving, IsNoneLeft, IsTextLeft}
 use Rattle.pfair_follow.proofs.Ends.{reached_last}
 
 -- the next run of a finished dispatcher begins with what it left

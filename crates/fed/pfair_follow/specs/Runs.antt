@@ -1,20 +1,38 @@
 -- What a run that is fed comes to.
-use Rattle.std.specs.Prelude.{ℕ, zero, suc, Bool, true, false, ◌≡◌, ◌≤◌, ◌<◌, ◌⊎◌, ◌++◌, List, [], length, Option, None, Some}
+use Rattle.std.specs.Prelude.{ℕ, List, ◌≡◌, Ok, zero, suc, Bool, true, false, ◌≤◌, ◌<◌, ◌⊎◌, ◌++◌, [], length, Option, None, Some, IfSome}
+use Rattle.pfair_table.specs.Script.{LoggedRun, replica_of_logs}
+use Rattle.pfair_file.specs.Documents.{script_of_file}
+use Rattle.pfair_feed.specs.Laws.{entries_text, IsScript, text_of, HaveTheRows, rows_of}
 use Rattle.std.specs.Io.KnownBytes.{Appends, Consumes, IsAtEnd, Keeps}
-use Rattle.pfair_text.specs.Output.{TakesPrefix}
-use Rattle.pfair_text.specs.Rows.{line, lines_text}
-use Rattle.pfair_replica.specs.Replica.{Replica, empty_replica, frontier, has_torn}
+use Rattle.pfair_text.specs.Rows.{TakesPrefix, line, lines_text}
+use Rattle.pfair_replica.specs.Replica.{Replica, empty_replica, frontier, has_torn, said}
 use Rattle.pfair_table.specs.declared.script.TheConstants.Script.{LONGEST_LOG}
 use Rattle.pfair_table.specs.Events.{begin_at}
-use Rattle.pfair_table.specs.Refinement.{course_of}
-use Rattle.pfair_table.specs.Table.{Origin, Settings, plan, plan_decisions}
+use Rattle.pfair_table.specs.Refinement.{course_of, Dispatch, next_run_fault_number}
+use Rattle.pfair_table.specs.Table.{Origin, Settings, plan, plan_decisions, Carried}
 use Rattle.pfair_feed.specs.declared.output.Output.{Output}
-use Rattle.pfair_feed.specs.Follow.{Follow}
-use Rattle.pfair_feed.specs.RowLaws.{text_of}
-use Rattle.pfair_feed.specs.Rows.{header_of, rows_in}
+use Rattle.pfair_feed.specs.Follow.{Follow, header_of, rows_in}
 use Rattle.pfair_feed.specs.Feeding.{AreLines, AreTakenFrom, AreWelcome, IsFedTo, IsStopped}
 use Rattle.pfair_file.specs.declared.program_fault.ProgramFault.{ProgramFault}
-use Rattle.pfair_file.specs.declared.program_fault.ProgramFault.TheVariants.{Memory, Stalled, WriteFailed}
+use Rattle.pfair_file.specs.declared.program_fault.ProgramFault.TheVariants.{Memory, Stalled, WriteFailed, CommandLine}
+use Rattle.pfair_table.specs.Places.{settings_from}
+use Rattle.pfair_table.specs.NextRun.{IsNextRunFault, IsResumeFault, left_over}
+use Rattle.pfair_table.specs.declared.answer.NextRunFault.{NextRunFault}
+use Rattle.pfair_table.specs.declared.settings.TheConstants.Settings.{MAX_SLOTS}
+use Rattle.pfair_state.specs.Rows.{state_text}
+use Rattle.pfair_words.specs.declared.follow.Resumed.{Resumed}
+use Rattle.pfair_follow.specs.declared.fault.FollowFault.{FollowFault}
+use Rattle.pfair_follow.specs.declared.fault.FollowFault.TheVariants.{Program, NextRun, State}
+use Rattle.pfair_file.specs.ProgramFaults.{fault_number, fault_status, is_refusal}
+use Rattle.pfair_state.specs.Reading.{read_fault_number}
+use Rattle.pfair_state.specs.declared.fault.ReadFault.TheVariants as read
+use Rattle.pfair_table.specs.declared.answer.NextRunFault.TheVariants as next
+
+-- What is written of the entries of a task file.
+
+-- the bytes are those of a script, whose entries have rows, and P holds of these
+abbrev pub IsOutputOf : List ℕ → (List ℕ → Type 0) → Type 0
+IsOutputOf bytes P = (run : LoggedRun) × (script_of_file bytes ≡ Ok run) × IsScript run × P (entries_text run.logs)
 
 -- ---- followers
 
@@ -129,3 +147,100 @@ pub record HasReachedLast (f : Follow) (is_strict : Bool) (P : Replica → Type 
   pub welcome : is_strict ≡ true → AreWelcome f.dispatch.settings.processors LONGEST_LOG bytes rest
   pub written : Appends before after (text_from f.dispatch.origin f.output f.unwritten f.dispatch.settings replica)
   pub holds : P replica
+
+-- What comes of rows that are those of a script.
+
+-- The run is a first one, and the lines of these bytes have the rows of a script with its settings, in whatever order and however often each,
+-- and beside them only what brings nothing.
+pub record HasScript (f : Follow) (bytes : List ℕ) (script : LoggedRun) : Type 0 where
+  pub first : f.dispatch.origin ≡ None
+  pub is_script : IsScript script
+  pub settings_are : script.settings ≡ f.dispatch.settings
+  pub lines : List (List ℕ)
+  pub rest : List ℕ
+  pub are_lines : AreLines bytes lines rest
+  pub have_rows : HaveTheRows f.dispatch.settings.processors LONGEST_LOG (rows_of script.logs) lines
+
+-- the script settles all its slots, and its text was written: all of it, or its rows from a later slot on
+pub record IsScriptWritten (f : Follow) (script : LoggedRun) (before after : Option (List ℕ)) : Type 0 where
+  pub settled : script.settings.slots ≤ frontier (replica_of_logs script.logs)
+  pub written : Appends before after (text_from None f.output f.unwritten script.settings (replica_of_logs script.logs))
+
+-- the script settles only the slots below this one, which is one of its slots, and its text as far as these was written
+pub record IsScriptStalled (f : Follow) (slot : ℕ) (script : LoggedRun) (before after : Option (List ℕ)) : Type 0 where
+  pub slot_is : slot ≡ frontier (replica_of_logs script.logs)
+  pub short : slot < script.settings.slots
+  pub written : Appends before after (text_from None f.output f.unwritten script.settings (replica_of_logs script.logs))
+
+-- P holds of each script that the bytes have, which the reader had to give
+abbrev pub OfItsScript : Follow → (given : Option (List ℕ)) → (LoggedRun → Type 0) → Type 0
+OfItsScript f given P = IfSome given (λ bytes. (script : LoggedRun) → HasScript f bytes script → P script)
+
+-- A run that begins with a state, and the state that a run leaves.
+
+-- ---- a run that begins with a state
+
+-- so many slots can be asked for, and the state has the processors and the frame that are asked for, if any are
+pub record IsAskedOf (resumed : Resumed) (c : Carried) : Type 0 where
+  pub slots : (1 ≤ resumed.slots) × (resumed.slots ≤ MAX_SLOTS)
+  pub processors : IfSome resumed.processors (λ n. n ≡ c.machine.processors)
+  pub frame : IfSome resumed.frame (λ n. n ≡ c.machine.frame)
+
+-- a new follower of the run that begins with this state, which writes the rows from a slot on
+pub record IsLaterRun (resumed : Resumed) (output : Output) (from : ℕ) (c : Carried) (f : Follow) : Type 0 where
+  pub asked : IsAskedOf resumed c
+  pub fresh : IsFresh f
+  pub origin_is : f.dispatch.origin ≡ Some c
+  pub settings_are : f.dispatch.settings ≡ settings_from c resumed.slots
+  pub output_is : f.output ≡ output
+  pub unwritten_is : f.unwritten ≡ from
+
+-- why none begins with it
+abbrev pub IsNoLaterRun : Resumed → Carried → FollowFault → Type 0
+IsNoLaterRun resumed c (Program fault) = (fault ≡ CommandLine) × ¬ IsAskedOf resumed c
+IsNoLaterRun resumed c (NextRun fault) = IsAskedOf resumed c × IsResumeFault c resumed.slots fault
+IsNoLaterRun resumed c _ = ⊥
+
+-- ---- the state that a run leaves
+
+-- the text of the state that the run leaves whose logs have these contents
+abbrev pub IsTextLeft : Follow → List ℕ → Replica → Type 0
+IsTextLeft f text x = text ≡ state_text (left_over f.dispatch.origin f.dispatch.settings (said x) f.dispatch.settings.slots)
+
+-- the run has come to its last slot, its rows were written, and this is the text of the state that it leaves
+abbrev pub HasLeft : Follow → Bool → (given left before after : Option (List ℕ)) → List ℕ → Type 0
+HasLeft f is_strict given left before after text = HasReachedLast f is_strict (IsTextLeft f text) given left before after
+
+-- no run can follow, or an allocation failed
+abbrev pub IsNoneLeft : Dispatch → FollowFault → Type 0
+IsNoneLeft d fault = (fault ≡ Program Memory) ⊎ ((next : NextRunFault) × (fault ≡ NextRun next) × IsNextRunFault d 1 next)
+
+-- all rows were written, and then no state was left
+abbrev pub HasLeftNone : Follow → Bool → (given left before after : Option (List ℕ)) → FollowFault → Type 0
+HasLeftNone f is_strict given left before after fault = (g : Follow) × IsFed is_strict true f g given left before after × IsNoneLeft g.dispatch fault
+
+-- why no state was left
+abbrev pub IsEndOfLeaving : Follow → Bool → (given left before after : Option (List ℕ)) → FollowFault → Type 0
+IsEndOfLeaving f is_strict given left before after fault =
+    ((e : ProgramFault) × (fault ≡ Program e) × IsEndOf f given left before after e) ⊎ HasLeftNone f is_strict given left before after fault
+
+-- The numbers and the exit statuses of the faults of `pfair_follow`.
+
+abbrev pub follow_number : FollowFault → ℕ
+follow_number (Program fault) = fault_number fault
+follow_number (State fault) = read_fault_number fault
+follow_number (NextRun fault) = next_run_fault_number fault
+
+-- 4 an allocation failed, 2 a state was refused, 3 the run can't follow
+abbrev pub follow_status : FollowFault → ℕ
+follow_status (Program fault) = fault_status fault
+follow_status (State read.Memory) = 4
+follow_status (State fault) = 2
+follow_status (NextRun next.Memory) = 4
+follow_status (NextRun fault) = 3
+
+-- a fault of one row, behind which the input is read on
+abbrev pub is_refused : FollowFault → Bool
+is_refused (Program fault) = is_refusal fault
+is_refused (State fault) = false
+is_refused (NextRun fault) = false

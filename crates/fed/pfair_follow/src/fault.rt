@@ -1,6 +1,6 @@
 //! Why `pfair_follow` did not succeed.
 ghost use Rattle.std.specs.Prelude.{◌≡◌};
-ghost use Rattle.pfair_follow.specs.Faults.{follow_number, follow_status, is_refused};
+ghost use Rattle.pfair_follow.specs.Runs.{follow_number, follow_status, is_refused};
 
 use pfair_file::{ProgramFault, write_line};
 use pfair_state::ReadFault;

@@ -1,17 +1,12 @@
 //! What the commands write: the entries of a task file, and rows of a run that is fed by a reader.
 ghost use Rattle.std.specs.Prelude.{ℕ, true, false, ◌≡◌, ◌≢◌, ◌⊎◌, ◌<◌, ◌≤◌, IfErr, IfOk, IsErrOf, OnOk, length};
 ghost use Rattle.std.specs.Io.KnownBytes.{Appends, Keeps};
-ghost use Rattle.pfair_text.specs.Output.{TakesPrefix};
+ghost use Rattle.pfair_text.specs.Rows.{TakesPrefix};
 ghost use Rattle.pfair_feed.specs.Feeding.{IsCaughtUp};
-ghost use Rattle.pfair_file.specs.ProgramFaults.{is_refusal};
+ghost use Rattle.pfair_file.specs.ProgramFaults.{is_refusal, IsCommandOf};
 ghost use Rattle.pfair_file.specs.declared.program_fault.ProgramFault.TheVariants.{Memory, Stalled, WriteFailed};
-ghost use Rattle.pfair_follow.specs.Faults.{is_refused};
-ghost use Rattle.pfair_follow.specs.Runs.{AreTakenAll, IsEndOf, IsFollowed, IsFresh, IsSettled, head_from, IsFed, IsFedEndOf};
-ghost use Rattle.pfair_follow.specs.Scripts.{IsScriptStalled, IsScriptWritten, OfItsScript};
-ghost use Rattle.pfair_follow.specs.States.{HasLeft, IsEndOfLeaving};
-ghost use Rattle.pfair_file.specs.Commands.{IsCommandOf};
-ghost use Rattle.pfair_file.specs.Schedules.{IsRefusalOf};
-ghost use Rattle.pfair_follow.specs.Entries.{IsOutputOf};
+ghost use Rattle.pfair_follow.specs.Runs.{is_refused, AreTakenAll, IsEndOf, IsFollowed, IsFresh, IsSettled, head_from, IsFed, IsFedEndOf, IsScriptStalled, IsScriptWritten, OfItsScript, HasLeft, IsEndOfLeaving, IsOutputOf};
+ghost use Rattle.pfair_file.specs.Documents.{IsRefusalOf};
 
 use crate::fault::FollowFault;
 use crate::state::left_text;

@@ -6,7 +6,7 @@ ghost use Rattle.pfair_state.specs.Reading.{IsWritable};
 ghost use Rattle.pfair_state.specs.Rows.{state_text};
 ghost use Rattle.pfair_state.specs.declared.fault.ReadFault.{ReadFault};
 ghost use Rattle.pfair_state.specs.declared.fault.ReadFault.TheVariants.{Memory};
-ghost use Rattle.pfair_follow.specs.States.{IsAskedOf, IsLaterRun, IsNoLaterRun, IsNoneLeft};
+ghost use Rattle.pfair_follow.specs.Runs.{IsAskedOf, IsLaterRun, IsNoLaterRun, IsNoneLeft};
 ghost use Rattle.pfair_file.specs.declared.program_fault.ProgramFault.TheVariants.{Memory as OutOfMemory};
 ghost use Rattle.pfair_follow.specs.declared.fault.FollowFault.TheVariants.{Program, State as StateFault};
 

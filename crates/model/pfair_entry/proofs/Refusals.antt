@@ -1,14 +1,12 @@
 -- The first fault of a name and of a weight is the one of which their clauses speak, and what a log may have has none.
 use Rattle.std.proofs.Common.{ℕ, zero, suc, add-zero, zero-add, subst, List, [], ◌∷◌, Option, None, Some, Bool, true, false, ◌≡◌, ◌∙◌, ◌+◌, ◌<◌, length, refl, sym, ap, arith, slice_index, nat_lt, ◌==◌, option_and_then}
 use Rattle.std.proofs.lemmas.Bool.Decides.{nat_tests}
-use Rattle.pfair_weight.specs.Name.{may_stand, IsTaskName}
-use Rattle.pfair_weight.specs.NameFault.{IsFaultOf as IsNameFaultOf}
-use Rattle.pfair_weight.specs.WeightFault.{IsFaultOf as IsWeightFaultOf}
+use Rattle.pfair_weight.specs.Name.{may_stand, IsTaskName, IsFaultOf as IsNameFaultOf}
+use Rattle.pfair_weight.specs.Window.{IsFaultOf as IsWeightFaultOf}
 use Rattle.pfair_weight.specs.declared.name.NameFault.{NameFault}
 use Rattle.pfair_weight.specs.declared.name.NameFault.TheVariants as name
 use Rattle.pfair_weight.specs.declared.weight.WeightFault.{WeightFault}
-use Rattle.pfair_entry.specs.Entry.{Logged, IsEntry, IsWeighed}
-use Rattle.pfair_entry.specs.EntryFault.{entry_fault}
+use Rattle.pfair_entry.specs.Entry.{Logged, IsEntry, IsWeighed, entry_fault}
 use Rattle.pfair_entry.specs.Notice.{announced_fault, first_failing, name_fault, refusal, weight_fault, IsLoggable, IsNamed, IsWellSaid}
 use Rattle.pfair_entry.specs.declared.entry.Announcement.{Announcement}
 use Rattle.pfair_entry.specs.declared.entry.EntryFault.{EntryFault}

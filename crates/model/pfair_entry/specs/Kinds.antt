@@ -1,11 +1,17 @@
 -- The kinds of announcements: their names, and the fields of each.
-use Rattle.std.specs.Prelude.{ℕ, List, Option, None, Some, bytes_eq, codes, if◌then◌else◌, Result, Ok}
-use Rattle.pfair_entry.specs.Results.{and_then}
+use Rattle.std.specs.Prelude.{Result, Ok, Err, ℕ, List, Option, None, Some, bytes_eq, codes, if◌then◌else◌}
 use Rattle.pfair_entry.specs.declared.notice.ChangeFields.{ChangeFields}
 use Rattle.pfair_entry.specs.declared.notice.Kind.{Kind}
 use Rattle.pfair_entry.specs.declared.notice.Kind.TheVariants.{Arrive, Depart, Late}
 use Rattle.pfair_entry.specs.declared.notice.Change.{Change}
 use Rattle.pfair_entry.specs.declared.notice.Change.TheVariants as change
+
+-- Steps that may fail, one after the other.
+
+-- `r.and_then(f)`
+abbrev pub and_then : {A B E : Type 0} → (A → Result B E) → Result A E → Result B E
+and_then f (Ok x) = f x
+and_then f (Err e) = Err e
 
 abbrev pub kind_name : Kind → List ℕ
 kind_name Arrive = codes "arrive"

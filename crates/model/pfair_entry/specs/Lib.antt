@@ -1,9 +1,4 @@
 pub mod Entry
-pub mod EntryFault
-pub mod Exact
 pub mod Kinds
-pub mod Names
 pub mod Notice
-pub mod Results
-pub mod Same
 pub mod Writer

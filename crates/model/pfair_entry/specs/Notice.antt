@@ -1,17 +1,14 @@
 -- Entries before they are checked, and the first rule that refuses one: of names, of weights, of entries.
 use Rattle.std.specs.Prelude.{ℕ, suc, ◌==◌, nat_lt, if◌then◌else◌, Bool, List, [], ◌∷◌, length, Option, None, Some, option_map, option_and_then, Result, Ok, Err, IfSome}
 use Rattle.std.specs.Option.{option_or, option_map_or}
-use Rattle.pfair_weight.specs.Name.{may_stand, IsTaskName}
-use Rattle.pfair_weight.specs.NameFault.{name_fault_number}
-use Rattle.pfair_weight.specs.WeightFault.{weight_fault_number}
+use Rattle.pfair_weight.specs.Name.{may_stand, IsTaskName, name_fault_number}
+use Rattle.pfair_weight.specs.Window.{weight_fault_number}
 use Rattle.pfair_weight.specs.declared.name.NameFault.{NameFault}
 use Rattle.pfair_weight.specs.declared.name.NameFault.TheVariants as name
 use Rattle.pfair_weight.specs.declared.weight.TheConstants.Weight.{MAX_PERIOD}
 use Rattle.pfair_weight.specs.declared.weight.WeightFault.{WeightFault}
 use Rattle.pfair_weight.specs.declared.weight.WeightFault.TheVariants as weight
-use Rattle.pfair_entry.specs.Entry.{Logged, IsEntry, IsWeighed}
-use Rattle.pfair_entry.specs.EntryFault.{entry_fault, entry_fault_number}
-use Rattle.pfair_entry.specs.Names.{name_of}
+use Rattle.pfair_entry.specs.Entry.{Logged, IsEntry, IsWeighed, entry_fault, entry_fault_number, name_of}
 use Rattle.pfair_entry.specs.declared.entry.Announcement.{Announcement}
 use Rattle.pfair_entry.specs.declared.entry.Announcement.TheVariants as said
 use Rattle.pfair_entry.specs.declared.notice.Change.{Change}

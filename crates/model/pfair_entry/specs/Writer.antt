@@ -2,8 +2,7 @@
 use Rattle.std.specs.Prelude.{ℕ, ◌≡◌, ◌+◌, ◌<◌, ◌≤◌, List, [], ◌∷◌, length, slice_get, Some, AllPairs}
 use Rattle.pfair_entry.specs.declared.writer.NoteFault.{NoteFault}
 use Rattle.pfair_entry.specs.declared.writer.NoteFault.TheVariants.{LogFull, FloorFell, Refused}
-use Rattle.pfair_entry.specs.Entry.{Logged, IsEntry}
-use Rattle.pfair_entry.specs.EntryFault.{entry_fault, entry_fault_number}
+use Rattle.pfair_entry.specs.Entry.{Logged, IsEntry, entry_fault, entry_fault_number}
 
 -- a log with room for so many entries, of which so many are written, the last with that floor (0 if there is none)
 pub record Written : Type 0 where

@@ -1,8 +1,6 @@
 //! What processors announce of tasks, and the entries of their logs.
 ghost use Rattle.std.specs.Prelude.{◌≡◌, Some, IfOk, IfErr};
-ghost use Rattle.pfair_entry.specs.Names.{name_of};
-ghost use Rattle.pfair_entry.specs.Entry.{IsEntry};
-ghost use Rattle.pfair_entry.specs.EntryFault.{entry_fault, entry_fault_number};
+ghost use Rattle.pfair_entry.specs.Entry.{name_of, IsEntry, entry_fault, entry_fault_number};
 
 use pfair_lattice::Exact;
 use pfair_weight::{TaskName, Weight};

@@ -6,7 +6,7 @@ use crate::entry::Entry;
 use pfair_weight::TaskName;
 
 /// `==` of names holds of names with the same bytes, and of no others.
-#[tactic(auto, using(crate::specs::Exact::names_exact))]
+#[tactic(auto, using(crate::specs::Entry::names_exact))]
 pub fn names_are_told_apart()
     ensures { IsExact ⟦<TaskName as PartialEq>⟧.eq }
 {}

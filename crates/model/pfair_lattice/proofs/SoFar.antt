@@ -9,8 +9,7 @@ use Rattle.std.proofs.lemmas.Map.{lookup-none}
 use Rattle.std.proofs.lemmas.Map.Keys.{sorted_tail, IsDistinct-from_sorted}
 use Rattle.std.proofs.lemmas.Map.Entries.{none_past_head}
 use Rattle.std.proofs.lemmas.Map.Lookups.{CmpEqualImpliesEq}
-use Rattle.pfair_lattice.specs.Order.{IsOrder, IsJoin}
-use Rattle.pfair_lattice.specs.Option.{OptionBelow, OptionJoins, OptionOutgrows}
+use Rattle.pfair_lattice.specs.Order.{IsOrder, IsJoin, OptionBelow, OptionJoins, OptionOutgrows}
 use Rattle.pfair_lattice.specs.Entries.{IsOrdered, get, MapBelow, MapJoins, MapOutgrows, covers, entries_from_get}
 use Rattle.pfair_lattice.proofs.AtKey.{by_key, head_at, tail_at}
 

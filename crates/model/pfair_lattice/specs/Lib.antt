@@ -1,9 +1,5 @@
 pub mod Entries
-pub mod Flat
 pub mod Held
-pub mod HeldLaws
 pub mod Laws
 pub mod Lent
-pub mod Option
 pub mod Order
-pub mod SameEntries

@@ -1,6 +1,6 @@
 -- Orders and joins.
-use Rattle.std.specs.Prelude.{◌≡◌, ◌↔◌}
-use Rattle.std.proofs.Common.{subst}
+use Rattle.std.specs.Prelude.{◌≡◌, ◌↔◌, ◌⊎◌, refl, Option, None, Some}
+use Rattle.std.proofs.Common.{subst, sym, ap, ⊎_elim}
 
 -- `below` is an order
 pub record IsOrder {X : Type 0} (below : X → X → Type 0) : Type 0 where
@@ -97,3 +97,107 @@ module _ {X : Type 0} {below : X → X → Type 0} where
               let e : z ≡ d = l.order.antisymmetric z d h'.above_first (h'.least z (l.order.reflexive z) p'.above_second) in
               subst (λ (v : X). joins x y v) e p;
         }
+
+-- What two maps hold at one key, compared and joined.
+
+-- what is there on the left is there on the right, and below
+abbrev pub OptionBelow : {X : Type 0} → (X → X → Type 0) → Option X → Option X → Type 0
+OptionBelow below None b = Unit {0}
+OptionBelow below (Some v) None = ⊥
+OptionBelow below (Some v) (Some w) = below v w
+
+-- what either side has, and their join if both do
+abbrev pub OptionJoins : {X : Type 0} → (X → X → X → Type 0) → Option X → Option X → Option X → Type 0
+OptionJoins joins None b c = c ≡ b
+OptionJoins joins (Some v) None c = c ≡ Some v
+OptionJoins joins (Some v) (Some w) None = ⊥
+OptionJoins joins (Some v) (Some w) (Some u) = joins v w u
+
+-- all three are there, and R holds of them
+abbrev pub OptionAll : {X : Type 0} → (X → X → X → Type 0) → Option X → Option X → Option X → Type 0
+OptionAll R None b c = ⊥
+OptionAll R (Some v) None c = ⊥
+OptionAll R (Some v) (Some w) None = ⊥
+OptionAll R (Some v) (Some w) (Some u) = R v w u
+
+-- as it was, or joined, or partly joined if both sides have something
+abbrev pub OptionPartly : {X : Type 0} → (X → X → X → Type 0) → (X → X → X → Type 0) → Option X → Option X → Option X → Type 0
+OptionPartly joins partly a b c = (c ≡ a) ⊎ (OptionJoins joins a b c ⊎ OptionAll partly a b c)
+
+-- what is there on the right is missing on the left, or has no place in what is there
+abbrev pub OptionOutgrows : {X : Type 0} → (X → X → Type 0) → Option X → Option X → Type 0
+OptionOutgrows outgrows a None = ⊥
+OptionOutgrows outgrows None (Some w) = Unit {0}
+OptionOutgrows outgrows (Some v) (Some w) = outgrows v w
+
+module _ {X : Type 0} {below : X → X → Type 0} where
+  option_refl : IsOrder below → (a : Option X) → OptionBelow below a a
+  option_refl o None = tt
+  option_refl o (Some v) = o.reflexive v
+
+  option_trans : IsOrder below → (a b c : Option X) → OptionBelow below a b → OptionBelow below b c → OptionBelow below a c
+  option_trans o None b c p q = tt
+  option_trans o (Some u) None c p q = absurd p
+  option_trans o (Some u) (Some v) None p q = absurd q
+  option_trans o (Some u) (Some v) (Some w) p q = o.transitive u v w p q
+
+  option_antisymm : IsOrder below → (a b : Option X) → OptionBelow below a b → OptionBelow below b a → a ≡ b
+  option_antisymm o None None p q = refl
+  option_antisymm o None (Some w) p q = absurd q
+  option_antisymm o (Some v) None p q = absurd p
+  option_antisymm o (Some v) (Some w) p q = ap Some (o.antisymmetric v w p q)
+
+  pub option_order : IsOrder below → IsOrder (OptionBelow below)
+  option_order o = record { reflexive = option_refl o; transitive = option_trans o; antisymmetric = option_antisymm o }
+
+  module _ {joins : X → X → X → Type 0} where
+    option_least : IsJoin below joins → (a b c : Option X) → OptionJoins joins a b c → IsLeastUpperBound (OptionBelow below) a b c
+    option_least l None b c j = record {
+      above_first = tt;
+      above_second = subst (λ (d : Option X). OptionBelow below b d) (sym j) (option_refl l.order b);
+      least = λ w p q. subst (λ (d : Option X). OptionBelow below d w) (sym j) q;
+    }
+    option_least l (Some v) None c j = record {
+      above_first = subst (λ (d : Option X). OptionBelow below (Some v) d) (sym j) (l.order.reflexive v);
+      above_second = tt;
+      least = λ w p q. subst (λ (d : Option X). OptionBelow below d w) (sym j) p;
+    }
+    option_least l (Some v) (Some w) None j = absurd j
+    option_least l (Some v) (Some w) (Some u) j =
+        let p = l.least v w u j in
+        record {
+          above_first = p.above_first;
+          above_second = p.above_second;
+          least = elim [
+            | None ↦ (λ h k. absurd h)
+            | Some z ↦ (λ h k. p.least z h k)
+          ];
+        }
+
+    pub option_join : IsJoin below joins → IsJoin (OptionBelow below) (OptionJoins joins)
+    option_join l = record { order = option_order l.order; least = option_least l }
+
+    module _ {partly : X → X → X → Type 0} (l : IsJoin below joins) (resumes : (x y z : X) → partly x y z → IsPartlyJoined below joins x y z) where
+      all_partly : (a b c : Option X) → OptionAll partly a b c → IsPartlyJoined (OptionBelow below) (OptionJoins joins) a b c
+      all_partly None b c h = absurd h
+      all_partly (Some v) None c h = absurd h
+      all_partly (Some v) (Some w) None h = absurd h
+      all_partly (Some v) (Some w) (Some u) h =
+          let p = resumes v w u h in
+          record {
+            kept = p.kept;
+            within = elim [
+              | None ↦ (λ f k. absurd f)
+              | Some z ↦ (λ f k. p.within z f k)
+            ];
+            again = elim [
+              | None ↦ (λ f. absurd f)
+              | Some z ↦ (λ f. p.again z f)
+            ];
+          }
+
+      pub option_resumes : (a b c : Option X) → OptionPartly joins partly a b c → IsPartlyJoined (OptionBelow below) (OptionJoins joins) a b c
+      option_resumes a b c h = ⊎_elim
+          (λ e. subst (λ (d : Option X). IsPartlyJoined (OptionBelow below) (OptionJoins joins) a b d) (sym e) (partly_none (option_join l) a b))
+          (λ k. ⊎_elim (λ j. partly_all (option_join l) a b c j) (λ q. all_partly a b c q) k)
+          h

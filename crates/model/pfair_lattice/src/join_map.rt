@@ -6,7 +6,7 @@ ghost use Rattle.std.specs.Borrow.{sem};
 ghost use Rattle.pfair_lattice.specs.Lent.{LendsValue};
 ghost use Rattle.std.specs.Ordering.{eq_by_cmp};
 ghost use Rattle.pfair_lattice.specs.Entries.{IsOrdered, get, MapBelow, MapJoins, MapPartly, MapOutgrows};
-ghost use Rattle.pfair_lattice.specs.Option.{OptionBelow, OptionOutgrows};
+ghost use Rattle.pfair_lattice.specs.Order.{OptionBelow, OptionOutgrows};
 ghost use Rattle.pfair_lattice.specs.Laws.{map_order, map_least, map_resumes, exact_cmp};
 
 use crate::join::{Exact, Join};
@@ -27,7 +27,7 @@ pub enum Flat<T: Exact> {
 }
 
 impl<T: Exact> Join for Flat<T> {
-    ghost use Rattle.pfair_lattice.specs.Flat.{FlatBelow, FlatJoins, flat_order, flat_least};
+    ghost use Rattle.pfair_lattice.specs.Held.{FlatBelow, FlatJoins, flat_order, flat_least};
 
     ghost below = { FlatBelow };
 

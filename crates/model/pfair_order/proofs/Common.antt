@@ -1,6 +1,5 @@
 -- The names that many of these proofs cite, passed on from one place. Declares nothing.
-pub use Rattle.pfair_order.specs.Order.{GoesBefore, earlier_deadline, greater_b_bit, later_group, pd2_cmp, smaller_group, smaller_name, tie_group_of}
-pub use Rattle.pfair_order.specs.Rank.{AreFirst, EachOnce, first_by_rank, of_rank, rank}
+pub use Rattle.pfair_order.specs.Order.{GoesBefore, earlier_deadline, greater_b_bit, later_group, pd2_cmp, smaller_group, smaller_name, tie_group_of, AreFirst, EachOnce, first_by_rank, of_rank, rank}
 pub use Rattle.pfair_order.specs.declared.Key.{Key}
 pub use Rattle.std.proofs.Common.{◌≡◌, sym, ◌∙◌, arith, ℕ, ◌<◌, List, refl, [], ◌∷◌, ap, suc, ◌+◌, ◌≤◌, inl, inr, true, false, cond, length, subst, zero, Bool, ◌++◌, Some, ◌⊎◌, take, get_or, ◌≢◌}
 pub use Rattle.std.proofs.lemmas.Bool.{cases_lt, cases_order, eq-eqb, eqb-true, false_from_ne_true, leb-false, leb-true, true≢false}

@@ -1,7 +1,7 @@
 -- The composed order of keys is the order by what differs first.
 use Rattle.pfair_order.proofs.Common.{Ordering, Less, Equal, nat_cmp, ordering_then, slice_cmp, Key, pd2_cmp, tie_group_of, GoesBefore, earlier_deadline, greater_b_bit, later_group, smaller_name, smaller_group, ◌≡◌, ◌≢◌, ℕ, ◌<◌, List, arith, sym, ◌∙◌, ◌⊎◌}
 use Rattle.std.proofs.lemmas.Bool.Decides.{nat_tests}
-use Rattle.pfair_weight.specs.NameFacts.{tied_names}
+use Rattle.pfair_weight.specs.Name.{tied_names}
 
 nat_equal : (x y : ℕ) → nat_cmp x y ≡ Equal → x ≡ y
 nat_equal x y h = grind (arith, nat_tests)

@@ -4,8 +4,7 @@ ghost use Rattle.std.specs.Prelude.{◌≡◌, ◌≤◌, ◌⊎◌, ◌↔◌, 
 ghost use Rattle.std.specs.declared.cmp.Ordering.TheVariants.{Less, Equal};
 ghost use Rattle.pfair_weight.specs.Name.{NamesApart};
 ghost use Rattle.pfair_order.specs.declared.Key.{Key};
-ghost use Rattle.pfair_order.specs.Order.{pd2_cmp, GoesBefore};
-ghost use Rattle.pfair_order.specs.Rank.{first_by_rank, AreFirst, EachOnce};
+ghost use Rattle.pfair_order.specs.Order.{pd2_cmp, GoesBefore, first_by_rank, AreFirst, EachOnce};
 
 /// What `cmp` computes of two keys is the order: `Less` for what goes before, `Equal` for equal
 /// keys.

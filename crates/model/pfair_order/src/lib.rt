@@ -13,8 +13,7 @@ ghost use Rattle.std.specs.Cmp.{partial_order_from_own_ties};
 ghost use Rattle.std.specs.Cmp.Rules.{comparing};
 ghost use Rattle.std.specs.Ordering.{as_partial_cmp};
 ghost use Rattle.std.specs.declared.cmp.Ordering.TheVariants.{Less, Equal};
-ghost use Rattle.pfair_weight.specs.Share.{IsWeight};
-ghost use Rattle.pfair_weight.specs.Window.{deadline_of, b_bit_of, group_deadline_of};
+ghost use Rattle.pfair_weight.specs.Window.{IsWeight, deadline_of, b_bit_of, group_deadline_of};
 ghost use Rattle.pfair_order.specs.Order.{pd2_cmp, tie_group_of, GoesBefore};
 
 pub mod laws;

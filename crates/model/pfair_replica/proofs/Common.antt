@@ -1,23 +1,14 @@
 -- The names that many of these proofs cite, passed on from one place. Declares nothing.
-pub use Rattle.pfair_entry.specs.Entry.{IsEntry, IsStamped, Logged}
-pub use Rattle.pfair_entry.specs.Exact.{entry_exact}
-pub use Rattle.pfair_entry.specs.Same.{entry_eq}
+pub use Rattle.pfair_entry.specs.Entry.{IsEntry, IsStamped, Logged, entry_exact, entry_eq}
 pub use Rattle.pfair_entry.specs.declared.entry.Announcement.{Announcement}
 pub use Rattle.pfair_entry.specs.declared.entry.Said.{Said}
 pub use Rattle.pfair_lattice.specs.Entries.{IsOrdered, MapBelow, MapJoins, MapOutgrows, MapPartly, get}
-pub use Rattle.pfair_lattice.specs.Flat.{FlatJoins}
-pub use Rattle.pfair_lattice.specs.Held.{Held, HeldBelow, held_join}
-pub use Rattle.pfair_lattice.specs.HeldLaws.{below_antisym, below_held, below_itself, below_trans, held_below, join_assoc, join_comm, join_first, join_idem, join_least, join_second, joins_held, none_below}
+pub use Rattle.pfair_lattice.specs.Held.{FlatJoins, Held, HeldBelow, held_join, below_antisym, below_held, below_itself, below_trans, held_below, join_assoc, join_comm, join_first, join_idem, join_least, join_second, joins_held, none_below}
 pub use Rattle.pfair_lattice.specs.declared.join_map.Flat.{Flat}
 pub use Rattle.pfair_lattice.specs.declared.join_map.Flat.TheVariants.{One, Torn}
-pub use Rattle.pfair_replica.specs.Agenda.{said_at}
-pub use Rattle.pfair_replica.specs.Among.{Among, among_append, among_at, among_below, among_contains, among_filter, among_flat, among_left, among_map, among_right, below_among, contains_among, filter_among, flat_among, flat_same, map_among}
-pub use Rattle.pfair_replica.specs.Counters.{AreCounters, ComesFirst, IsEarlier, IsFirst, IsFirstTornIn, IsLeftAt, IsPart, IsRunBefore, IsTornAt, WereApart, WereBefore, beginning_in, first_mark, least_mark, total_count}
-pub use Rattle.pfair_replica.specs.HeldAfter.{join_none}
-pub use Rattle.pfair_replica.specs.Key.{EntryKey}
-pub use Rattle.pfair_replica.specs.Laws.{BeginningsGrow, IsAgreement, IsLeastJoin, IsLeastMark, IsListed, IsLongestRun, IsReadByNumber, IsRun, OfferedStays}
-pub use Rattle.pfair_replica.specs.Replica.{Agree, Below, Contents, IsLeastMissing, IsReplica, Replica, Untorn, contents_join, entry_key, fallen_at, fallen_in, fallen_keys, frontier, goes_on, has_torn, is_torn, join, last_floor, mark, missing, numbers_below, numbers_to, only, run_from, said, said_behind, said_by, said_in, sound_beginning, sound_total, torn_in, torn_keys, torn_to, with_entry}
-pub use Rattle.pfair_replica.specs.ReplicaRows.{AreEmptyRows, IsFull, IsKnownByHeld, IsReplicaRows, IsShape, Row, held, held_in, replica_of}
+pub use Rattle.pfair_replica.specs.Counters.{said_at, AreCounters, ComesFirst, IsEarlier, IsFirst, IsFirstTornIn, IsLeftAt, IsPart, IsRunBefore, IsTornAt, WereApart, WereBefore, beginning_in, first_mark, least_mark, total_count}
+pub use Rattle.pfair_replica.specs.Laws.{Among, among_append, among_at, among_below, among_contains, among_filter, among_flat, among_left, among_map, among_right, below_among, contains_among, filter_among, flat_among, flat_same, map_among, join_none, BeginningsGrow, IsAgreement, IsLeastJoin, IsLeastMark, IsListed, IsLongestRun, IsReadByNumber, IsRun, OfferedStays}
+pub use Rattle.pfair_replica.specs.Replica.{EntryKey, Agree, Below, Contents, IsLeastMissing, IsReplica, Replica, Untorn, contents_join, entry_key, fallen_at, fallen_in, fallen_keys, frontier, goes_on, has_torn, is_torn, join, last_floor, mark, missing, numbers_below, numbers_to, only, run_from, said, said_behind, said_by, said_in, sound_beginning, sound_total, torn_in, torn_keys, torn_to, with_entry, AreEmptyRows, IsFull, IsKnownByHeld, IsReplicaRows, IsShape, Row, held, held_in, replica_of}
 pub use Rattle.pfair_replica.specs.declared.rows.Beginning.{Beginning}
 pub use Rattle.std.proofs.Common.{◌≡◌, arith, ◌∙◌, ℕ, ap, Some, sym, refl, subst, ◌+◌, ◌≤◌, List, ◌<◌, [], length, None, inr, suc, ◌∷◌, zero, ◌++◌, ⊎_elim, inl, Option, slice_get, true, ◌≢◌, ◌⊎◌, map, cond, Bool, flat_map, find, ◌-◌, min, fold, false, IsSomeAnd, rules, ◌==◌, replicate, filter, IsSome, Result, OnErr, ◌↔◌, is_some, append_assoc, take, is_none}
 pub use Rattle.std.proofs.Math.Numerals.{add-one}

@@ -3,8 +3,8 @@ use Rattle.std.proofs.Common.{IsTrue, nat_eq}
 use Rattle.pfair_replica.proofs.Common.{common_steps, option_and_then, eqb-true, eq-eqb, cases_lt, nat_cmp, is_eq, get, IsOrdered, MapBelow, MapOutgrows, IsFull, Row, held_in, Held, HeldBelow, Flat, below_itself, none_below, below_held, held_below, Logged, arith, ◌≡◌, refl, sym, ap, subst, ⊎_elim, inl, inr, ◌∙◌, Bool, ◌↔◌, ◌≢◌, ℕ, Option, None, Some, List, [], ◌∷◌, length, is_at, nat_cmp_total}
 use Rattle.std.specs.Cmp.{tied_itself}
 use Rattle.std.proofs.lemmas.Map.Entries.{lookup_head}
-use Rattle.pfair_lattice.specs.Flat.{FlatBelow}
-use Rattle.pfair_lattice.specs.Option.{OptionOutgrows}
+use Rattle.pfair_lattice.specs.Held.{FlatBelow}
+use Rattle.pfair_lattice.specs.Order.{OptionOutgrows}
 
 module _ (v w : Row) where
   pub row_below : MapBelow nat_cmp FlatBelow v w → (n : ℕ) → HeldBelow (get nat_cmp v n) (get nat_cmp w n)

@@ -1,7 +1,7 @@
 -- Counters that follow what comes into the rows.
 use Rattle.std.proofs.Common.{set}
 use Rattle.pfair_replica.proofs.Common.{cases_eq, eq-eqb, ne_eqb, length-set, get_or-set_other, length-replicate, get_or-replicate, get_or-set_at, slice_get_within, slice_get-get_or, get_or_from_slice_get, Flat, Torn, Held, HeldBelow, held_join, below_itself, Logged, entry_eq, Beginning, EntryKey, Contents, Replica, IsReplica, sound_beginning, mark, entry_key, only, beginning_in, IsLeftAt, IsTornAt, IsFirstTornIn, IsEarlier, AreCounters, WereBefore, WereApart, ℕ, ◌+◌, ◌<◌, ◌≤◌, ◌≡◌, refl, sym, ap, ◌∙◌, subst, arith, inr, ⊎_elim, cond, List, length, Option, Some, None, ◌⊎◌, ◌≢◌, ◌==◌, slice_get, replicate, join_none}
-use Rattle.pfair_replica.specs.HeldAfter.{held_after}
+use Rattle.pfair_replica.specs.Laws.{held_after}
 use Rattle.pfair_replica.proofs.Runs.{run_room}
 use Rattle.pfair_replica.proofs.Beginnings.{left_at}
 use Rattle.pfair_replica.proofs.Merging.{Between, between_below}

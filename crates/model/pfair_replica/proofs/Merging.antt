@@ -1,7 +1,7 @@
 -- Rows joined, and what stays true of what they hold.
 use Rattle.std.proofs.Common.{OnOk}
 use Rattle.pfair_replica.proofs.Common.{nat_cmp, option_and_then, eqb-true, get, MapJoins, MapPartly, Held, held_join, HeldBelow, Flat, One, joins_held, below_itself, join_first, join_assoc, join_idem, Logged, IsEntry, entry_eq, entry_exact, Contents, Replica, IsReplica, only, Row, held_in, IsFull, IsReplicaRows, ◌≡◌, inr, ⊎_elim, arith, ◌⊎◌, ◌<◌, ◌≤◌, ℕ, Option, Some, List, Result, OnErr, FlatJoins, join_none}
-use Rattle.pfair_lattice.specs.Option.{OptionJoins, OptionPartly}
+use Rattle.pfair_lattice.specs.Order.{OptionJoins, OptionPartly}
 use Rattle.pfair_replica.specs.Faults.{IsPartlyMerged}
 
 abbrev in_row : Option Row → ℕ → Held Logged

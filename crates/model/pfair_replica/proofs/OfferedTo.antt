@@ -1,7 +1,7 @@
 -- The contents after an entry or a replica was offered.
 use Rattle.std.proofs.Common.{◌&&◌, nat_lt, nat_le}
 use Rattle.pfair_replica.proofs.Common.{eqb-true, ltb-true, leb-true, and_parts, join_first, below_itself, Logged, IsEntry, entry_exact, Replica, IsReplica, Below, contents_join, only, join, with_entry, OfferedStays, ℕ, ◌≡◌, refl, subst, sym, inr, Bool, true, false, cond, arith, ◌==◌}
-use Rattle.pfair_replica.specs.Offered.{has_key, has_shape, taken, absorbed}
+use Rattle.pfair_replica.specs.Replica.{has_key, has_shape, taken, absorbed}
 use Rattle.pfair_replica.proofs.Merging.{replica_taken, replica_between}
 
 above : (x z : Replica) → Below x z → (b : Bool) → Below x (cond b z x)

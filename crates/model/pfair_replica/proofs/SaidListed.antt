@@ -1,7 +1,7 @@
 -- What the lists of what is said contain, and in which order the lists stand.
 use Rattle.std.proofs.Common.{get_or, AllPairs}
 use Rattle.pfair_replica.proofs.Common.{eqb-true, eq-eqb, map-append, Held, Logged, EntryKey, Replica, sound_beginning, numbers_below, numbers_to, said_by, said_in, said, is_torn, entry_key, torn_in, torn_keys, fallen_at, fallen_in, fallen_keys, mark, Among, among_left, among_right, among_append, among_at, among_contains, contains_among, among_filter, among_map, among_flat, flat_among, below_among, among_below, ℕ, zero, suc, ◌+◌, ◌≡◌, refl, ap, ◌∙◌, subst, arith, inr, ⊎_elim, Bool, List, [], ◌∷◌, ◌++◌, length, Some, map, filter, flat_map, slice_get, Option, Contains, Announcement, Said}
-use Rattle.pfair_replica.specs.SaidAt.{IsSaidAt, ComesBefore, key_of, IsSaid}
+use Rattle.pfair_replica.specs.Replica.{IsSaidAt, ComesBefore, key_of, IsSaid}
 use Rattle.pfair_replica.proofs.TornKeys.{flat_more}
 use Rattle.pfair_replica.proofs.Listed.{fallen_one}
 

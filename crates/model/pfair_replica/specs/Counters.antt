@@ -1,13 +1,24 @@
 -- What a replica keeps beside its rows: how far each sound beginning goes, and the first torn key.
-use Rattle.std.specs.Prelude.{ℕ, ◌≡◌, ◌≢◌, ◌<◌, ◌≤◌, ◌+◌, ◌⊎◌, min, List, [], ◌∷◌, fold, sum_by, length, slice_get, Option, Some, None, IsSomeAnd}
+use Rattle.std.specs.Prelude.{ℕ, List, [], ◌∷◌, Option, Some, None, ◌≡◌, ◌++◌, ◌≢◌, ◌<◌, ◌≤◌, ◌+◌, ◌⊎◌, min, fold, sum_by, length, slice_get, IsSomeAnd}
+use Rattle.pfair_entry.specs.declared.entry.Said.{Said}
+use Rattle.pfair_replica.specs.BySlot.{listed_at}
+use Rattle.pfair_replica.specs.declared.agenda.Agenda.{Agenda}
 use Rattle.pfair_lattice.specs.declared.join_map.Flat.TheVariants.{Torn}
 use Rattle.pfair_lattice.specs.Held.{Held, HeldBelow}
 use Rattle.pfair_entry.specs.Entry.{Logged}
 use Rattle.pfair_replica.specs.declared.rows.Beginning.{Beginning}
-use Rattle.pfair_replica.specs.Key.{EntryKey}
+use Rattle.pfair_replica.specs.Replica.{EntryKey, Contents, run_from, last_floor, ReplicaRows, IsReplicaRows, held}
 use Rattle.pfair_replica.specs.Laws.{IsRun}
-use Rattle.pfair_replica.specs.Replica.{Contents, run_from, last_floor}
-use Rattle.pfair_replica.specs.ReplicaRows.{ReplicaRows, IsReplicaRows, held}
+
+-- The announcements at each slot.
+
+-- the announcements at slot t
+abbrev pub said_at : Agenda → ℕ → List Said
+said_at agenda t = listed_at agenda.lists t
+
+-- behind what was listed before stands a beginning of what comes
+abbrev pub IsPartOf : (before now coming : List Said) → Type 0
+IsPartOf before now coming = (came : List Said) × (rest : List Said) × (now ≡ before ++ came) × (came ++ rest ≡ coming)
 
 -- how far the longest run of a row goes, at most so many entries
 abbrev pub beginning_in : ℕ → (ℕ → Held Logged) → Beginning

@@ -3,8 +3,7 @@ use Rattle.std.specs.Prelude.{ℕ, ◌≡◌, ◌≢◌, ◌<◌, ◌≤◌, ◌
 use Rattle.pfair_lattice.specs.declared.join_map.Flat.TheVariants.{One}
 use Rattle.pfair_lattice.specs.Held.{Held}
 use Rattle.pfair_entry.specs.Entry.{Logged}
-use Rattle.pfair_replica.specs.Replica.{Replica, join, Below}
-use Rattle.pfair_replica.specs.ReplicaRows.{ReplicaRows, held, SameShape}
+use Rattle.pfair_replica.specs.Replica.{Replica, join, Below, ReplicaRows, held, SameShape}
 use Rattle.pfair_replica.specs.declared.answer.Taken.{Taken}
 use Rattle.pfair_replica.specs.declared.answer.Taken.TheVariants as taken
 use Rattle.pfair_replica.specs.declared.answer.TakeFault.{TakeFault}

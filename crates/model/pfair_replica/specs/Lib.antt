@@ -1,12 +1,5 @@
-pub mod Agenda
-pub mod Among
 pub mod BySlot
 pub mod Counters
 pub mod Faults
-pub mod HeldAfter
-pub mod Key
 pub mod Laws
-pub mod Offered
 pub mod Replica
-pub mod ReplicaRows
-pub mod SaidAt

@@ -1,14 +1,23 @@
 -- Replicas, and how far each processor has committed itself.
-use Rattle.std.specs.Prelude.{ℕ, zero, suc, ◌≡◌, ◌≢◌, ◌+◌, ◌≤◌, ◌<◌, min, Bool, true, false, nat_lt, nat_le, ◌==◌, List, [], ◌∷◌, ◌++◌, map, filter, find, length, drop, flat_map, fold, sum_by, is_none, IsSome, Option, Some, None, if◌then◌else◌}
-use Rattle.std.specs.List.{list_any}
+use Rattle.std.specs.Prelude.{ℕ, zero, suc, ◌≡◌, ◌≢◌, ◌+◌, ◌≤◌, ◌<◌, min, Bool, true, false, nat_lt, nat_le, ◌==◌, List, [], ◌∷◌, ◌++◌, map, filter, find, length, drop, flat_map, fold, sum_by, is_none, IsSome, Option, Some, None, if◌then◌else◌, ◌⊎◌, ◌↔◌, slice_get, AllPairs, ◌&&◌, IsSomeAnd}
+use Rattle.std.specs.List.{list_any, Contains}
 use Rattle.pfair_lattice.specs.declared.join_map.Flat.{Flat}
 use Rattle.pfair_lattice.specs.declared.join_map.Flat.TheVariants.{One, Torn}
 use Rattle.pfair_lattice.specs.Held.{Held, held_join, HeldBelow}
 use Rattle.pfair_entry.specs.declared.entry.Announcement.{Announcement}
 use Rattle.pfair_entry.specs.declared.entry.Said.{Said}
-use Rattle.pfair_entry.specs.Entry.{Logged, IsEntry}
-use Rattle.pfair_entry.specs.Same.{entry_eq}
-use Rattle.pfair_replica.specs.Key.{EntryKey}
+use Rattle.pfair_entry.specs.Entry.{Logged, IsEntry, entry_eq}
+use Rattle.std.specs.Ordering.{nat_cmp}
+use Rattle.std.specs.Option.{option_and_then}
+use Rattle.pfair_lattice.specs.Entries.{get, IsOrdered}
+use Rattle.pfair_entry.specs.declared.entry.TheConstants.{MAX_PROCESSORS}
+use Rattle.pfair_entry.specs.declared.writer.TheConstants.Writer.{LONGEST_LOG}
+
+-- Keys of entries.
+
+-- the processor whose log it is, and the entry's number there
+abbrev pub EntryKey : Type 0
+EntryKey = ℕ × ℕ
 
 -- the contents, by processor and number
 abbrev pub Contents : Type 0
@@ -171,3 +180,98 @@ missing x k = find (λ n. is_none (x.at k n)) (numbers_to x.capacity)
 abbrev pub IsLeastMissing : Replica → ℕ → Option ℕ → Type 0
 IsLeastMissing x k None = (n : ℕ) → 1 ≤ n → n ≤ x.capacity → IsSome (x.at k n)
 IsLeastMissing x k (Some n) = (1 ≤ n) × (n ≤ x.capacity) × (x.at k n ≡ None) × ((j : ℕ) → 1 ≤ j → j < n → IsSome (x.at k j))
+
+-- The announcements at a slot, and in which order the lists of a replica stand.
+
+-- an entry of a sound beginning, at the place of that number, announces it with stamp t
+abbrev pub IsSaidAt : Replica → ℕ → Said → Type 0
+IsSaidAt x t s = (s.proc < x.processors) × ((i : ℕ) × (e : Logged) × (s.number ≡ i + 1) × (slice_get (sound_beginning x s.proc) i ≡ Some e) × (e.said ≡ Some (t, s.announcement)))
+
+-- the first key comes before the second: by processors, and then by numbers
+abbrev pub ComesBefore : EntryKey → EntryKey → Type 0
+ComesBefore a b = (a.0 < b.0) ⊎ ((a.0 ≡ b.0) × (a.1 < b.1))
+
+abbrev pub key_of : Said → EntryKey
+key_of s = (s.proc, s.number)
+
+-- the announcements at a slot are those of the sound beginnings with that stamp, by processors and numbers, as torn and fallen keys are
+pub record IsSaid : Type 0 where
+  pub members : (x : Replica) (t : ℕ) (s : Said) → Contains (said x t) s ↔ IsSaidAt x t s
+  pub order : (x : Replica) (t : ℕ) → AllPairs (λ a b. ComesBefore (key_of a) (key_of b)) (said x t)
+  pub torn_order : (x : Replica) → AllPairs ComesBefore (torn_keys x)
+  pub fallen_order : (x : Replica) → AllPairs ComesBefore (fallen_keys x)
+
+-- The contents after an entry or a replica was offered, taken or not.
+
+-- (k, n) names an entry of one of the logs
+abbrev pub has_key : Replica → ℕ → ℕ → Bool
+has_key x k n = nat_lt k x.processors && (nat_lt 0 n && nat_le n x.capacity)
+
+-- as many processors, and logs as large
+abbrev pub has_shape : Replica → Replica → Bool
+has_shape x y = x.processors == y.processors && x.capacity == y.capacity
+
+-- after an entry was offered for a key: the join with it, or x itself if the key is refused
+abbrev pub taken : Replica → ℕ → ℕ → Logged → Replica
+taken x k n e = if has_key x k n then with_entry x k n e else x
+
+-- after a replica was offered: the join with it, or x itself if its shape is refused
+abbrev pub absorbed : Replica → Replica → Replica
+absorbed x y = if has_shape x y then join x y else x
+
+-- What a replica keeps: for each processor a row of entries by their numbers.
+
+-- what a row holds, by number
+abbrev pub Row : Type 0
+Row = List (ℕ × Flat Logged)
+
+-- a replica as a contract sees it
+pub record ReplicaRows : Type 0 where
+  pub processors : ℕ
+  pub capacity : ℕ
+  pub rows : List (ℕ × Row)
+
+-- what these rows hold, by processor and number
+abbrev pub held_in : List (ℕ × Row) → Contents
+held_in rows k n = option_and_then (λ row. get nat_cmp row n) (get nat_cmp rows k)
+
+-- the contents, by processor and number
+abbrev pub held : ReplicaRows → Contents
+held x = held_in x.rows
+
+-- the replica that the definitions speak of
+abbrev pub replica_of : ReplicaRows → Replica
+replica_of x = record { processors = x.processors; capacity = x.capacity; at = held x }
+
+-- so many processors and so large logs there can be
+pub record IsShape (processors capacity : ℕ) : Type 0 where
+  pub some_processor : 1 ≤ processors
+  pub processors_in_range : processors ≤ MAX_PROCESSORS
+  pub some_number : 1 ≤ capacity
+  pub capacity_in_range : capacity ≤ LONGEST_LOG
+
+-- the rows below m are there, and no others, each with its numbers in order
+pub record IsFull (m : ℕ) (rows : List (ℕ × Row)) : Type 0 where
+  pub ordered : IsOrdered nat_cmp rows
+  pub there : (k : ℕ) → k < m → IsSomeAnd (get nat_cmp rows k) (IsOrdered nat_cmp)
+  pub beyond : (k : ℕ) → m ≤ k → get nat_cmp rows k ≡ None
+
+-- what every replica keeps
+pub record IsReplicaRows (x : ReplicaRows) : Type 0 where
+  pub shape : IsShape x.processors x.capacity
+  pub full : IsFull x.processors x.rows
+  pub entries : IsReplica (replica_of x)
+
+-- rows that hold nothing
+pub record AreEmptyRows (m : ℕ) (rows : List (ℕ × Row)) : Type 0 where
+  pub ordered : IsOrdered nat_cmp rows
+  pub there : (k : ℕ) → k < m → get nat_cmp rows k ≡ Some []
+  pub beyond : (k : ℕ) → m ≤ k → get nat_cmp rows k ≡ None
+
+-- as many processors, and logs as large
+abbrev pub SameShape : ReplicaRows → ReplicaRows → Type 0
+SameShape x y = (x.processors ≡ y.processors) × (x.capacity ≡ y.capacity)
+
+-- replicas that hold the same are one
+abbrev pub IsKnownByHeld : Type 0
+IsKnownByHeld = (x y : ReplicaRows) → IsReplicaRows x → IsReplicaRows y → replica_of x ≡ replica_of y → x ≡ y

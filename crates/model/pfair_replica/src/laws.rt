@@ -3,8 +3,7 @@
 //!
 //! Each function does nothing: its contract is the law, over every replica that there can be.
 ghost use Rattle.pfair_replica.specs.Laws.{IsLeastJoin, IsLongestRun, IsHeldAfter, IsAgreement, BelowAgrees, SayTheSame, MarksNeverFall, IsReadByNumber, BeginningsGrow, IsLeastMark, IsTornTest, IsListed, OfferedStays};
-ghost use Rattle.pfair_replica.specs.ReplicaRows.{IsKnownByHeld};
-ghost use Rattle.pfair_replica.specs.SaidAt.{IsSaid};
+ghost use Rattle.pfair_replica.specs.Replica.{IsKnownByHeld, IsSaid};
 
 /// The order of replicas is an order, and a merge gives the least replica above both; so it is
 /// commutative, associative and idempotent.
@@ -21,7 +20,7 @@ pub fn known_by_held()
 
 /// The content of each key after an entry was joined in, which changes nothing if the entry was there
 /// already, and after a merge.
-#[tactic(auto, using(crate::specs::HeldAfter::held_after))]
+#[tactic(auto, using(crate::specs::Laws::held_after))]
 pub fn held_after()
     ensures { IsHeldAfter }
 {}

@@ -8,10 +8,8 @@
 ghost use Rattle.std.specs.Prelude.{◌≡◌, ◌≢◌, ◌≤◌, ◌↔◌, ◌⊎◌, ◌++◌, ℕ, [], length, slice_get, is_some, IsSome, IsTrue, IfOk, IfErr, OnOk, OnErr, Ok, Err, Some};
 ghost use Rattle.pfair_lattice.specs.declared.join_map.Flat.TheVariants.{One};
 ghost use Rattle.pfair_entry.specs.Entry.{Logged, IsEntry};
-ghost use Rattle.pfair_replica.specs.Replica.{IsReplica, join, with_entry, empty_replica, Below, sound_beginning, mark, frontier, sound_total, missing, IsLeastMissing, said_by, said_behind, said, has_torn, torn_in, torn_keys, fallen_in, fallen_keys};
-ghost use Rattle.pfair_replica.specs.Agenda.{IsPartOf, said_at};
-ghost use Rattle.pfair_replica.specs.Offered.{taken, absorbed};
-ghost use Rattle.pfair_replica.specs.ReplicaRows.{held, replica_of, IsReplicaRows, IsShape, SameShape};
+ghost use Rattle.pfair_replica.specs.Replica.{IsReplica, join, with_entry, empty_replica, Below, sound_beginning, mark, frontier, sound_total, missing, IsLeastMissing, said_by, said_behind, said, has_torn, torn_in, torn_keys, fallen_in, fallen_keys, taken, absorbed, held, replica_of, IsReplicaRows, IsShape, SameShape};
+ghost use Rattle.pfair_replica.specs.Counters.{IsPartOf, said_at};
 ghost use Rattle.pfair_replica.specs.Faults.{IsKeyOf, IsTakenAs, IsTakeFaultOf, IsMergeFaultOf, IsPartlyMerged};
 
 use crate::agenda::Agenda;
@@ -37,7 +35,7 @@ pub struct Replica {
 }
 
 impl Model for Replica {
-    ghost use Rattle.pfair_replica.specs.ReplicaRows.{ReplicaRows};
+    ghost use Rattle.pfair_replica.specs.Replica.{ReplicaRows};
     ghost use Rattle.pfair_replica.specs.Counters.{IsKept};
 
     ghost Value = { ReplicaRows };

@@ -5,10 +5,8 @@ ghost use Rattle.std.specs.Ordering.{nat_cmp};
 ghost use Rattle.pfair_lattice.specs.Entries.{get};
 ghost use Rattle.pfair_lattice.specs.Held.{held_join, HeldBelow};
 ghost use Rattle.pfair_lattice.specs.declared.join_map.Flat.TheVariants.{One};
-ghost use Rattle.pfair_entry.specs.Entry.{Logged, IsEntry};
-ghost use Rattle.pfair_entry.specs.Same.{entry_eq};
-ghost use Rattle.pfair_replica.specs.Replica.{only};
-ghost use Rattle.pfair_replica.specs.ReplicaRows.{held_in, IsFull, AreEmptyRows};
+ghost use Rattle.pfair_entry.specs.Entry.{Logged, IsEntry, entry_eq};
+ghost use Rattle.pfair_replica.specs.Replica.{only, held_in, IsFull, AreEmptyRows};
 ghost use Rattle.pfair_replica.specs.Counters.{beginning_in, least_mark, total_count, IsPart, IsLeftAt, IsFirstTornIn, IsEarlier, IsTornAt, AreCounters, WereBefore, WereApart};
 
 use pfair_entry::Entry;

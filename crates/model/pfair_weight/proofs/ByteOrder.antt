@@ -5,7 +5,7 @@ use Rattle.std.specs.declared.cmp.Ordering.{Ordering}
 use Rattle.std.specs.declared.cmp.Ordering.TheVariants.{Greater}
 use Rattle.std.proofs.lemmas.Cmp.{ranked}
 use Rattle.std.proofs.lemmas.List.{length-replicate}
-use Rattle.pfair_weight.specs.Number.{number_of, name_of, IsNumber}
+use Rattle.pfair_weight.specs.Name.{number_of, name_of, IsNumber}
 use Rattle.pfair_weight.proofs.Length.{first_apart}
 use Rattle.pfair_weight.proofs.Padding.{AreBytes, name_bytes, read_back, zeros_order}
 

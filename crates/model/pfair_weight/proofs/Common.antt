@@ -1,9 +1,7 @@
 -- The names that many of these proofs cite, passed on from one place. Declares nothing.
-pub use Rattle.pfair_weight.specs.Close.{Close}
-pub use Rattle.pfair_weight.specs.Name.{IsTaskName, NameValue, NamesApart, may_stand, name_eq}
-pub use Rattle.pfair_weight.specs.Padded.{IsPadded, before_zero, with_zeros}
-pub use Rattle.pfair_weight.specs.Ratio.{Ratio}
-pub use Rattle.pfair_weight.specs.Rounding.{div_ceil_rises, rounded_twice}
+pub use Rattle.pfair_weight.specs.Window.{Close, Ratio}
+pub use Rattle.pfair_weight.specs.Name.{IsTaskName, NameValue, NamesApart, may_stand, name_eq, IsPadded, before_zero, with_zeros}
+pub use Rattle.pfair_weight.specs.WindowFacts.{div_ceil_rises, rounded_twice}
 pub use Rattle.pfair_weight.specs.declared.window.TheConstants.{MAX_CLOSE, MAX_INDEX}
 pub use Rattle.std.proofs.Common.{◌≡◌, ap, ◌∙◌, arith, ◌+◌, ◌<◌, ◌≤◌, ◌-◌, length, ◌*◌, ℕ, sym, List, [], ◌∷◌, ◌++◌, subst, ◌/◌, zero, suc, true, replicate, slice_index, ◌^◌, false, get_or, take, refl}
 pub use Rattle.std.proofs.Math.Nat.{le_refl, pow-suc}

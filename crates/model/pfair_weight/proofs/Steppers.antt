@@ -1,6 +1,6 @@
 -- A stepper's next subtask.
 use Rattle.pfair_weight.proofs.Common.{div_ceil, MAX_INDEX, ◌≡◌, ℕ, ◌+◌, ◌-◌, ◌*◌, ◌/◌, ◌<◌, ◌≤◌, arith, Ratio, Close}
-use Rattle.pfair_weight.specs.Share.{Share}
+use Rattle.pfair_weight.specs.Window.{Share}
 use Rattle.pfair_weight.specs.declared.stepper.Group.{Group}
 use Rattle.pfair_weight.specs.declared.stepper.Group.TheVariants.{Heavy}
 use Rattle.pfair_weight.specs.declared.stepper.Stepper.TheInside.{Inside}

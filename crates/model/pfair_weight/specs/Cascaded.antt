@@ -1,8 +1,7 @@
 -- What a cascade keeps.
 use Rattle.std.specs.Prelude.{◌≡◌, ◌-◌, ◌*◌, ◌<◌, ◌≤◌}
 use Rattle.std.specs.Int.{div_ceil}
-use Rattle.pfair_weight.specs.Share.{IsWeight}
-use Rattle.pfair_weight.specs.Close.{Close}
+use Rattle.pfair_weight.specs.Window.{IsWeight, Close}
 use Rattle.pfair_weight.specs.declared.window.TheConstants.{MAX_CLOSE}
 use Rattle.pfair_weight.specs.declared.stepper.Cascade.TheInside.{Inside}
 

@@ -2,8 +2,7 @@
 use Rattle.std.specs.Prelude.{ℕ, ◌≡◌, ◌+◌, ◌-◌, ◌*◌, ◌<◌, ◌≤◌, ◌↔◌, Bool, true, List, ◌∷◌, ◌++◌, length}
 use Rattle.std.specs.declared.cmp.Ordering.{Ordering}
 use Rattle.std.specs.declared.cmp.Ordering.TheVariants.{Less, Equal}
-use Rattle.pfair_weight.specs.Share.{Share, IsWeight, IsHeavy}
-use Rattle.pfair_weight.specs.Window.{release_of, deadline_of, b_bit_of, group_deadline_of, starts_job_of}
+use Rattle.pfair_weight.specs.Window.{Share, IsWeight, IsHeavy, release_of, deadline_of, b_bit_of, group_deadline_of, starts_job_of}
 
 -- each window opens before it closes
 abbrev pub NoWindowIsEmpty : Type 0

@@ -1,8 +1,7 @@
 -- What a stepper keeps.
 use Rattle.std.specs.Prelude.{ℕ, ◌≡◌, ◌-◌, ◌*◌, ◌/◌, ◌<◌, ◌≤◌}
 use Rattle.std.specs.Int.{div_ceil}
-use Rattle.pfair_weight.specs.Share.{Share}
-use Rattle.pfair_weight.specs.Position.{Position, IsPosition}
+use Rattle.pfair_weight.specs.Window.{Share, Position, IsPosition}
 use Rattle.pfair_weight.specs.declared.stepper.Group.{Group}
 use Rattle.pfair_weight.specs.declared.stepper.Group.TheVariants.{Light, Whole, Heavy}
 use Rattle.pfair_weight.specs.declared.stepper.Stepper.TheInside.{Inside}

@@ -5,9 +5,7 @@ ghost use Rattle.std.specs.Cmp.{partial_order_from_own_ties};
 ghost use Rattle.std.specs.Cmp.Rules.{comparing};
 ghost use Rattle.std.specs.Cmp.Lexicographic.{slice_cmp};
 ghost use Rattle.std.specs.Ordering.{nat_cmp, as_partial_cmp};
-ghost use Rattle.pfair_weight.specs.Name.{may_stand, IsTaskName};
-ghost use Rattle.pfair_weight.specs.Number.{name_of, IsNumber};
-ghost use Rattle.pfair_weight.specs.NameFault.{IsFaultOf, name_fault_number};
+ghost use Rattle.pfair_weight.specs.Name.{may_stand, IsTaskName, name_of, IsNumber, IsFaultOf, name_fault_number};
 
 use std::cmp::Ordering;
 use std::hash::{Hash, Hasher};
@@ -60,7 +58,7 @@ impl Model for TaskName {
 
     ghost Value = { List ℕ };
 
-    ghost use Rattle.pfair_weight.specs.Padded.{IsPadded, unpadded, padded, padded-unpadded};
+    ghost use Rattle.pfair_weight.specs.Name.{IsPadded, unpadded, padded, padded-unpadded};
 
     ghost view = { unpadded };
 
@@ -181,7 +179,7 @@ impl Hash for TaskName {
     ghost use Rattle.std.specs.Prelude.{[], ◌∷◌};
     ghost use Rattle.std.specs.Hash.{same_Alike};
     ghost use Rattle.std.specs.Cmp.Lexicographic.{bytes_decides};
-    ghost use Rattle.pfair_weight.specs.Padded.{with_zeros};
+    ghost use Rattle.pfair_weight.specs.Name.{with_zeros};
 
     // All sixteen bytes, in one write.
     ghost hash_input = { λ name. with_zeros name ∷ [] };

@@ -1,9 +1,7 @@
 //! The windows of a weight's subtasks one after the other, by sums in place of quotients.
 ghost use Rattle.std.specs.Prelude.{◌≡◌, ◌+◌, ◌≤◌, ◌<◌, ◌^◌, ◌*◌, ◌/◌, ◌%◌};
-ghost use Rattle.pfair_weight.specs.Position.{IsPosition};
-ghost use Rattle.pfair_weight.specs.Window.{release_of, deadline_of, b_bit_of, group_deadline_of, cascade_end};
+ghost use Rattle.pfair_weight.specs.Window.{IsPosition, release_of, deadline_of, b_bit_of, group_deadline_of, cascade_end, Ratio, IsSmall};
 ghost use Rattle.std.specs.Int.{div_ceil};
-ghost use Rattle.pfair_weight.specs.Ratio.{Ratio, IsSmall};
 
 use crate::weight::Weight;
 use crate::window::{MAX_CLOSE, MAX_INDEX, MAX_OFFSET};
@@ -39,7 +37,7 @@ pub struct Stepper {
 }
 
 impl Model for Stepper {
-    ghost use Rattle.pfair_weight.specs.Position.{Position};
+    ghost use Rattle.pfair_weight.specs.Window.{Position};
 
     ghost Value = { Position };
 
@@ -177,7 +175,7 @@ pub(crate) struct Fraction {
 
 impl Model for Fraction {
     ghost use Rattle.std.specs.Prelude.{◌+◌, ◌*◌, ◌<◌};
-    ghost use Rattle.pfair_weight.specs.Ratio.{Ratio};
+    ghost use Rattle.pfair_weight.specs.Window.{Ratio};
 
     ghost Value = { Ratio };
 
@@ -272,7 +270,7 @@ pub(crate) struct Cascade {
 }
 
 impl Model for Cascade {
-    ghost use Rattle.pfair_weight.specs.Close.{Close};
+    ghost use Rattle.pfair_weight.specs.Window.{Close};
 
     ghost Value = { Close };
 

@@ -1,8 +1,7 @@
 //! Weights: the share of a processor that a task is given.
 ghost use Rattle.std.specs.Prelude.{◌≡◌, ◌≤◌, ◌<◌, ◌*◌, ◌/◌, ◌%◌, ◌↔◌, IsTrue, IfOk, IfErr, IfSome};
 ghost use Rattle.std.specs.Option.{SomeIff};
-ghost use Rattle.pfair_weight.specs.Share.{Share, IsWeight, IsHeavy, units_of};
-ghost use Rattle.pfair_weight.specs.WeightFault.{IsFaultOf, weight_fault_number};
+ghost use Rattle.pfair_weight.specs.Window.{Share, IsWeight, IsHeavy, units_of, IsFaultOf, weight_fault_number};
 
 use std::marker::Model;
 use thiserror::Error;
@@ -46,7 +45,7 @@ pub struct Weight {
 }
 
 impl Model for Weight {
-    ghost use Rattle.pfair_weight.specs.Share.{Share, IsWeight};
+    ghost use Rattle.pfair_weight.specs.Window.{Share, IsWeight};
 
     ghost Value = { Share };
 

@@ -3,8 +3,7 @@
 //! Each call takes subtasks from 1 to [`MAX_INDEX`] and offsets from 0 to [`MAX_OFFSET`], and
 //! always succeeds.
 ghost use Rattle.std.specs.Prelude.{◌≡◌, ◌+◌, ◌*◌, ◌^◌, ◌≤◌, ◌<◌};
-ghost use Rattle.pfair_weight.specs.Share.{IsWeight};
-ghost use Rattle.pfair_weight.specs.Window.{release_of, deadline_of, b_bit_of, group_deadline_of, cascade_end, starts_job_of};
+ghost use Rattle.pfair_weight.specs.Window.{IsWeight, release_of, deadline_of, b_bit_of, group_deadline_of, cascade_end, starts_job_of};
 
 use crate::weight::Weight;
 

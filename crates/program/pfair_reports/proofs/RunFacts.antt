@@ -2,7 +2,7 @@
 use Rattle.std.proofs.Common.{ℕ, List, Option, Ok, Bool, ◌≡◌, ◌≤◌, ap, ◌∙◌, subst, map, IfSome, Vec, None}
 use Rattle.std.proofs.lemmas.Option.{IfSome_then}
 use Rattle.std.specs.declared.alloc.Global.{Global}
-use Rattle.pfair_file.specs.Schedules.{IsRefusalOf}
+use Rattle.pfair_file.specs.Documents.{IsRefusalOf, script_of_file}
 use Rattle.pfair_file.specs.declared.program_fault.ProgramFault.{ProgramFault}
 use Rattle.pfair_file.specs.declared.program_fault.ProgramFault.TheVariants.{GateGaveUp, Astray}
 use Rattle.pfair_file.specs.ProgramFaults.{of_run}
@@ -11,15 +11,13 @@ use Rattle.pfair_table.specs.declared.slot.Pick.{Pick}
 use Rattle.pfair_table.specs.Script.{LoggedRun}
 use Rattle.pfair_table.specs.declared.answer.RunFault.{RunFault}
 use Rattle.pfair_table.specs.declared.answer.RunFault.TheVariants as run
-use Rattle.pfair_board.specs.RunFaults.{IsRunFaultOf}
+use Rattle.pfair_board.specs.RunFaults.{IsRunFaultOf, HasPlan}
 use Rattle.pfair_table.specs.declared.planned.Run.{Run}
 use Rattle.pfair_table.specs.Table.{Table}
 use Rattle.pfair_table.specs.Places.{places_in}
 use Rattle.pfair_table.specs.Planned.{as_tables, as_places}
-use Rattle.pfair_board.specs.Finish.{HasPlan}
-use Rattle.pfair_board.specs.Sinks.{has_kept}
+use Rattle.pfair_board.specs.Works.{has_kept}
 use Rattle.pfair_output.specs.Replay.{placed_replay_text, placed_text}
-use Rattle.pfair_file.specs.Documents.{script_of_file}
 use Rattle.pfair_reports.specs.Runs.{IsFaultOfReplay, IsOutputOf, replica_of_run, placed_replay_of_run}
 
 -- what is known of the text of a script that a file holds is known of the file's

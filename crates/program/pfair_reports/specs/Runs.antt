@@ -1,17 +1,17 @@
 -- What the commands write of a task file, and the faults of a replay.
-use Rattle.std.specs.Prelude.{ℕ, Bool, true, List, ◌≡◌, ◌≤◌, Option, Ok, None}
+use Rattle.std.specs.Prelude.{ℕ, Bool, true, List, ◌≡◌, ◌≤◌, Option, Ok, None, [], ◌∷◌, map, codes}
 use Rattle.pfair_replica.specs.Replica.{Replica, frontier}
-use Rattle.pfair_text.specs.Rows.{TextWriter, IsOpen, text_so_far}
+use Rattle.pfair_text.specs.Rows.{TextWriter, IsOpen, text_so_far, lines_text}
 use Rattle.pfair_table.specs.Table.{Table, plan}
 use Rattle.pfair_table.specs.Script.{LoggedRun, replica_of_logs}
-use Rattle.pfair_output.specs.Replay.{placed_replay_text, replay_text}
-use Rattle.pfair_output.specs.Decisions.{decisions_text}
+use Rattle.pfair_output.specs.Replay.{placed_replay_text, replay_text, decisions_text, decided_of}
 use Rattle.pfair_output.specs.Lags.{lags_text}
-use Rattle.pfair_output.specs.Runs.{decided_of}
-use Rattle.pfair_file.specs.Documents.{script_of_file}
-use Rattle.pfair_file.specs.Schedules.{IsRefusalOf}
+use Rattle.pfair_file.specs.Documents.{script_of_file, IsRefusalOf}
 use Rattle.pfair_file.specs.declared.program_fault.ProgramFault.{ProgramFault}
 use Rattle.pfair_file.specs.declared.program_fault.ProgramFault.TheVariants.{GateGaveUp, Astray}
+use Rattle.std.specs.Fmt.{decimal}
+use Rattle.std.specs.List.{range_with_len}
+use Rattle.pfair_weight.specs.Window.{Share, b_bit_of, deadline_of, group_deadline_of, release_of}
 
 -- the replica of all that a script says
 abbrev pub replica_of_run : LoggedRun → Replica
@@ -46,3 +46,17 @@ IsFaultOfReplay may_give_up given fault = IsRefusalOf given fault
 -- the writer has the rows of these tables, whichever row's worker they are of
 abbrev pub has_rows : TextWriter → ℕ → List Table → Type 0
 has_rows writer row tables = IsOpen writer × (text_so_far writer ≡ replay_text tables)
+
+-- The table of a weight's windows.
+
+abbrev pub header : List (List ℕ)
+header = codes "i" ∷ codes "r" ∷ codes "d" ∷ codes "b" ∷ codes "D" ∷ []
+
+-- the row of a subtask at offset 0
+abbrev pub window_row : Share → ℕ → List (List ℕ)
+window_row w i =
+    decimal i ∷ decimal (release_of w i 0) ∷ decimal (deadline_of w i 0) ∷ decimal (b_bit_of w i) ∷ decimal (group_deadline_of w i 0) ∷ []
+
+-- the header, and a row for each subtask from 1 to `count`
+abbrev pub windows_text : Share → ℕ → List ℕ
+windows_text w count = lines_text (header ∷ map (window_row w) (range_with_len 1 count))

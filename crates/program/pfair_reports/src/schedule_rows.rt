@@ -1,7 +1,7 @@
 //! The commands `decisions` and `lags`: what one dispatcher decides of a task file, and how far its
 //! tasks are behind. One slot at a time is held.
-ghost use Rattle.pfair_file.specs.Commands.{IsCommandOf};
-ghost use Rattle.pfair_file.specs.Schedules.{IsRefusalOf};
+ghost use Rattle.pfair_file.specs.ProgramFaults.{IsCommandOf};
+ghost use Rattle.pfair_file.specs.Documents.{IsRefusalOf};
 ghost use Rattle.pfair_reports.specs.Runs.{IsOutputOf, decisions_of_run, lags_of_run};
 
 use pfair_file::{ProgramFault, read_script};

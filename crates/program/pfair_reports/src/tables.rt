@@ -1,11 +1,10 @@
 //! The command `replay`: the tables of a task file, worked out by a dispatcher for each processor
 //! in a thread of its own, and with `--affinity` the processor that runs each row.
-ghost use Rattle.pfair_file.specs.Commands.{IsCommandOf};
+ghost use Rattle.pfair_file.specs.ProgramFaults.{IsCommandOf, TakesOneFile};
 ghost use Rattle.pfair_reports.specs.Runs.{IsFaultOfReplay, IsOutputOf, placed_replay_of_run, replay_of_run};
 ghost use Rattle.std.specs.Prelude.{◌≡◌, [], Ok, IfErr, IfOk, IfSome};
-ghost use Rattle.pfair_file.specs.Input.{TakesOneFile};
 ghost use Rattle.pfair_table.specs.Script.{LoggedRun};
-ghost use Rattle.pfair_board.specs.Finish.{HasPlan};
+ghost use Rattle.pfair_board.specs.RunFaults.{HasPlan};
 ghost use Rattle.pfair_file.specs.Documents.{script_of_file};
 ghost use Rattle.pfair_text.specs.Rows.{IsOpen, text_so_far};
 ghost use Rattle.pfair_output.specs.Replay.{replay_text};

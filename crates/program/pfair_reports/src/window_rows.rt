@@ -1,9 +1,8 @@
 //! The windows of a weight's subtasks, as a table.
 ghost use Rattle.std.specs.Prelude.{◌≡◌, ◌≤◌, ◌++◌, OnOk, IsErrOf, IfErr, IfOk, ◌⊎◌};
 ghost use Rattle.std.specs.Io.KnownBytes.{Appends, Keeps};
-ghost use Rattle.pfair_text.specs.Output.{TakesPrefix};
-ghost use Rattle.pfair_text.specs.Rows.{IsOpen, line, text_so_far};
-ghost use Rattle.pfair_reports.specs.Windows.{window_row, windows_text};
+ghost use Rattle.pfair_text.specs.Rows.{TakesPrefix, IsOpen, line, text_so_far};
+ghost use Rattle.pfair_reports.specs.Runs.{window_row, windows_text};
 ghost use Rattle.pfair_file.specs.declared.program_fault.ProgramFault.TheVariants.{WriteFailed, Memory};
 
 use csv::Writer;

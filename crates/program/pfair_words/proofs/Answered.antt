@@ -1,7 +1,7 @@
 -- What the parser makes of the words of a program gives what is answered.
 use Rattle.std.proofs.Common.{IsErrAnd}
 use Rattle.pfair_words.proofs.Common.{App, Text, subcommand_rows_of, IsParsed, Named, Help, Matches, ProgramFault, CommandLine, Memory, ◌≡◌, subst, sym, inl, inr, List, Result, Ok, Err}
-use Rattle.pfair_words.specs.Answers.{ToAny, ToWords}
+use Rattle.pfair_words.specs.Parse.{ToAny, ToWords}
 use Rattle.pfair_words.specs.declared.command.Parsed.{Parsed}
 
 module _ {A : Type 0} (line app : App) (to_command : Named → Result A ProgramFault → Type 0) (is_text : A → Type 0) (words : List Text) (e : app ≡ line) where

@@ -11,9 +11,7 @@ pub use Rattle.clap.specs.declared.error.kind.ErrorKind.TheVariants.{DisplayHelp
 pub use Rattle.pfair_file.specs.declared.program_fault.ProgramFault.{ProgramFault}
 pub use Rattle.pfair_file.specs.declared.program_fault.ProgramFault.TheVariants.{CommandLine, Memory, Weight}
 pub use Rattle.pfair_words.specs.Parse.{IsFlag, IsParsed, Named, Spells, SpellsIfAny, texts}
-pub use Rattle.pfair_words.specs.Plain.{AskNumbers, Begins, HasCount, IsDecisionsAnswer, IsLagsAnswer, IsNamedFirst, IsPlain, IsPlainAnswer, IsRefusal, IsReplayAnswer, IsTextAnswer, IsWindowsAnswer}
-pub use Rattle.pfair_words.specs.ScheduleAsked.{IsAnswer, IsAnswerTo, IsAnswerToAny, IsText}
-pub use Rattle.pfair_words.specs.ScheduleLine.{cost, count, decisions, lags, line, period, replay, windows}
+pub use Rattle.pfair_words.specs.ScheduleAsked.{AskNumbers, Begins, HasCount, IsDecisionsAnswer, IsLagsAnswer, IsNamedFirst, IsPlain, IsPlainAnswer, IsRefusal, IsReplayAnswer, IsTextAnswer, IsWindowsAnswer, IsAnswer, IsAnswerTo, IsAnswerToAny, IsText, cost, count, decisions, lags, line, period, replay, windows}
 pub use Rattle.pfair_words.specs.declared.command.Parsed.TheVariants.{Help, Matches}
 pub use Rattle.pfair_words.specs.declared.schedule.Asked.{Asked}
 pub use Rattle.std.proofs.Common.{List, Ok, refl, ap, ◌≡◌, subst, Result, sym, inl, inr, Err, ◌∙◌, ℕ, Bool, true, false, [], ◌∷◌, Some, codes, arith, None, Option, IfOk}

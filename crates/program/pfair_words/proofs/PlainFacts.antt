@@ -3,8 +3,7 @@ use Rattle.std.proofs.Common.{◌↔◌, ◌≤◌}
 use Rattle.pfair_words.proofs.Common.{IsAmong, Row, Text, fault_of, first_of, subcommand_of, IsFlag, Named, Spells, line, windows, replay, decisions, lags, AskNumbers, HasCount, IsDecisionsAnswer, IsLagsAnswer, IsPlain, IsPlainAnswer, IsRefusal, IsReplayAnswer, IsTextAnswer, IsWindowsAnswer, ProgramFault, Weight, CommandLine, Memory, ◌≡◌, ℕ, Bool, inl, inr, true, false, refl, ap, subst, ◌∙◌, arith, List, [], ◌∷◌, Option, Some, IfOk, Result, Ok, Err, codes, one_of, ErrorKind, DisplayHelp, DisplayVersion, accepts, IsAnswer, IsAnswerTo, IsAnswerToAny, IsText, Asked}
 use Rattle.clap.specs.declared.builder.value_parser.ValueParser.TheVariants.{Unsigned}
 use Rattle.clap.proofs.ValueTestLemmas.{Accepts-accepts}
-use Rattle.pfair_words.specs.Answers.{ToUntaken}
-use Rattle.pfair_words.specs.Parse.{IsTextKind}
+use Rattle.pfair_words.specs.Parse.{ToUntaken, IsTextKind}
 use Rattle.pfair_words.specs.ScheduleAsked.{AskWindows}
 use Rattle.pfair_words.specs.declared.schedule.Asked.TheVariants.{Windows}
 use Rattle.pfair_words.proofs.FirstWord.{first_answer}

@@ -3,7 +3,7 @@ use Rattle.std.specs.Prelude.{ℕ, ◌≡◌, ◌≢◌, ◌<◌, ◌^◌, ◌�
 use Rattle.std.specs.declared.alloc.Global.{Global}
 use Rattle.std.specs.Option.{option_map}
 use Rattle.std.specs.Str.Parse.{IsNumeral, digits_value, without_leading_plus}
-use Rattle.clap.specs.Words.{App, IsAmong, Row, Text, fault_of, first_of, subcommand_of, subcommand_rows_of}
+use Rattle.clap.specs.Words.{App, IsAmong, Row, Text, fault_of, first_of, subcommand_of, subcommand_rows_of, Rule, app_of, new_app, new_rule, with_rule}
 use Rattle.clap.specs.Walk.{one_of}
 use Rattle.clap.specs.declared.error.kind.ErrorKind.{ErrorKind}
 use Rattle.clap.specs.declared.error.kind.ErrorKind.TheVariants.{DisplayHelp, DisplayVersion, OutOfMemory}
@@ -11,6 +11,9 @@ use Rattle.pfair_words.specs.declared.command.Parsed.{Parsed}
 use Rattle.pfair_words.specs.declared.command.Parsed.TheVariants.{Matches, Help}
 use Rattle.pfair_file.specs.declared.program_fault.ProgramFault.{ProgramFault}
 use Rattle.pfair_file.specs.declared.program_fault.ProgramFault.TheVariants.{CommandLine, Memory}
+use Rattle.clap.specs.declared.builder.action.ArgAction.TheVariants.{SetTrue, Version}
+use Rattle.clap.specs.declared.builder.command.Command.{Command}
+use Rattle.clap.specs.declared.builder.command.Command.TheViews.{out-Command}
 
 abbrev pub texts : List (String Global) → List Text
 texts words = map string_bytes words
@@ -76,3 +79,68 @@ IsParsed line words (Ok (Help text)) = IsUntaken line words IsTextKind
 IsParsed line words (Err CommandLine) = IsUntaken line words IsRefusalKind
 IsParsed line words (Err Memory) = ⊤
 IsParsed line words (Err _) = ⊥
+
+-- What is answered to the words of a program, of whose commands each asks for something.
+
+-- given what is answered to a command, and which answers are a text about the program
+module _ {A : Type 0} (line : App) (to_command : Named → Result A ProgramFault → Type 0) (is_text : A → Type 0) where
+  -- to words that may name no command
+  abbrev pub ToAny : Option Named → Result A ProgramFault → Type 0
+  ToAny (Some named) result = to_command named result
+  ToAny None result = result ≡ Err CommandLine
+
+  -- the parser takes the words, and the answer is that to the command that they name
+  abbrev pub ToTaken : List Text → Result A ProgramFault → Type 0
+  ToTaken words result = IsTaken line words (λ named. ToAny named result)
+
+  -- to an error of this kind: a text about the program, or a refusal
+  abbrev pub ToKind : Result A ProgramFault → ErrorKind → Type 0
+  ToKind (Ok asked) kind = is_text asked × IsTextKind kind
+  ToKind (Err CommandLine) kind = IsRefusalKind kind
+  ToKind (Err _) kind = ⊥
+
+  -- the parser doesn't take them, and the answer is that to one of the kinds of its error
+  abbrev pub ToUntaken : List Text → Result A ProgramFault → Type 0
+  ToUntaken words result = IsUntaken line words (ToKind result)
+
+  -- to words; an allocation may always fail
+  abbrev pub ToWords : List Text → Result A ProgramFault → Type 0
+  ToWords words (Err Memory) = ⊤
+  ToWords words result = ToTaken words result ⊎ ToUntaken words result
+
+-- What the command lines of both programs are made of, as the parser reads it.
+
+-- a word of this name that has to be there
+abbrev pub required : List ℕ → Rule
+required name = record (new_rule name) { value_names = 1; required = true }
+
+-- the task file
+abbrev pub file : Rule
+file = required (codes "file")
+
+abbrev pub flag : List ℕ → Rule
+flag name = record (new_rule name) { long = Some name; action = Some SetTrue }
+
+-- the flag by which rows get their places
+abbrev pub affinity : Rule
+affinity = flag (codes "affinity")
+
+-- the request for the version
+abbrev pub version : Rule
+version = record (new_rule (codes "version")) { long = Some (codes "version"); action = Some Version }
+
+-- a program without its commands: no name stands before its words, a command has to be named, and help is a flag alone
+abbrev pub program : List ℕ → App
+program name = with_rule (record (new_app name) {
+  top = record (new_app name).top {
+    no_binary_name = true;
+    subcommand_required = true;
+    disable_help_subcommand = true;
+    disable_version_flag = true;
+    has_version = true;
+  };
+}) version
+
+-- the parser reads this of a command
+abbrev pub IsRead : App → Command → Type 0
+IsRead app c = (app_of c ≡ app) × ((out-Command c).has_globals ≡ false)

@@ -3,7 +3,7 @@
 
 ghost use Rattle.std.specs.Prelude.{◌≡◌, IfOk, Ok, false, ◌⊎◌, ℕ, MatchResult, None, Some, codes, string_bytes, true};
 ghost use Rattle.clap.specs.Words.{AddsSubcommand, new_app, rule_of, app_of, first_of, found_of, is_simple_and_free, rows_of, with_rule};
-ghost use Rattle.pfair_words.specs.Line as line;
+ghost use Rattle.pfair_words.specs.Parse as line;
 ghost use Rattle.clap.specs.Walk.{one_of};
 ghost use Rattle.pfair_words.specs.Parse.{IsFlag, IsNumber, IsParsed, IsTextIfAny, texts};
 ghost use Rattle.pfair_file.specs.declared.program_fault.ProgramFault.TheVariants.{CommandLine, Memory};

@@ -3,11 +3,10 @@
 
 ghost use Rattle.std.specs.Prelude.{◌≡◌, ◌⊎◌, MatchResult, IfOk, false};
 ghost use Rattle.clap.specs.Words.{found_of, rows_of, subcommand_rows_of, new_app, rule_of};
-ghost use Rattle.pfair_words.specs.Parse.{texts};
+ghost use Rattle.pfair_words.specs.Parse.{texts, IsRead};
 ghost use Rattle.pfair_words.specs.FollowAsked.{AskFeed, AskSettings, AskStart, AsksNoFeed, AsksNoSettings, AsksNoStart, IsAnswer, IsAnswerToAny};
 ghost use Rattle.pfair_file.specs.declared.program_fault.ProgramFault.TheVariants.{CommandLine, Memory};
-ghost use Rattle.pfair_words.specs.Line.{IsRead};
-ghost use Rattle.pfair_words.specs.FollowLine as line;
+ghost use Rattle.pfair_words.specs.FollowAsked as line;
 
 mod help;
 

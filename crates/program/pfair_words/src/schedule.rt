@@ -1,11 +1,9 @@
 //! The words of `pfair`, and its command line, one level of commands.
 ghost use Rattle.std.specs.Prelude.{◌≡◌, IfOk, codes, false};
 ghost use Rattle.clap.specs.Words.{found_of, rows_of, subcommand_rows_of, rule_of};
-ghost use Rattle.pfair_words.specs.Parse.{texts};
-ghost use Rattle.pfair_words.specs.ScheduleAsked.{IsAnswer, IsAnswerTo, IsAnswerToAny};
-ghost use Rattle.pfair_words.specs.Plain.{HasCount, IsPlainAnswer};
-ghost use Rattle.pfair_words.specs.Line.{IsRead};
-ghost use Rattle.pfair_words.specs.ScheduleLine as line;
+ghost use Rattle.pfair_words.specs.Parse.{texts, IsRead};
+ghost use Rattle.pfair_words.specs.ScheduleAsked.{IsAnswer, IsAnswerTo, IsAnswerToAny, HasCount, IsPlainAnswer};
+ghost use Rattle.pfair_words.specs.ScheduleAsked as line;
 
 mod help;
 

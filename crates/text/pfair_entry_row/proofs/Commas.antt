@@ -2,7 +2,7 @@
 use Rattle.std.proofs.Common.{◌-◌, take, drop}
 use Rattle.pfair_entry_row.proofs.Common.{join_with_byte, position_or_len, slice_split_at, slice_split_first, slice_split_none, HasNoComma, HasNone, ℕ, List, [], ◌∷◌, ◌≡◌, ◌<◌, ◌≤◌, ◌+◌, ◌==◌, arith, length, cond, ltb, Option, Some, None, fails_before_first, nat_tests, common_steps, parts}
 use Rattle.std.proofs.lemmas.List.{get_or-take}
-use Rattle.pfair_entry_row.specs.Fields.{parts_at}
+use Rattle.pfair_entry_row.specs.Row.{parts_at}
 
 -- no field has a comma
 abbrev pub HaveNoCommas : List (List ℕ) → Type 0

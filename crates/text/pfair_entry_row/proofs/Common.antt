@@ -3,9 +3,7 @@ pub use Rattle.pfair_entry.specs.Entry.{IsEntry, IsWeighed, Logged}
 pub use Rattle.pfair_entry.specs.Notice.{IsNamed, IsWellSaid, noticed}
 pub use Rattle.pfair_entry.specs.declared.entry.Announcement.{Announcement}
 pub use Rattle.pfair_entry.specs.declared.entry.Announcement.TheVariants.{Arrive, Depart, Late}
-pub use Rattle.pfair_entry_row.specs.Faults.{SaysNothing}
-pub use Rattle.pfair_entry_row.specs.Fields.{parts}
-pub use Rattle.pfair_entry_row.specs.Row.{HasNoComma, HasNone, IsEntryAt, IsSayable, IsSpelled, IsSpelledOut, announced_fields, dash, entry_fields, entry_row, said_fields, truth}
+pub use Rattle.pfair_entry_row.specs.Row.{SaysNothing, parts, HasNoComma, HasNone, IsEntryAt, IsSayable, IsSpelled, IsSpelledOut, announced_fields, dash, entry_fields, entry_row, said_fields, truth}
 pub use Rattle.pfair_text.proofs.NameFacts.{is_plain-name}
 pub use Rattle.pfair_text.proofs.RowFacts.{is_plain-decimal}
 pub use Rattle.pfair_text.specs.Rows.{is_plain}

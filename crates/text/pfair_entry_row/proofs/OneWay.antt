@@ -1,7 +1,7 @@
 -- A row is read one way.
 use Rattle.std.proofs.Common.{◌⊎◌, inl, inr}
 use Rattle.pfair_entry_row.proofs.Common.{Logged, entry_row, IsEntryAt, arith, ℕ, List, ◌≡◌, refl, sym, ◌∙◌, ap, Ok, Err, SaysNothing}
-use Rattle.pfair_entry_row.specs.Faults.{IsRowFaultOf, SaysWhatIsRefused}
+use Rattle.pfair_entry_row.specs.Row.{IsRowFaultOf, SaysWhatIsRefused}
 use Rattle.pfair_entry_row.specs.Laws.{RowsAreReadOneWay}
 use Rattle.pfair_entry_row.specs.declared.fault.RowFault.{RowFault}
 use Rattle.pfair_entry_row.specs.declared.fault.RowFault.TheVariants.{NoRow, Refused, NoSuchProcessor, NumberOutOfRange}

@@ -1,7 +1,7 @@
 -- What a log may have is refused by no rule.
 use Rattle.pfair_entry_row.proofs.Common.{Logged, IsEntry, IsWeighed, IsNamed, IsWellSaid, Announcement, Arrive, Depart, Late, IsEntryAt, IsSayable, IsSpelled, IsSpelledOut, ℕ, ◌≡◌, arith, Option, None, Some, Ok, nat_tests, is_plain-name}
 use Rattle.pfair_entry.proofs.Refusals.{no_refusal}
-use Rattle.pfair_entry_row.specs.Faults.{keyed}
+use Rattle.pfair_entry_row.specs.Row.{keyed}
 use Rattle.pfair_entry_row.proofs.RowFields.{Same}
 use Rattle.pfair_entry_row.proofs.Names.{no_comma-plain}
 

@@ -1,7 +1,7 @@
 -- The fields of a row are those of what it says, and of nothing else.
 use Rattle.pfair_entry_row.proofs.Common.{join_with_byte, decimal, join_with_byte-slice_split, Logged, Announcement, Arrive, Depart, Late, dash, truth, announced_fields, said_fields, entry_fields, entry_row, HasNoComma, IsSayable, IsSpelled, IsSpelledOut, ℕ, Bool, true, false, List, ◌∷◌, ◌≡◌, ◌≢◌, ◌<◌, ◌^◌, refl, ap, ◌∙◌, sym, arith, length, Option, None, Some, parts, SaysNothing}
 use Rattle.std.proofs.lemmas.Fmt.{decimal_injective}
-use Rattle.pfair_entry_row.specs.Fields.{texts}
+use Rattle.pfair_entry_row.specs.Row.{texts}
 use Rattle.pfair_entry_row.specs.Line.{said_texts, Notes}
 use Rattle.pfair_entry_row.specs.declared.line.Fields.{Fields}
 use Rattle.pfair_entry_row.proofs.Commas.{HaveNoCommas, parts-join}

@@ -3,8 +3,7 @@ use Rattle.std.specs.Prelude.{ℕ, ◌≡◌, ◌≢◌, ◌≤◌, ◌==◌, Li
 use Rattle.std.specs.List.{AllByRecursion, slice_split}
 use Rattle.pfair_text.specs.Rows.{lines_text}
 use Rattle.pfair_entry.specs.Entry.{Logged}
-use Rattle.pfair_entry_row.specs.Faults.{Reading, IsReadingOf}
-use Rattle.pfair_entry_row.specs.Row.{entry_fields, entry_row, IsEntryAt}
+use Rattle.pfair_entry_row.specs.Row.{Reading, IsReadingOf, entry_fields, entry_row, IsEntryAt}
 
 abbrev pub EachEntryHasItsRow : Type 0
 EachEntryHasItsRow =

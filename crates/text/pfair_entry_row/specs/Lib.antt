@@ -1,5 +1,3 @@
-pub mod Fields
-pub mod Faults
 pub mod Laws
 pub mod Line
 pub mod Row

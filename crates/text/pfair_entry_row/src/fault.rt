@@ -1,6 +1,6 @@
 //! Why a row is refused.
 ghost use Rattle.std.specs.Prelude.{◌≡◌};
-ghost use Rattle.pfair_entry_row.specs.Faults.{row_fault_number};
+ghost use Rattle.pfair_entry_row.specs.Row.{row_fault_number};
 
 use pfair_entry::NoticeFault;
 use thiserror::Error;

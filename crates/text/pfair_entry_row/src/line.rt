@@ -1,10 +1,8 @@
 //! What the fields of a row say, whether or not a rule of entries refuses it.
 ghost use Rattle.std.specs.Prelude.{◌≡◌, ◌↔◌, IsTrue, MatchOption, option_map, ◌≢◌, ◌<◌, [], ◌∷◌, length, IfSome, ◌^◌, ℕ, Bool};
 ghost use Rattle.pfair_entry.specs.Notice.{noticed};
-ghost use Rattle.pfair_entry_row.specs.Row.{entry_row, IsSayable, HasNoComma, HasNone, dash, truth};
-ghost use Rattle.pfair_entry_row.specs.Faults.{SaysNothing};
+ghost use Rattle.pfair_entry_row.specs.Row.{entry_row, IsSayable, HasNoComma, HasNone, dash, truth, SaysNothing, parts, parts_at, texts};
 ghost use Rattle.pfair_entry_row.specs.Line.{logged, AreDashes, HasNoOthers, Announces, AnnouncesNothing, Notes, NotesNothing};
-ghost use Rattle.pfair_entry_row.specs.Fields.{parts, parts_at, texts};
 ghost use Rattle.std.specs.Fmt.{decimal};
 
 use itoa::Buffer;

@@ -1,8 +1,7 @@
 //! The entry that a row names.
 ghost use Rattle.std.specs.Prelude.{◌≡◌, ℕ, Ok, IfOk};
 ghost use Rattle.pfair_entry.specs.Entry.{Logged};
-ghost use Rattle.pfair_entry_row.specs.Row.{entry_row, IsEntryAt};
-ghost use Rattle.pfair_entry_row.specs.Faults.{keyed, IsReadingOf};
+ghost use Rattle.pfair_entry_row.specs.Row.{entry_row, IsEntryAt, keyed, IsReadingOf};
 ghost use Rattle.pfair_entry_row.specs.Line.{logged};
 
 use crate::fault::RowFault;

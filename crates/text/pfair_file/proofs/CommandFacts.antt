@@ -2,9 +2,8 @@
 use Rattle.pfair_file.proofs.Common.{arith, ℕ, List, Option, None, Some, Result, Ok, Err, ◌≡◌, refl, subst, sym}
 use Rattle.std.proofs.Common.{IfSome, IsErrAnd}
 use Rattle.std.specs.Io.KnownBytes.{Appends, Keeps}
-use Rattle.pfair_text.specs.Output.{TakesPrefix}
-use Rattle.pfair_file.specs.Commands.{IsCommandOf}
-use Rattle.pfair_file.specs.Input.{TakesOneFile}
+use Rattle.pfair_text.specs.Rows.{TakesPrefix}
+use Rattle.pfair_file.specs.ProgramFaults.{IsCommandOf, TakesOneFile}
 use Rattle.pfair_file.specs.declared.program_fault.ProgramFault.{ProgramFault}
 use Rattle.pfair_file.specs.declared.program_fault.ProgramFault.TheVariants.{WriteFailed}
 

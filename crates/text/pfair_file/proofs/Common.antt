@@ -1,7 +1,6 @@
 -- The names that many of these proofs cite, passed on from one place. Declares nothing.
 pub use Rattle.pfair_entry.specs.Entry.{Logged}
-pub use Rattle.pfair_file.specs.Documents.{close_all, closed, document, empty_logs}
-pub use Rattle.pfair_file.specs.Entries.{Logs, logs_after, longer_log, tables_of, with_entries, with_entry, with_items}
+pub use Rattle.pfair_file.specs.Documents.{close_all, closed, document, empty_logs, Logs, logs_after, longer_log, tables_of, with_entries, with_entry, with_items}
 pub use Rattle.pfair_file.specs.Tables.{made_at}
 pub use Rattle.pfair_file.specs.declared.fault.FileFault.{FileFault}
 pub use Rattle.pfair_file.specs.declared.fault.FileFault.TheVariants.{Memory}

@@ -1,6 +1,6 @@
 -- The first table that has a fault.
 use Rattle.pfair_file.proofs.Common.{Members, Logs, with_entries, with_entry, FileFault, ℕ, List, [], ◌∷◌, ◌++◌, Result, Ok, Err, ◌≡◌, ◌+◌, length, refl, ap, arith, ◌∙◌}
-use Rattle.pfair_file.specs.FirstFault.{IsOfFirstTable, FirstTableIsAtFault}
+use Rattle.pfair_file.specs.Documents.{IsOfFirstTable, FirstTableIsAtFault}
 
 -- a fault of some tables is the fault of one of them
 first_of : (version place : ℕ) (logs : Logs) (tables : List Members) (f : FileFault) → with_entries version place logs tables ≡ Err f → IsOfFirstTable version place logs tables f

@@ -1,9 +1,9 @@
 -- What each table adds to the logs.
 use Rattle.std.proofs.Common.{append_assoc, append-nil}
 use Rattle.pfair_file.proofs.Common.{length-set, get_or-set_same, get_or-set_other, Members, Logged, empty_logs, Logs, logs_after, with_entries, with_entry, longer_log, FileFault, ℕ, List, [], ◌∷◌, ◌++◌, Result, Ok, Err, ◌≡◌, ◌∙◌, ◌+◌, ◌<◌, length, get_or, refl, sym, ap, arith, common_steps, Made}
-use Rattle.pfair_entry.specs.Results.{and_then}
+use Rattle.pfair_entry.specs.Kinds.{and_then}
 use Rattle.pfair_entry.specs.declared.notice.NoticeFault.{NoticeFault}
-use Rattle.pfair_file.specs.FileOrder.{LogsAreInFileOrder, entries_for, entry_for, entry_list}
+use Rattle.pfair_file.specs.Documents.{LogsAreInFileOrder, entries_for, entry_for, entry_list}
 
 -- a longer log has the entry at its end
 longer-is : (p : ℕ) (log new : List Logged) (made : Result Logged NoticeFault) → longer_log p log made ≡ Ok new → new ≡ log ++ entry_list made

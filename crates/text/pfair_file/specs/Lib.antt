@@ -1,13 +1,4 @@
-pub mod Commands
 pub mod Documents
-pub mod Entries
-pub mod Faults
-pub mod FileOrder
-pub mod FirstFault
-pub mod Fields
-pub mod Headers
-pub mod Input
 pub mod Keys
 pub mod ProgramFaults
-pub mod Schedules
 pub mod Tables

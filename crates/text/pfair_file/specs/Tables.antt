@@ -3,12 +3,10 @@ use Rattle.std.specs.Prelude.{ℕ, ◌-◌, nat_lt, if◌then◌else◌, Bool, f
 use Rattle.toml.specs.Data.{Data, Members, as_bool, as_str, get_member}
 use Rattle.pfair_entry.specs.Notice.{announced, checked}
 use Rattle.pfair_entry.specs.declared.entry.Announcement.{Announcement}
-use Rattle.pfair_entry.specs.Kinds.{change_of, kind_named}
-use Rattle.pfair_entry.specs.Results.{and_then}
+use Rattle.pfair_entry.specs.Kinds.{change_of, kind_named, and_then}
 use Rattle.pfair_entry.specs.declared.notice.ChangeFields.{ChangeFields}
 use Rattle.pfair_entry.specs.declared.notice.Kind.{Kind}
-use Rattle.pfair_file.specs.Fields.{key_of}
-use Rattle.pfair_file.specs.Keys.{natural_at, number_at, text_at}
+use Rattle.pfair_file.specs.Keys.{key_of, natural_at, number_at, text_at}
 use Rattle.pfair_file.specs.declared.field.Field.TheVariants as field
 use Rattle.pfair_file.specs.declared.fault.FileFault.{FileFault}
 use Rattle.pfair_file.specs.declared.fault.FileFault.TheVariants.{Range, WrongKind}

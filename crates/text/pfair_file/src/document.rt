@@ -5,7 +5,7 @@ ghost use Rattle.pfair_table.specs.Script.{is_short, lists_of};
 ghost use Rattle.std.specs.List.{list_all};
 ghost use Rattle.pfair_file.specs.Documents.{closed, close_all, document, empty_logs, entries_at, logs_at, script_of_file};
 ghost use Rattle.pfair_file.specs.declared.fault.FileFault.TheVariants.{Memory, NotToml};
-ghost use Rattle.pfair_file.specs.Headers.{settings_of, version_of};
+ghost use Rattle.pfair_file.specs.Keys.{settings_of, version_of};
 
 use crate::fault::FileFault;
 use crate::field::{Field, integer, number, within};

@@ -1,6 +1,6 @@
 //! Why a task file is refused.
 ghost use Rattle.std.specs.Prelude.{◌≡◌};
-ghost use Rattle.pfair_file.specs.Faults.{file_fault_number};
+ghost use Rattle.pfair_file.specs.ProgramFaults.{file_fault_number};
 ghost use Rattle.pfair_file.specs.declared.fault.FileFault.TheVariants.{Memory};
 
 use crate::field::Field;

@@ -1,10 +1,9 @@
 //! The keys of a task file, and the values at them.
 ghost use Rattle.std.specs.Prelude.{◌≡◌, ok_or, option_map};
-ghost use Rattle.pfair_file.specs.Fields.{key_of};
+ghost use Rattle.pfair_file.specs.Keys.{key_of, integer_at, natural, natural_at, number_at, ranged, text_at, value_at};
 ghost use Rattle.std.specs.Result.{result_map_both};
 ghost use Rattle.toml.specs.Data.{get_member};
 ghost use Rattle.toml.specs.View.{table_view, view};
-ghost use Rattle.pfair_file.specs.Keys.{integer_at, natural, natural_at, number_at, ranged, text_at, value_at};
 
 use crate::fault::FileFault;
 use std::fmt;

@@ -1,8 +1,7 @@
 //! What a program is given: its words, and the task file that it reads.
 ghost use Rattle.std.specs.Prelude.{◌≡◌, ◌⊎◌, IfErr, alloc_error, Ok, IfOk, IfSome, ◌≤◌, ◌<◌, length, IsErrOf, OnOk, IsTrue, ◌↔◌};
-ghost use Rattle.pfair_file.specs.Input.{TakesOneFile, HasTaken};
-ghost use Rattle.pfair_file.specs.Documents.{script_of_file};
-ghost use Rattle.pfair_file.specs.Schedules.{IsRefusalOf};
+ghost use Rattle.pfair_file.specs.ProgramFaults.{TakesOneFile, HasTaken};
+ghost use Rattle.pfair_file.specs.Documents.{script_of_file, IsRefusalOf};
 ghost use Rattle.pfair_file.specs.declared.program_fault.ProgramFault.TheVariants.{ReadFailed, Memory, FileTooLong};
 ghost use Rattle.std.specs.Io.KnownBytes.{Consumes, IsAtEnd};
 ghost use Rattle.std.specs.IoError.{error_kind};

@@ -1,6 +1,5 @@
 //! The laws of task files. Each function does nothing: its contract is the law.
-ghost use Rattle.pfair_file.specs.FileOrder.{LogsAreInFileOrder};
-ghost use Rattle.pfair_file.specs.FirstFault.{FirstTableIsAtFault};
+ghost use Rattle.pfair_file.specs.Documents.{LogsAreInFileOrder, FirstTableIsAtFault};
 
 /// Before it is closed, the log of a processor has the entries of the tables that name the
 /// processor, in the order of the file, and nothing else.

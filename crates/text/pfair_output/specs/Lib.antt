@@ -1,6 +1,2 @@
-pub mod Booked
-pub mod Decisions
 pub mod Lags
 pub mod Replay
-pub mod Runs
-pub mod Slots

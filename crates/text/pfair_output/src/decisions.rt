@@ -3,8 +3,7 @@
 
 ghost use Rattle.std.specs.Prelude.{◌≡◌, ◌≤◌, ◌++◌, drop, map, OnOk, IsTrue};
 ghost use Rattle.pfair_text.specs.Rows.{IsOpen, is_plain, line, lines_text, text_so_far};
-ghost use Rattle.pfair_output.specs.Slots.{slots_from};
-ghost use Rattle.pfair_output.specs.Decisions.{decided_rows, decision_row, decisions_header, outcome_of, value_of};
+ghost use Rattle.pfair_output.specs.Replay.{slots_from, decided_rows, decision_row, decisions_header, outcome_of, value_of};
 
 use csv::Writer;
 use itoa::Buffer;

@@ -5,8 +5,7 @@ ghost use Rattle.std.specs.Prelude.{◌≡◌, ◌≤◌, ◌<◌, ◌-◌, ◌+
 ghost use Rattle.pfair_text.specs.Rows.{IsOpen, line, lines_text, text_so_far};
 ghost use Rattle.pfair_table.specs.declared.slot.Decided.{Decided};
 ghost use Rattle.pfair_table.specs.Table.{Table};
-ghost use Rattle.pfair_output.specs.Lags.{lags_header};
-ghost use Rattle.pfair_output.specs.Booked.{slot_booked, all_slots_booked, book_rows, rows_booked, entered_again, first_book};
+ghost use Rattle.pfair_output.specs.Lags.{lags_header, slot_booked, all_slots_booked, book_rows, rows_booked, entered_again, first_book};
 ghost use Rattle.std.specs.List.{AllByRecursion};
 ghost use Rattle.pfair_admission.specs.Carried.{CanBeCarried};
 ghost use Rattle.pfair_admission.specs.Member.{Member};

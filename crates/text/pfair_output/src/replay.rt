@@ -5,8 +5,7 @@ ghost use Rattle.std.specs.Prelude.{◌≡◌, ◌≤◌, ◌++◌, ◌∷◌, [
 ghost use Rattle.pfair_text.specs.Rows.{IsOpen, line, lines_text, text_so_far};
 ghost use Rattle.pfair_table.specs.Places.{places_in};
 ghost use Rattle.pfair_table.specs.Table.{Table};
-ghost use Rattle.pfair_output.specs.Slots.{slots_from};
-ghost use Rattle.pfair_output.specs.Replay.{placed_header, placed_row, placed_rows_from, placed_table_rows, placed_text, places_at, replay_header, replay_text, table_rows};
+ghost use Rattle.pfair_output.specs.Replay.{slots_from, placed_header, placed_row, placed_rows_from, placed_table_rows, placed_text, places_at, replay_header, replay_text, table_rows};
 
 use csv::Writer;
 use itoa::Buffer;

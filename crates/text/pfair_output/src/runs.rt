@@ -1,15 +1,12 @@
 //! The decisions and the lags of a script's run. One slot at a time is held in memory.
 ghost use Rattle.std.specs.Prelude.{◌≡◌, ◌≤◌, ◌<◌, ◌+◌, ◌∷◌, [], IfOk, IfErr, None, OnOk, length};
 ghost use Rattle.std.specs.List.{flat_map};
-ghost use Rattle.pfair_replica.specs.ReplicaRows.{replica_of};
-ghost use Rattle.pfair_replica.specs.Replica.{frontier, numbers_below, said};
-ghost use Rattle.pfair_table.specs.Script.{replica_of_logs};
-ghost use Rattle.pfair_table.specs.ScriptRun.{IsBySlot, IsScriptFaultOf};
+ghost use Rattle.pfair_replica.specs.Replica.{replica_of, frontier, numbers_below, said};
+ghost use Rattle.pfair_table.specs.Script.{replica_of_logs, IsBySlot, IsScriptFaultOf};
 ghost use Rattle.pfair_table.specs.Table.{decisions, table};
 ghost use Rattle.pfair_text.specs.Rows.{lines_text};
-ghost use Rattle.pfair_output.specs.Decisions.{decisions_text};
+ghost use Rattle.pfair_output.specs.Replay.{decisions_text, decided_below, decided_of};
 ghost use Rattle.pfair_output.specs.Lags.{lag_rows, lags_header, lags_text};
-ghost use Rattle.pfair_output.specs.Runs.{decided_below, decided_of};
 
 use crate::decisions::{add_decisions, add_decisions_header};
 use crate::lags::{add_lags, add_lags_header, book_slot};

@@ -1,18 +1,15 @@
 -- The names that many of these proofs cite, passed on from one place. Declares nothing.
-pub use Rattle.pfair_admission.specs.Admission.{Machine}
+pub use Rattle.pfair_admission.specs.Admission.{Machine, Roster}
 pub use Rattle.pfair_admission.specs.Member.{Member}
-pub use Rattle.pfair_admission.specs.Restored.{CanBeRestored}
-pub use Rattle.pfair_admission.specs.Roster.{Roster}
+pub use Rattle.pfair_admission.specs.Carried.{CanBeRestored}
 pub use Rattle.pfair_admission.specs.declared.delay.Delay.{Delay}
-pub use Rattle.pfair_entry_row.specs.Fields.{parts, parts_at}
-pub use Rattle.pfair_entry_row.specs.Row.{truth}
+pub use Rattle.pfair_entry_row.specs.Row.{parts, parts_at, truth}
 pub use Rattle.pfair_state.specs.Reading.{AreSpelled, IsBehindMembers, IsSpelled, IsSpelledQuantum, IsWritable, StatesHaveOneText, as_late, as_member, as_quantum, fields_of, first_of, first_said, late_said, line_of, member_of, member_said, own_said, ran_said, row_of, said_before_end, said_of}
 pub use Rattle.pfair_state.specs.Rows.{end_row, first_row, late_row, member_row, member_rows, ran_row, ran_rows, rows_before_end, slot_field, state_rows, state_text}
 pub use Rattle.pfair_state.specs.declared.rows.MemberRow.{MemberRow}
 pub use Rattle.pfair_state.specs.declared.rows.Row.{Row}
 pub use Rattle.pfair_state.specs.declared.rows.Row.TheVariants.{End, First, Late, Ran}
-pub use Rattle.pfair_table.specs.Limits.{AreLeftAt, IsState, can_add_row, with_row}
-pub use Rattle.pfair_table.specs.Places.{ArePlacesOf, IsFit}
+pub use Rattle.pfair_table.specs.Places.{AreLeftAt, IsState, can_add_row, with_row, ArePlacesOf, IsFit}
 pub use Rattle.pfair_table.specs.Table.{Carried, Table, names_task}
 pub use Rattle.pfair_table.specs.declared.slot.Pick.{Pick}
 pub use Rattle.pfair_text.proofs.NameFacts.{is_plain-name}

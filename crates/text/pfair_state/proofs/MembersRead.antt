@@ -1,7 +1,7 @@
 -- The members of a state, restored row after row.
 use Rattle.pfair_state.proofs.Common.{AllByRecursion, flat_map, append-nil, length-map, NamesApart, Member, Roster, Delay, AreLeftAt, IsBehindMembers, as_late, late_said, member_of, as_member, member_said, own_said, row_of, MemberRow, Row, ℕ, ◌+◌, ◌%◌, ◌≡◌, refl, sym, ap, subst, ◌∙◌, List, [], ◌∷◌, ◌++◌, Some, None, length, map, drop, slice_get, append_assoc, Machine, CanBeRestored}
 use Rattle.pfair_admission.specs.Laws.{HaveRoom}
-use Rattle.pfair_admission.specs.Restored.{IsLeftAt}
+use Rattle.pfair_admission.specs.Carried.{IsLeftAt}
 use Rattle.pfair_admission.proofs.RestoredRuns.{in_turn}
 use Rattle.pfair_state.specs.declared.rows.Row.TheVariants.{Member as MemberIn}
 use Rattle.pfair_state.proofs.Behind.{behind_some, first_at, next_behind}

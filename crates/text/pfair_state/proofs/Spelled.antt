@@ -3,9 +3,8 @@ use Rattle.pfair_state.proofs.Common.{decimal, AllByRecursion, join_with_byte, l
 use Rattle.std.proofs.lemmas.Bool.{and_parts}
 use Rattle.std.proofs.lemmas.List.Folds.{list_any-append}
 use Rattle.std.proofs.lemmas.List.Splits.{join_with_byte-slice_split, slice_split_at}
-use Rattle.pfair_weight.specs.Share.{IsWeight}
-use Rattle.pfair_weight.specs.NameFault.{IsFaultOf as IsNameFaultOf}
-use Rattle.pfair_weight.specs.WeightFault.{IsFaultOf as IsWeightFaultOf}
+use Rattle.pfair_weight.specs.Window.{IsWeight, IsFaultOf as IsWeightFaultOf}
+use Rattle.pfair_weight.specs.Name.{IsFaultOf as IsNameFaultOf}
 use Rattle.pfair_weight.specs.declared.name.NameFault.{NameFault}
 use Rattle.pfair_weight.specs.declared.name.NameFault.TheVariants.{Empty, TooLong, BadByte}
 use Rattle.pfair_weight.specs.declared.weight.WeightFault.{WeightFault}

@@ -3,18 +3,17 @@ use Rattle.std.specs.Prelude.{ℕ, ◌+◌, ◌<◌, ◌^◌, min, ◌≡◌, Op
 use Rattle.std.specs.Fmt.{decimal}
 use Rattle.std.specs.List.{AllByRecursion, flat_map, join_with_byte}
 use Rattle.pfair_weight.specs.Name.{IsTaskName}
-use Rattle.pfair_weight.specs.Share.{IsWeight}
+use Rattle.pfair_weight.specs.Window.{IsWeight}
 use Rattle.pfair_entry_row.specs.Row.{truth}
 use Rattle.pfair_admission.specs.Member.{Member as MemberOf}
-use Rattle.pfair_admission.specs.Roster.{Roster}
+use Rattle.pfair_admission.specs.Admission.{Roster}
 use Rattle.pfair_admission.specs.declared.delay.Delay.{Delay}
-use Rattle.pfair_table.specs.Limits.{AreLeftAt, IsState}
-use Rattle.pfair_table.specs.Places.{ArePlacesOf, IsFit}
+use Rattle.pfair_table.specs.Places.{AreLeftAt, IsState, ArePlacesOf, IsFit}
 use Rattle.pfair_table.specs.Table.{Carried, Table}
 use Rattle.pfair_table.specs.declared.slot.Pick.{Pick}
 use Rattle.pfair_state.specs.Rows.{slot_field, state_text}
 use Rattle.pfair_state.specs.declared.fault.ReadFault.{ReadFault}
-use Rattle.pfair_state.specs.declared.fault.ReadFault.TheVariants.{Memory}
+use Rattle.pfair_state.specs.declared.fault.ReadFault.TheVariants.{Memory, NoRow, Refused}
 use Rattle.pfair_state.specs.declared.rows.FirstRow.{FirstRow}
 use Rattle.pfair_state.specs.declared.rows.LateRow.{LateRow}
 use Rattle.pfair_state.specs.declared.rows.MemberRow.{MemberRow}
@@ -149,3 +148,10 @@ IfQuantaFrom rows from old P =
     (table : Table) (places : List ℕ) (behind : List Row) → (old.table ≡ []) × (old.places ≡ []) → IsFit old.machine.processors table
     → ArePlacesOf old.machine.processors table places → drop from rows ≡ ran_said table places ++ behind → as_quantum (slice_get behind 0) ≡ None
     → P table places behind
+
+-- The numbers of the faults of states.
+
+abbrev pub read_fault_number : ReadFault → ℕ
+read_fault_number (NoRow line) = 68
+read_fault_number (Refused line why) = 69
+read_fault_number Memory = 90

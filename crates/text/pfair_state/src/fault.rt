@@ -1,6 +1,6 @@
 //! Why a text isn't read as a state.
 ghost use Rattle.std.specs.Prelude.{◌≡◌};
-ghost use Rattle.pfair_state.specs.Faults.{read_fault_number};
+ghost use Rattle.pfair_state.specs.Reading.{read_fault_number};
 
 use pfair_admission::RestoreFault;
 use std::alloc::AllocError;

@@ -1,11 +1,10 @@
 //! A state from its text.
 ghost use Rattle.std.specs.Prelude.{◌≡◌, ◌+◌, ◌≤◌, [], ◌++◌, ◌∷◌, None, drop, length, IfErr, IfOk, OnOk};
-ghost use Rattle.pfair_admission.specs.Restored.{CanBeRestored};
+ghost use Rattle.pfair_admission.specs.Carried.{CanBeRestored};
 ghost use Rattle.pfair_admission.specs.declared.member_state.RestoreFault.TheVariants.{Memory as OutOfMemory};
-ghost use Rattle.pfair_table.specs.Limits.{AreLeftAt};
+ghost use Rattle.pfair_table.specs.Places.{AreLeftAt};
 ghost use Rattle.pfair_table.specs.Table.{Carried};
-ghost use Rattle.pfair_state.specs.Reading.{IfDelaysFrom, IfMembersBehindFirst, IfQuantaFrom};
-ghost use Rattle.pfair_state.specs.Reading.{IsReadAs, IsWritable, member_of, said_of};
+ghost use Rattle.pfair_state.specs.Reading.{IfDelaysFrom, IfMembersBehindFirst, IfQuantaFrom, IsReadAs, IsWritable, member_of, said_of};
 ghost use Rattle.pfair_state.specs.Rows.{state_text};
 ghost use Rattle.pfair_state.specs.declared.fault.ReadFault.TheVariants.{Memory};
 

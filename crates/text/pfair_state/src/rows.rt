@@ -6,7 +6,7 @@ ghost use Rattle.std.specs.List.{AllByRecursion};
 ghost use Rattle.pfair_text.specs.Rows.{lines_text};
 ghost use Rattle.pfair_state.specs.Reading.{IsReadAs, IsSpelled, fields_of, first_fields, late_fields, member_fields, ran_fields};
 ghost use Rattle.pfair_state.specs.declared.rows.Row.{Row};
-ghost use Rattle.pfair_entry_row.specs.Fields.{parts};
+ghost use Rattle.pfair_entry_row.specs.Row.{parts};
 ghost use Rattle.pfair_state.specs.Rows.{slot_field};
 ghost use Rattle.pfair_state.specs.declared.rows.FirstRow.{FirstRow};
 ghost use Rattle.pfair_state.specs.declared.rows.LateRow.{LateRow};

@@ -2,9 +2,8 @@
 ghost use Rattle.std.specs.Prelude.{◌≡◌, ◌<◌, ◌++◌, [], length, map, IsTrue, OnOk, IfOk, OnErr};
 ghost use Rattle.std.specs.List.{list_all};
 ghost use Rattle.csv.specs.Writing.{writer_pending};
-ghost use Rattle.pfair_text.specs.Rows.{is_plain, IsOpen, line, text_so_far};
+ghost use Rattle.pfair_text.specs.Rows.{is_plain, IsOpen, line, text_so_far, TakesPrefix};
 ghost use Rattle.std.specs.Io.KnownBytes.{Appends};
-ghost use Rattle.pfair_text.specs.Output.{TakesPrefix};
 
 use csv::{Writer, WriterBuilder};
 use std::alloc::{AllocError, Global};

@@ -1,14 +1,13 @@
 -- How long a claim is held, and who goes before whom.
 use Rattle.std.proofs.Common.{◌≡◌, ℕ, suc, ◌+◌, ◌-◌, ◌*◌, ◌<◌, ◌≤◌, List, length, arith, ap, inl, inr, get_or, if◌then◌else◌}
 use Rattle.pfair_in_time.proofs.Common.{Contains, cases_lt, cases_eq, lt-ltb, le-ltb, slice_get_within, slice_get-get_or, Share, IsWeight, deadline_of, b_bit_of, group_deadline_of, deadline_rises_strictly, b_bit_at_most_one, Key, Member, theta, busy_until, theta_rises}
-use Rattle.pfair_weight.specs.GroupFacts.{group_deadline_light, group_deadline_whole, group_deadline_heavy, group_deadline_not_before, group_deadline_rises, by_kind}
-use Rattle.pfair_order.specs.Order.{pd2_cmp, GoesBefore}
-use Rattle.pfair_order.specs.Rank.{rank, first_by_rank, EachOnce}
+use Rattle.pfair_weight.specs.WindowFacts.{group_deadline_light, group_deadline_whole, group_deadline_heavy, group_deadline_not_before, group_deadline_rises, by_kind}
+use Rattle.pfair_order.specs.Order.{pd2_cmp, GoesBefore, rank, first_by_rank, EachOnce}
 use Rattle.pfair_order.proofs.KeyLaws.{keys_total}
 use Rattle.pfair_order.proofs.OrderLemmas.{goes_before}
 use Rattle.pfair_order.proofs.RankLemmas.{place_of, at_place, less_by_rank, first_within}
 use Rattle.pfair_order.proofs.InOrder.{by_rank_first}
-use Rattle.pfair_optimal.specs.Fluid.{busy_bound_of}
+use Rattle.pfair_optimal.specs.Schedule.{busy_bound_of}
 
 -- a later offset puts the group deadline of a heavy weight off
 group_moves : (w : Share) (i from to : ℕ) → IsWeight w.cost w.period → from ≤ to → group_deadline_of w i from ≤ group_deadline_of w i to

@@ -3,8 +3,7 @@ use Rattle.std.proofs.Common.{◌≡◌, ℕ, zero, suc, ◌+◌, ◌%◌, ◌<�
 use Rattle.pfair_in_time.proofs.Common.{Contains, true≢false, cases_lt, cases_eq, cases_order, and_parts, and_from, not-true, not_from_false, le-leb, length-map, Share, IsWeight, units_of, release_of, deadline_of, b_bit_of, group_deadline_of, b_bit_at_most_one, Key, Among, among_contains, contains_among, filter_among, map_among, Member, theta, is_departing, eligible_from, next_key, Settings, eligible, is_eligible, Story, world, IsSound, theta_rises, any_among, eligible_no_later, same_Some}
 use Rattle.pfair_order.specs.Order.{GoesBefore}
 use Rattle.pfair_order.proofs.NamesApart.{once_from_names}
-use Rattle.pfair_optimal.specs.Schedule.{Task, Subtask, Schedule, is_among, same_task, release, deadline, b_bit, group_deadline, busy_bound, is_row, has_run, IsNext, GoesFirst}
-use Rattle.pfair_optimal.specs.Beginning.{IsRunBelow}
+use Rattle.pfair_optimal.specs.Schedule.{Task, Subtask, Schedule, is_among, same_task, release, deadline, b_bit, group_deadline, busy_bound, is_row, has_run, IsNext, GoesFirst, IsRunBelow}
 use Rattle.pfair_optimal.proofs.Past.{task_exact, ran_by, ran_more}
 use Rattle.pfair_in_time.proofs.Worlds.{any_from_among, runs, keys_at, keys_apart, runs_chosen, chosen_runs, here, HaveWeights}
 use Rattle.pfair_in_time.proofs.Lines.{line_of, back_to, on_to, IsGone}

@@ -2,13 +2,11 @@
 use Rattle.std.proofs.Common.{◌≡◌, ℕ, suc, ◌+◌, ◌*◌, ◌<◌, true, false, arith, ap, subst, pos, neg_ℤ, ◌<ℤ◌, nat_lt, None}
 use Rattle.pfair_in_time.proofs.Common.{lt-ltb, le_refl, Among, among_filter, among_below, among_map, numbers_below, said, Member, is_departing, lag_at, HasBegun, Settings, Story, counted_one, members_before, slot_of, world, origin_after, all_among}
 use Rattle.std.proofs.lemmas.Simd.{map-map}
-use Rattle.pfair_lag.specs.Lag.{lag_numerator}
-use Rattle.pfair_lag.specs.Laws.{LagsKeepWindows, LagsKeepDeadlines}
+use Rattle.pfair_lag.specs.Lag.{lag_numerator, LagsKeepWindows, LagsKeepDeadlines}
 use Rattle.pfair_admission.proofs.Each.{each}
-use Rattle.pfair_output.specs.Booked.{first_book}
+use Rattle.pfair_output.specs.Lags.{first_book}
 use Rattle.pfair_output.proofs.WorldFacts.{HasJoined, after_all, begins_after, over_slots}
-use Rattle.pfair_in_time.specs.Lags.{BooksShowLags, IsWithinOne, LagsStayWithinOne}
-use Rattle.pfair_in_time.specs.Windows.{slots_since}
+use Rattle.pfair_in_time.specs.Runs.{BooksShowLags, IsWithinOne, LagsStayWithinOne, slots_since}
 use Rattle.pfair_in_time.proofs.LongRun.{long_story, begun_after}
 use Rattle.pfair_in_time.proofs.Passing.{passing_rise}
 use Rattle.pfair_in_time.proofs.ThroughRuns.{long_undelayed, meets, within, has_after, weights}

@@ -1,7 +1,7 @@
 -- Runs that follow one another, beside the one long run.
 use Rattle.std.proofs.Common.{◌≡◌, ℕ, ◌+◌, ◌-◌, ◌*◌, ◌<◌, ◌≤◌, List, [], ◌∷◌, None, arith, refl, ap, sym, ◌∙◌, subst, inl, inr, ◌||◌, if◌then◌else◌}
 use Rattle.pfair_in_time.proofs.Common.{list_any, Past, origin_after, table_through, said, cases_lt, lt-ltb, le-ltb, Share, name_eq, Among, among_all, among_map, map_among, Member, next_key, theta, lag_at, HasBegun, IsWeighedStory, both_stories, Settings, Origin, Story, Table, names_task, slot_of, history, world, table, begun_over, long_early, members_paired, names_of, names_same, slot_on, world_at, AllByRecursion, IsReplica, announcements, decided, Machine, machine, apart_nil, label, left_begun, IsBegun}
-use Rattle.pfair_ready.specs.Names.{NameValue as Name}
+use Rattle.pfair_ready.specs.Queue.{NameValue as Name}
 use Rattle.pfair_admission.proofs.Beside.{ArePaired, Pair, lag_same, long_of, short_of}
 use Rattle.pfair_admission.proofs.Lowered.{next_key_same}
 use Rattle.pfair_table.proofs.TableLaws.{same_history}

@@ -1,7 +1,7 @@
 -- More than there is can't be served: by the end of a frame as many quanta are due as the tasks want.
 use Rattle.std.proofs.Common.{◌≡◌, ℕ, zero, suc, ◌+◌, ◌*◌, ◌/◌, ◌%◌, ◌<◌, ◌≤◌, true, cond, List, [], ◌∷◌, length, arith, ap, refl, sym, ◌∙◌, subst, inl, inr, sum_by, filter, map}
 use Rattle.pfair_in_time.proofs.Common.{cases_lt, sum_by-cons, sum_by_push, mod-eq-sub-div-mul, div-mul-le_self, mul-suc, mul_comm, NamesApart, Share, IsWeight, units_of, deadline_of, name_exact, name_eq, Among, among_all, numbers_below, Table, names_task, names_of, apart_filter, length-map, list_any, any_among, among_map, among_filter}
-use Rattle.pfair_weight.specs.JobFacts.{job_due}
+use Rattle.pfair_weight.specs.WindowFacts.{job_due}
 use Rattle.pfair_in_time.specs.Schedules.{Arrival, quanta_before, NoneServesMore}
 use Rattle.std.proofs.lemmas.Map.Made.{length-le_from_is_member}
 use Rattle.std.proofs.lemmas.Cmp.{nat_list_eq_equiv}

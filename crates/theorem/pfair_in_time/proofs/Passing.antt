@@ -2,7 +2,7 @@
 use Rattle.std.proofs.Common.{◌≡◌, ℕ, zero, suc, ◌+◌, ◌<◌, ◌≤◌, Bool, true, cond, List, [], ◌∷◌, ◌++◌, length, get_or, arith, ap, inl, inr, filter}
 use Rattle.pfair_in_time.proofs.Common.{cases_lt, cases_eq, cases_Bool, length-append, get_or_push, get_or_append_left, numbers_below}
 use Rattle.std.proofs.lemmas.List.Elements.{filter-append}
-use Rattle.pfair_lag.specs.Picks.{ArePicks}
+use Rattle.pfair_lag.specs.Lag.{ArePicks}
 
 module _ (f : ℕ → Bool) where
   abbrev pub passing : ℕ → List ℕ

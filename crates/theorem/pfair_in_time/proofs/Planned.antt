@@ -2,13 +2,12 @@
 use Rattle.std.proofs.Common.{◌≡◌, ℕ, zero, suc, List, [], ◌∷◌, map, Some, refl, ap, sym, ◌∙◌, subst, inl, inr, ◌⊎◌}
 use Rattle.pfair_in_time.proofs.Common.{entry_exact, entry_eq, Replica, Untorn, Agree, said, last_places, last_table, left_over, Settings, Origin, Story, machine, slot_of, slot_after, history, Past, origin_after, IsServed}
 use Rattle.pfair_lattice.specs.declared.join_map.Flat.TheVariants.{Torn}
-use Rattle.pfair_lattice.specs.HeldLaws.{join_least, below_itself}
-use Rattle.pfair_replica.specs.ReplicaRows.{replica_of}
+use Rattle.pfair_lattice.specs.Held.{join_least, below_itself}
+use Rattle.pfair_replica.specs.Replica.{replica_of}
 use Rattle.pfair_admission.specs.Carried.{carried}
-use Rattle.pfair_table.specs.Events.{begin_at, run}
-use Rattle.pfair_table.specs.Laws.{OneSchedule}
+use Rattle.pfair_table.specs.Events.{begin_at, run, OneSchedule}
 use Rattle.pfair_table.proofs.Runs.{sound_run, sound_start}
-use Rattle.pfair_in_time.specs.Dispatched.{DispatchersNeverMiss, DispatchersRunOn, NeverMisses, past_of}
+use Rattle.pfair_in_time.specs.Runs.{DispatchersNeverMiss, DispatchersRunOn, NeverMisses, past_of}
 use Rattle.pfair_in_time.proofs.ThroughRuns.{none_misses}
 
 -- what isn't torn agrees with itself

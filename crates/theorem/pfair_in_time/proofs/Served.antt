@@ -11,7 +11,7 @@ use Rattle.pfair_in_time.proofs.Windows.{served, no_offset_all, runs_at}
 use Rattle.pfair_in_time.proofs.Worlds.{tables_before, HaveWeights}
 use Rattle.std.proofs.lemmas.Simd.{map-map}
 use Rattle.std.proofs.lemmas.List.Sums.{length-filter}
-use Rattle.pfair_in_time.specs.Windows.{slots_since}
+use Rattle.pfair_in_time.specs.Runs.{slots_since}
 
 -- ---- those who are there
 

@@ -1,17 +1,16 @@
 -- The slots of all runs in which a member runs are in its windows.
 use Rattle.std.proofs.Common.{◌≡◌, ℕ, zero, suc, ◌+◌, ◌-◌, ◌*◌, ◌<◌, ◌≤◌, Bool, true, false, cond, List, [], length, get_or, max, None, arith, ap, sym, ◌∙◌, subst, inl, inr, is_some}
 use Rattle.pfair_in_time.proofs.Common.{cases_lt, release_of, deadline_of, starts_job_of, Among, Replica, said, Member, theta, is_departing, theta_rises, Settings, Story, names_task, slot_of, world, table, Past, origin_after, table_through, IsRunAfter, IsServed, NoneMisses, Pick, Key, name_eq, name_itself, among_map, next_key, pick, chosen, index_of, named_from, history, counted, counted_on, slot_more, Origin, IsWeighedStory}
-use Rattle.pfair_weight.specs.JobFacts.{deadline_repeats, job_due, job_released, release_repeats, starts_after_jobs}
-use Rattle.pfair_lag.specs.Picks.{InWindows, MeetsDeadlines}
+use Rattle.pfair_weight.specs.WindowFacts.{deadline_repeats, job_due, job_released, release_repeats, starts_after_jobs}
+use Rattle.pfair_lag.specs.Lag.{InWindows, MeetsDeadlines}
 use Rattle.pfair_table.proofs.Within.{said_weighed}
-use Rattle.pfair_in_time.specs.Windows.{slots_since, slots_run, KeepsDeadlines, KeepsWindows, DeadlinesAreKept, WindowsAreKept}
+use Rattle.pfair_in_time.specs.Runs.{slots_since, slots_run, KeepsDeadlines, KeepsWindows, DeadlinesAreKept, WindowsAreKept, IsInTime}
 use Rattle.pfair_in_time.proofs.Lines.{back_to}
 use Rattle.pfair_in_time.proofs.LongRun.{HasLater, IsLater, long_story, long_weights, runs_long, world_long, each_weight, begun_after, history_long, runs_in_long}
 use Rattle.pfair_in_time.proofs.Passing.{passing, one_more, at_place, passing_rise, fewer_before}
 use Rattle.pfair_in_time.proofs.Windows.{runs_at, IsKept, IsUndelayed, kept_at, no_offset_all, served}
 use Rattle.pfair_in_time.proofs.Worlds.{here, HaveWeights, any_from_among, chosen_member, on, tables_before}
 use Rattle.pfair_in_time.proofs.InTime.{none, in_time, open_from}
-use Rattle.pfair_in_time.specs.InTime.{IsInTime}
 use Rattle.pfair_table.proofs.FirstSubtasks.{found_own}
 
 -- ---- a member, and the one of the long run that it is

@@ -2,7 +2,7 @@
 use Rattle.std.proofs.Common.{◌≡◌, ℕ, zero, suc, ◌+◌, ◌<◌, ◌≤◌, Bool, true, false, List, [], length, drop, arith, ap, sym, ◌∙◌, inl, inr, nat_le, filter, sum_by, count_by, None, ◌⊎◌}
 use Rattle.pfair_in_time.proofs.Common.{cases_lt, Share, release_of, deadline_of, starts_job_of, deadline_rises, Among, Member, theta, is_departing, Settings, names_task, quanta, next_index, Story, world, table}
 use Rattle.pfair_admission.specs.declared.delay.Delay.{Delay}
-use Rattle.pfair_in_time.specs.Windows.{slots_since}
+use Rattle.pfair_in_time.specs.Runs.{slots_since}
 use Rattle.pfair_in_time.proofs.Worlds.{tables_before, runs, next_more, next_new, here, HaveWeights, index_after, runs_chosen}
 use Rattle.pfair_in_time.proofs.Lines.{IsLine}
 use Rattle.pfair_in_time.proofs.InTime.{none, in_time, open_from}

@@ -1,17 +1,18 @@
 -- Which tasks can be served: tables of any planner, and how many quanta they give.
-use Rattle.std.specs.Prelude.{ℕ, ◌≡◌, ◌*◌, ◌%◌, ◌<◌, ◌≤◌, ◌↔◌, Bool, List, [], map, length, sum_by, count_by, None}
+use Rattle.std.specs.Prelude.{ℕ, ◌≡◌, ◌*◌, ◌%◌, ◌<◌, ◌≤◌, ◌↔◌, Bool, List, [], map, length, sum_by, count_by, None, ◌+◌, ◌/◌, Option, Some}
 use Rattle.std.specs.List.{AllByRecursion}
 use Rattle.pfair_weight.specs.Name.{NameValue as Name, NamesApart}
-use Rattle.pfair_weight.specs.Share.{Share, IsWeight, units_of}
-use Rattle.pfair_weight.specs.Window.{deadline_of}
+use Rattle.pfair_weight.specs.Window.{Share, IsWeight, units_of, deadline_of}
 use Rattle.pfair_entry.specs.declared.entry.Announcement.{Announcement}
 use Rattle.pfair_entry.specs.declared.entry.Announcement.TheVariants.{Arrive}
-use Rattle.pfair_replica.specs.Among.{Among}
+use Rattle.pfair_replica.specs.Laws.{Among}
 use Rattle.pfair_replica.specs.Replica.{Replica, said, numbers_below}
 use Rattle.pfair_admission.specs.declared.decision.Decision.TheVariants.{Admitted}
-use Rattle.pfair_admission.specs.Admission.{announcements}
+use Rattle.pfair_admission.specs.Admission.{announcements, member_named}
 use Rattle.pfair_table.specs.declared.slot.Decided.{Decided}
-use Rattle.pfair_table.specs.Table.{Settings, Table, names_task, table, decisions}
+use Rattle.pfair_table.specs.Table.{Settings, Table, names_task, table, decisions, world}
+use Rattle.pfair_admission.specs.Member.{Member}
+use Rattle.pfair_table.specs.declared.slot.Pick.{Pick}
 
 -- ---- tasks that join at slot 0
 
@@ -67,3 +68,30 @@ NoneServesMore =
     (processors frame : ℕ) (tables : ℕ → Table) (arrivals : List Arrival) → AreArrivals frame arrivals
     → ((t : ℕ) → t < frame → length (tables t) ≤ processors) → processors * frame < units_wanted frame arrivals
     → (a : Arrival) × Among arrivals a × IsLate tables frame a
+
+-- A static schedule repeats: that of tasks which all arrive at slot 0 and never change.
+
+-- h is a multiple of each member's period
+abbrev pub IsCommonMultiple : ℕ → List Member → Type 0
+IsCommonMultiple h members = (m : Member) → Among members m → h % m.weight.period ≡ 0
+
+-- the quanta of a member in h slots
+abbrev pub quanta_in : ℕ → Option Member → ℕ
+quanta_in h None = 0
+quanta_in h (Some m) = units_of m.weight h
+
+-- a row h slots later: that of the same task, for the subtask that is as many quanta later as the task has in h slots
+abbrev pub later_row : ℕ → List Member → Pick → Pick
+later_row h members p = record p { index = p.index + quanta_in h (member_named members p.name) }
+
+-- Tables repeat: if nothing is said but arrivals at slot 0, and h is a common multiple of the periods of those that are admitted.
+abbrev pub TablesRepeat : Type 0
+TablesRepeat =
+    (s : Settings) (x : Replica) (arrivals : List Arrival) (h : ℕ) → 0 < s.frame → SaysOnly x arrivals → AllByRecursion (λ a. IsWeight a.weight.cost a.weight.period) arrivals
+    → IsCommonMultiple h (world None s (said x) 0) → (t : ℕ) → table None s (said x) (t + h) ≡ map (later_row h (world None s (said x) 0)) (table None s (said x) t)
+
+-- So the first h tables give those of all slots.
+abbrev pub RepeatsByPeriods : Type 0
+RepeatsByPeriods =
+    (s : Settings) (x : Replica) (arrivals : List Arrival) (h : ℕ) → 0 < s.frame → SaysOnly x arrivals → AllByRecursion (λ a. IsWeight a.weight.cost a.weight.period) arrivals
+    → IsCommonMultiple h (world None s (said x) 0) → (t : ℕ) → table None s (said x) t ≡ map (later_row (t / h * h) (world None s (said x) 0)) (table None s (said x) (t % h))

@@ -3,13 +3,9 @@
 //! Each function states one law and does nothing. Slots count from the first run's first slot, and
 //! each law holds of a first run and of each run that follows, with the members that the last one
 //! left, whatever the numbers of slots of the runs before.
-ghost use Rattle.pfair_in_time.specs.Dispatched.{DispatchersNeverMiss, DispatchersRunOn, NeverMisses};
-ghost use Rattle.pfair_in_time.specs.Lags.{BooksShowLags, LagsStayWithinOne};
+ghost use Rattle.pfair_in_time.specs.Runs.{DispatchersNeverMiss, DispatchersRunOn, NeverMisses, BooksShowLags, LagsStayWithinOne, NoneMisses, WindowsAreKept, DeadlinesAreKept};
 ghost use Rattle.pfair_in_time.specs.Laws.{BoundariesKeepMembers};
-ghost use Rattle.pfair_in_time.specs.Repeats.{TablesRepeat, RepeatsByPeriods};
-ghost use Rattle.pfair_in_time.specs.Runs.{NoneMisses};
-ghost use Rattle.pfair_in_time.specs.Schedules.{ServedWhereThereIsRoom, NoneServesMore};
-ghost use Rattle.pfair_in_time.specs.Windows.{WindowsAreKept, DeadlinesAreKept};
+ghost use Rattle.pfair_in_time.specs.Schedules.{TablesRepeat, RepeatsByPeriods, ServedWhereThereIsRoom, NoneServesMore};
 
 use pfair_lag::laws::{lags_keep_deadlines, lags_keep_windows};
 use pfair_table::laws::one_schedule;

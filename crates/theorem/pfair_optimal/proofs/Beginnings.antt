@@ -1,7 +1,7 @@
 -- A run whose beginning alone is known goes on as one in which nothing runs any more.
 use Rattle.pfair_optimal.proofs.Common.{cases_lt, and_parts, and_from, ltb-true, lt-ltb, le-ltb, Task, Subtask, is_among, same_task, same_subtask, Schedule, deadline, is_row, has_run, IsRun, IsNext, ◌≡◌, ℕ, zero, suc, ◌<◌, ◌≤◌, min, true, false, cond, ◌&&◌, [], length, arith, ap, sym, ◌∙◌, subst, nat_lt, ◌↔◌}
 use Rattle.std.proofs.Common.{◌||◌, refl}
-use Rattle.pfair_optimal.specs.Beginning.{IsRunBelow}
+use Rattle.pfair_optimal.specs.Schedule.{IsRunBelow}
 use Rattle.pfair_optimal.proofs.Past.{ran_at}
 use Rattle.pfair_optimal.proofs.Counting.{none_misses, each_in_time}
 

@@ -1,6 +1,6 @@
 -- Where cascades end, and how long a subtask holds its task's weight.
 use Rattle.pfair_optimal.proofs.Common.{cases_lt, Share, IsWeight, IsHeavy, lt_of_mul, div_ceil_le, le_div_ceil, release_of, deadline_of, b_bit_of, group_deadline_of, cascade_end, share_of, busy_bound_of, ◌≡◌, ℕ, ◌+◌, ◌-◌, ◌*◌, ◌<◌, ◌≤◌, arith, ap, sym, ◌∙◌, inl, inr, ◌↔◌, div_ceil, group_deadline_heavy, one_less}
-use Rattle.pfair_weight.specs.GroupFacts.{group_deadline_light}
+use Rattle.pfair_weight.specs.WindowFacts.{group_deadline_light}
 use Rattle.pfair_optimal.proofs.Ends.{grow, opening, closing, next_opening, pinned, opening_next, b_bit_between}
 use Rattle.pfair_optimal.proofs.Fluids.{first_share}
 

@@ -1,11 +1,7 @@
 -- The names that many of these proofs cite, passed on from one place. Declares nothing.
-pub use Rattle.pfair_optimal.specs.Fluid.{busy_bound_of, fluid_of, share_of, total_before}
-pub use Rattle.pfair_optimal.specs.Schedule.{GoesFirst, IsFirstMiss, IsMiss, IsNext, IsRun, NoneTwice, Schedule, Subtask, Task, b_bit, busy_bound, deadline, has_run, is_among, is_row, next_of, previous_of, release, same_subtask, same_task}
-pub use Rattle.pfair_weight.specs.GroupFacts.{group_deadline_heavy}
-pub use Rattle.pfair_weight.specs.Rounding.{div_ceil_le, div_ceil_of_multiple, le_div_ceil, lt_of_mul, mul_le_of_div, one_less}
-pub use Rattle.pfair_weight.specs.Share.{IsHeavy, IsWeight, Share, units_of}
-pub use Rattle.pfair_weight.specs.Window.{b_bit_of, cascade_end, deadline_of, group_deadline_of, release_of}
-pub use Rattle.pfair_weight.specs.WindowFacts.{release_rises, deadline_rises_strictly, windows_overlap, b_bit_at_most_one}
+pub use Rattle.pfair_optimal.specs.Schedule.{busy_bound_of, fluid_of, share_of, total_before, GoesFirst, IsFirstMiss, IsMiss, IsNext, IsRun, NoneTwice, Schedule, Subtask, Task, b_bit, busy_bound, deadline, has_run, is_among, is_row, next_of, previous_of, release, same_subtask, same_task}
+pub use Rattle.pfair_weight.specs.WindowFacts.{group_deadline_heavy, div_ceil_le, div_ceil_of_multiple, le_div_ceil, lt_of_mul, mul_le_of_div, one_less, release_rises, deadline_rises_strictly, windows_overlap, b_bit_at_most_one}
+pub use Rattle.pfair_weight.specs.Window.{IsHeavy, IsWeight, Share, units_of, b_bit_of, cascade_end, deadline_of, group_deadline_of, release_of}
 pub use Rattle.std.proofs.Common.{◌≡◌, arith, ℕ, ◌<◌, ◌≤◌, ◌+◌, sym, ◌-◌, ap, suc, true, ◌∙◌, inl, inr, zero, false, refl, subst, ◌*◌, [], ◌∷◌, Bool, ⊎_elim, ◌⊎◌, cond, ◌↔◌, List, length, ◌/◌, ◌&&◌, filter, nat_lt, min, ◌++◌, not}
 pub use Rattle.std.proofs.Math.Logic.{⊎_map}
 pub use Rattle.std.proofs.Math.Nat.{div-lt_iff_lt-mul, le_refl, lt_of_not-le}

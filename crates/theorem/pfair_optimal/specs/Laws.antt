@@ -1,10 +1,7 @@
 -- The laws of fluid schedules and of busy bounds, each over every weight, subtask and offset, and the theorem of runs.
 use Rattle.std.specs.Prelude.{sum_by, ℕ, suc, true, false, ◌≡◌, ◌+◌, ◌*◌, ◌<◌, ◌≤◌, ◌↔◌}
-use Rattle.pfair_weight.specs.Share.{Share, IsWeight, IsHeavy, units_of}
-use Rattle.pfair_weight.specs.Window.{release_of, deadline_of, b_bit_of, group_deadline_of}
-use Rattle.pfair_optimal.specs.Beginning.{IsRunBelow}
-use Rattle.pfair_optimal.specs.Fluid.{share_of, total_before, busy_bound_of}
-use Rattle.pfair_optimal.specs.Schedule.{Subtask, Schedule, deadline, is_row, has_run, IsRun, IsNext}
+use Rattle.pfair_weight.specs.Window.{Share, IsWeight, IsHeavy, units_of, release_of, deadline_of, b_bit_of, group_deadline_of}
+use Rattle.pfair_optimal.specs.Schedule.{IsRunBelow, share_of, total_before, busy_bound_of, Subtask, Schedule, deadline, is_row, has_run, IsRun, IsNext}
 
 -- a subtask's shares are above 0 just in the slots of its window, at most the cost each, and add up to one quantum
 pub record SharesFillWindows : Type 0 where

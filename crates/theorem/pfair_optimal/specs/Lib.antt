@@ -1,4 +1,2 @@
-pub mod Beginning
-pub mod Fluid
 pub mod Laws
 pub mod Schedule

@@ -1,10 +1,28 @@
 -- A run of the executive as plain data: which subtask ran in which slot, and what is wanted of it.
-use Rattle.std.specs.Prelude.{ℕ, zero, suc, ◌≡◌, ◌+◌, ◌-◌, ◌*◌, ◌%◌, ◌<◌, ◌≤◌, ◌⊎◌, ◌==◌, ◌&&◌, ◌||◌, Bool, true, false, List, [], ◌∷◌, length, sum_by}
+use Rattle.std.specs.Prelude.{ℕ, zero, suc, ◌+◌, ◌-◌, ◌*◌, min, max, ◌≡◌, ◌%◌, ◌<◌, ◌≤◌, ◌⊎◌, ◌==◌, ◌&&◌, ◌||◌, Bool, true, false, List, [], ◌∷◌, length, sum_by}
+use Rattle.pfair_weight.specs.Window.{Share, deadline_of, b_bit_of, group_deadline_of, IsWeight, units_of, release_of}
 use Rattle.std.specs.List.{list_any}
 use Rattle.pfair_weight.specs.Name.{NameValue, name_eq}
-use Rattle.pfair_weight.specs.Share.{Share, IsWeight, units_of}
-use Rattle.pfair_weight.specs.Window.{release_of, deadline_of, b_bit_of, group_deadline_of}
-use Rattle.pfair_optimal.specs.Fluid.{busy_bound_of}
+
+-- The fluid schedule: each task is served evenly, by its weight. A quantum is counted as `period` parts, so that a task's even
+-- service of one slot is `cost` of them.
+
+-- the parts that subtask i has got before time t
+abbrev pub fluid_of : Share → ℕ → ℕ → ℕ → ℕ
+fluid_of w i theta t = min w.period ((t - theta) * w.cost - (i - 1) * w.period)
+
+-- the parts of it that it gets in slot v
+abbrev pub share_of : Share → ℕ → ℕ → ℕ → ℕ
+share_of w i theta v = fluid_of w i theta (v + 1) - fluid_of w i theta v
+
+-- what a number of slots have together
+abbrev pub total_before : (ℕ → ℕ) → ℕ → ℕ
+total_before f zero = 0
+total_before f (suc t) = total_before f t + f t
+
+-- the time up to which a task, of a light weight or a heavy one, holds its weight by subtask i
+abbrev pub busy_bound_of : Share → ℕ → ℕ → ℕ
+busy_bound_of w i theta = max (group_deadline_of w i theta) (deadline_of w i theta + b_bit_of w i)
 
 -- ---- lists
 
@@ -129,3 +147,24 @@ pub record IsMiss (x : Schedule) (td : ℕ) (z : Subtask) : Type 0 where
 pub record IsFirstMiss (x : Schedule) (td : ℕ) (z : Subtask) : Type 0 where
   pub miss : IsMiss x td z
   pub first : (s : ℕ) (w : Subtask) → s < td → IsMiss x s w → ⊥
+
+-- The beginning of a run: what is wanted of its slots below a number, and of no later one.
+
+-- the premises of `IsRun`, each of the slots below n alone; and no task runs before it joins
+pub record IsRunBelow (x : Schedule) (n : ℕ) : Type 0 where
+  pub frame : 0 < x.frame
+  pub weights : (a : Task) → IsWeight (x.weight a).cost (x.weight a).period
+  pub periods : (a : Task) → x.frame % (x.weight a).period ≡ 0
+  pub offsets_start : (a : Task) (i : ℕ) → 1 ≤ i → a.joined ≤ x.offset a i
+  pub offsets_rise : (a : Task) (i : ℕ) → 1 ≤ i → x.offset a i ≤ x.offset a (i + 1)
+  pub rows_apart : (t : ℕ) → t < n → NoneTwice same_subtask (x.table t)
+  pub rows_once : (s t : ℕ) (z : Subtask) → s < n → t < n → is_row x s z ≡ true → is_row x t z ≡ true → s ≡ t
+  pub rows_follow : (t : ℕ) (z : Subtask) → t < n → is_row x t z ≡ true → IsNext x z t
+  pub rows_active : (t : ℕ) (z : Subtask) → t < n → is_row x t z ≡ true → x.is_active z.task t ≡ true
+  pub rows_joined : (t : ℕ) (z : Subtask) → t < n → is_row x t z ≡ true → z.task.joined ≤ t
+  pub active_since : (a : Task) (s t : ℕ) → a.joined ≤ s → s ≤ t → t < n → x.is_active a t ≡ true → x.is_active a s ≡ true
+  pub active_members : (a : Task) (t : ℕ) → t < n → x.is_active a t ≡ true → is_among same_task (x.members t) a ≡ true
+  pub held : (z : Subtask) (s t : ℕ) → s < n → t < n → is_row x s z ≡ true → z.task.joined ≤ t → t < busy_bound x z → is_among same_task (x.members t) z.task ≡ true
+  pub room : (t : ℕ) → t < n → sum_by (λ a. units_of (x.weight a) x.frame) (x.members t) ≤ x.processors * x.frame
+  pub chosen : (t : ℕ) (z : Subtask) → t < n → IsNext x z t → x.is_active z.task t ≡ true → release x z ≤ t → has_run x z (suc t) ≡ false
+      → (length (x.table t) ≡ x.processors) × ((w : Subtask) → is_row x t w ≡ true → GoesFirst x w z)

@@ -1,16 +1,11 @@
 -- The names that many of these proofs cite, passed on from one place. Declares nothing.
-pub use Rattle.pfair_board.specs.Finish.{IsGood, IsFullDesk, IsRunOf}
-pub use Rattle.pfair_board.specs.FirstFault.{Holds, IsFirstFault, SomeEndsIn}
-pub use Rattle.pfair_board.specs.Sinks.{has_first, has_kept}
-pub use Rattle.pfair_board.specs.WorkerFaults.{IsWorkerFault}
-pub use Rattle.pfair_board.specs.Works.{AreWorks, HasLearned, IsAtWork, IsWorkOf, IsWorkplaceOf}
+pub use Rattle.pfair_board.specs.RunFaults.{IsGood, IsFullDesk, IsRunOf, Holds, IsFirstFault, SomeEndsIn}
+pub use Rattle.pfair_board.specs.Works.{has_first, has_kept, IsWorkerFault, AreWorks, HasLearned, IsAtWork, IsWorkOf, IsWorkplaceOf}
 pub use Rattle.pfair_board.specs.declared.threads.Worked.{Worked}
 pub use Rattle.pfair_desk.proofs.Rows.{each_snoc}
-pub use Rattle.pfair_desk.specs.Boards.{BoardFrame}
-pub use Rattle.pfair_desk.specs.Desks.{DeskState, DeskView, GrownDesk, IsDeskOf}
+pub use Rattle.pfair_desk.specs.Desks.{BoardFrame, DeskState, DeskView, GrownDesk, IsDeskOf}
 pub use Rattle.pfair_entry.specs.Entry.{Logged}
-pub use Rattle.pfair_replica.specs.Replica.{Below}
-pub use Rattle.pfair_replica.specs.ReplicaRows.{ReplicaRows, held, replica_of}
+pub use Rattle.pfair_replica.specs.Replica.{Below, ReplicaRows, held, replica_of}
 pub use Rattle.pfair_table.specs.Planned.{as_tables}
 pub use Rattle.pfair_table.specs.Refinement.{Dispatch}
 pub use Rattle.pfair_table.specs.Script.{LoggedRun, capacity_of, replica_of_logs}

@@ -2,7 +2,7 @@
 use Rattle.std.proofs.Common.{◌⊎◌, Bool}
 use Rattle.pfair_board.proofs.Common.{ReplicaRows, replica_of, Settings, Table, LoggedRun, replica_of_logs, Worked, IsWorkOf, AreWorks, SomeEndsIn, Holds, IsFirstFault, ◌≡◌, ◌∙◌, ap, sym, subst, refl, inl, inr, ℕ, Some, Ok, Err, Option, Result, List, IsOk, IfErr, slice_get, RunFault, BoardFrame, IsWorkerFault}
 use Rattle.pfair_table.specs.declared.answer.RunFault.TheVariants.{Memory, GateGaveUp, Astray, Stalled}
-use Rattle.pfair_board.specs.Logs.{IsTaken, log_of}
+use Rattle.pfair_board.specs.Works.{IsTaken, log_of}
 use Rattle.pfair_board.specs.RunFaults.{HoldsScript, IsRunFaultOf}
 
 -- a worker that doesn't hold the script's replica, while none failed in another way, is astray

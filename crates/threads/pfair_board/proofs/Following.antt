@@ -1,8 +1,7 @@
 -- What desks plan follows from what they hold.
 use Rattle.pfair_board.proofs.Common.{Settings, ℕ, refl, List, None, AllByRecursion}
-use Rattle.pfair_table.specs.Laws.{IsOf, OnePlan, OneTable}
-use Rattle.pfair_desk.specs.Steps.{Step, IsStep, empty_board, after_steps, desk_replica}
-use Rattle.pfair_desk.specs.Laws.{DesksAgree, DesksHoldReplicas}
+use Rattle.pfair_table.specs.Events.{IsOf, OnePlan, OneTable}
+use Rattle.pfair_desk.specs.Steps.{Step, IsStep, empty_board, after_steps, desk_replica, DesksAgree, DesksHoldReplicas}
 use Rattle.pfair_board.specs.Laws.{DesksPlanAlike, DesksShareAPlan}
 
 -- what a desk holds after steps of this shape is a replica for these settings

@@ -1,7 +1,7 @@
 -- What desks hold while a worker runs.
 use Rattle.pfair_board.proofs.Common.{Table, DeskView, GrownDesk, HasLearned, IsAtWork, arith, ◌∙◌, sym, subst, ℕ, inl, inr, ⊎_elim, List, Logged, Dispatch}
 use Rattle.pfair_lattice.specs.declared.join_map.Flat.TheVariants.{Torn}
-use Rattle.pfair_board.specs.Logs.{HasPublished}
+use Rattle.pfair_board.specs.Works.{HasPublished}
 
 pub grown_trans : (a b c : DeskView) → GrownDesk a b → GrownDesk b c → GrownDesk a c
 grown_trans a b c p q = grind (arith)

@@ -2,7 +2,7 @@
 use Rattle.std.specs.Prelude.{ℕ, ◌≡◌, ◌<◌, ◌⊎◌, List, None}
 use Rattle.std.specs.List.{AllByRecursion}
 use Rattle.pfair_replica.specs.Replica.{frontier, said}
-use Rattle.pfair_table.specs.Laws.{IsPrefixOf}
+use Rattle.pfair_table.specs.Events.{IsPrefixOf}
 use Rattle.pfair_table.specs.Table.{Settings, plan, table}
 use Rattle.pfair_desk.specs.Steps.{Step, IsStep, empty_board, after_steps, desk_replica}
 

@@ -1,15 +1,12 @@
 //! Dispatchers in threads of their own, and the fault with which their run ends.
 ghost use Rattle.std.specs.Prelude.{◌≡◌, ◌≤◌, ℕ, [], IfOk, IfErr, OnOk, Some, Vec, slice_get, vec_len, ◌↔◌, IsTrue, false};
 ghost use Rattle.std.specs.declared.alloc.Global.{Global};
-ghost use Rattle.pfair_replica.specs.Replica.{frontier};
+ghost use Rattle.pfair_replica.specs.Replica.{frontier, replica_of};
 ghost use Rattle.pfair_table.specs.Script.{capacity_of, replica_of_logs};
 ghost use Rattle.pfair_table.specs.declared.slot.Pick.{Pick};
-ghost use Rattle.pfair_board.specs.Finish.{IsFinished, IsGood, HasPlan};
-ghost use Rattle.pfair_board.specs.RunFaults.{IsRunFaultOf};
-ghost use Rattle.pfair_board.specs.Sinks.{has_first, has_kept};
+ghost use Rattle.pfair_board.specs.RunFaults.{IsFinished, IsGood, HasPlan, IsRunFaultOf, SomeEndsIn, SomeStrays, Holds, AllHold, IsFirstFault};
+ghost use Rattle.pfair_board.specs.Works.{has_first, has_kept};
 ghost use Rattle.pfair_board.specs.declared.threads.Worked.{Worked};
-ghost use Rattle.pfair_replica.specs.ReplicaRows.{replica_of};
-ghost use Rattle.pfair_board.specs.FirstFault.{SomeEndsIn, SomeStrays, Holds, AllHold, IsFirstFault};
 
 use crate::threads::{Worked, run_all};
 use crate::worker::{Gate, Sink};

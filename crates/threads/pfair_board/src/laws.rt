@@ -1,5 +1,5 @@
 //! The laws of boards. Each function does nothing: its contract is the law.
-ghost use Rattle.pfair_desk.specs.Laws.{DesksStayBelow, DesksAgree};
+ghost use Rattle.pfair_desk.specs.Steps.{DesksStayBelow, DesksAgree};
 ghost use Rattle.pfair_board.specs.Laws.{DesksPlanAlike, DesksShareAPlan};
 
 use pfair_desk::laws::desks_hold_set_cells;

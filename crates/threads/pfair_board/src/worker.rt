@@ -2,12 +2,10 @@
 ghost use Rattle.std.specs.Prelude.{◌≡◌, Bool, true, false, ℕ, ◌++◌, ◌∷◌, [], List, OnOk, length, ◌≤◌, ◌+◌, IfOk, IfErr, None};
 ghost use Rattle.pfair_table.specs.Table.{Table, plan};
 ghost use Rattle.pfair_table.specs.Places.{IsFit};
-ghost use Rattle.pfair_replica.specs.ReplicaRows.{replica_of};
+ghost use Rattle.pfair_replica.specs.Replica.{replica_of};
 ghost use Rattle.pfair_desk.specs.Desks.{IsDeskOf, GrownDesk};
-ghost use Rattle.pfair_board.specs.Finish.{IsRunOf};
-ghost use Rattle.pfair_board.specs.Logs.{HasPublished};
-ghost use Rattle.pfair_board.specs.WorkerFaults.{IsWorkerFault, IsPlanningFault};
-ghost use Rattle.pfair_board.specs.Works.{IsAtWork, HasLearned, HasPlanned};
+ghost use Rattle.pfair_board.specs.RunFaults.{IsRunOf};
+ghost use Rattle.pfair_board.specs.Works.{HasPublished, IsWorkerFault, IsPlanningFault, IsAtWork, HasLearned, HasPlanned};
 ghost use Rattle.pfair_table.specs.declared.answer.RunFault.TheVariants.{Memory};
 
 use crate::threads::{Hint, Hints};
@@ -64,7 +62,7 @@ pub trait Sink: Drop {
 
 /// Keeps each table.
 impl Sink for Vec<Vec<Pick>> {
-    ghost use Rattle.pfair_board.specs.Sinks.{has_kept};
+    ghost use Rattle.pfair_board.specs.Works.{has_kept};
 
     ghost has = { has_kept };
 
@@ -76,7 +74,7 @@ impl Sink for Vec<Vec<Pick>> {
 
 /// The first worker has a sink. The others may have none.
 impl<K: Sink> Sink for Option<K> {
-    ghost use Rattle.pfair_board.specs.Sinks.{has_first};
+    ghost use Rattle.pfair_board.specs.Works.{has_first};
 
     ghost has = { has_first K.has };
 

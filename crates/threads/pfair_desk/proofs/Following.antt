@@ -2,9 +2,8 @@
 use Rattle.pfair_desk.proofs.Common.{One, Torn, Logged, IsEntry, Contents, only, contents_join, IsKey, arith, ℕ, ◌≡◌, refl, subst, inl, inr, List, [], ◌∷◌, Option, Some, None, HeldBelow, Flat, entry_eq, entry_exact}
 use Rattle.std.specs.Prelude.{◌⊎◌, ◌≢◌}
 use Rattle.std.specs.List.{AllByRecursion}
-use Rattle.pfair_lattice.specs.HeldLaws.{join_least, none_below, below_trans}
-use Rattle.pfair_desk.specs.Steps.{State, Step, IsStep, Set, Get, Meet, empty_board, set_cell, with_cell, with_desk, after_get, after_step, after_steps, one_of, EachDeskBelow}
-use Rattle.pfair_desk.specs.Laws.{DesksStayBelow, DesksAgree, DesksHoldReplicas}
+use Rattle.pfair_lattice.specs.Held.{join_least, none_below, below_trans}
+use Rattle.pfair_desk.specs.Steps.{State, Step, IsStep, Set, Get, Meet, empty_board, set_cell, with_cell, with_desk, after_get, after_step, after_steps, one_of, EachDeskBelow, DesksStayBelow, DesksAgree, DesksHoldReplicas}
 
 -- contents that are below the set cells
 abbrev UnderCells : Contents → (ℕ → ℕ → Option Logged) → Type 0

@@ -1,12 +1,26 @@
 -- How a desk's notes and what it holds fit together.
-use Rattle.std.specs.Prelude.{◌≡◌, ℕ, ◌+◌, ◌*◌, ◌<◌, ◌≤◌, List, length, Option, Some, None, slice_index_or}
+use Rattle.std.specs.Prelude.{ℕ, List, Option, Some, None, slice_set, ◌≡◌, ◌+◌, ◌*◌, ◌<◌, ◌≤◌, length, slice_index_or}
+use Rattle.pfair_entry.specs.Entry.{Logged}
 use Rattle.pfair_lattice.specs.Held.{Held}
 use Rattle.pfair_lattice.specs.declared.join_map.Flat.TheVariants.{One, Torn}
-use Rattle.pfair_entry.specs.Entry.{Logged}
-use Rattle.pfair_replica.specs.Replica.{Replica}
-use Rattle.pfair_replica.specs.ReplicaRows.{IsShape}
-use Rattle.pfair_desk.specs.Boards.{place_of}
-use Rattle.pfair_desk.specs.Knowledge.{Knowledge}
+use Rattle.pfair_replica.specs.Replica.{Replica, IsShape}
+use Rattle.pfair_desk.specs.Desks.{place_of}
+
+-- What the notes of cells say.
+
+-- the name of each note's cell, and the entry that it knows the cell to hold for good
+pub record Knowledge : Type 0 where
+  pub cells : List ℕ
+  pub known : List (Option Logged)
+
+-- the note at that place knows e
+abbrev pub knowing : Knowledge → ℕ → Logged → Knowledge
+knowing w place e = record w { known = slice_set w.known place (Some e) }
+
+-- what a note knows that knew k, once it learned j
+abbrev pub shared : {X : Type 0} → Option X → Option X → Option X
+shared k None = k
+shared k (Some x) = Some x
 
 -- one entry is held at a key, and the key's note knows it
 abbrev pub IsNoted : Held Logged → Option Logged → Type 0

@@ -3,8 +3,9 @@ use Rattle.std.specs.Prelude.{ℕ, ⊤, ◌==◌, ◌&&◌, List, [], ◌∷◌,
 use Rattle.pfair_lattice.specs.Held.{Held, HeldBelow}
 use Rattle.pfair_lattice.specs.declared.join_map.Flat.TheVariants.{One}
 use Rattle.pfair_entry.specs.Entry.{Logged, IsEntry}
-use Rattle.pfair_replica.specs.Replica.{Contents, Replica, nothing_held, only, contents_join}
-use Rattle.pfair_desk.specs.Boards.{IsKey}
+use Rattle.pfair_replica.specs.Replica.{Contents, Replica, nothing_held, only, contents_join, Agree, IsReplica}
+use Rattle.pfair_desk.specs.Desks.{IsKey}
+use Rattle.std.specs.List.{AllByRecursion}
 
 -- the entry of each cell that is set, and what each desk holds
 pub record State : Type 0 where
@@ -65,3 +66,22 @@ EachDeskBelow b = (d k n : ℕ) → HeldBelow (b.desks d k n) (set_cells b k n)
 -- what a desk holds, as a replica
 abbrev pub desk_replica : (processors capacity : ℕ) → State → ℕ → Replica
 desk_replica processors capacity b d = record { processors = processors; capacity = capacity; at = b.desks d }
+
+-- What holds of every board, whatever the desks do.
+
+-- After any steps of any desks, from empty cells and desks, what each desk holds is below the map of the set cells.
+abbrev pub DesksStayBelow : Type 0
+DesksStayBelow = (steps : List Step) → EachDeskBelow (after_steps steps empty_board)
+
+-- So no two desks disagree
+abbrev pub DesksAgree : Type 0
+DesksAgree =
+    (steps : List Step) (c d processors capacity : ℕ)
+    → let b = after_steps steps empty_board in Agree (desk_replica processors capacity b c) (desk_replica processors capacity b d)
+
+-- and if entries are set at keys of the board, each desk holds a replica.
+abbrev pub DesksHoldReplicas : Type 0
+DesksHoldReplicas =
+    (processors capacity : ℕ) (steps : List Step) → AllByRecursion (IsStep processors capacity) steps
+    → (d : ℕ)
+    → IsReplica (desk_replica processors capacity (after_steps steps empty_board) d)

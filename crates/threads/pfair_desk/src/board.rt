@@ -1,12 +1,10 @@
 //! The cells of a board, and the notes that desks keep of them.
 ghost use Rattle.std.specs.Prelude.{◌≡◌, ◌<◌, ℕ, IfOk, Some, length, slice_get, vec_len, IfSome, OnErr, None, map, replicate, slice_index_or};
 ghost use Rattle.once_cell.specs.Once.{cell_name, Agrees};
-ghost use Rattle.pfair_replica.specs.ReplicaRows.{IsShape};
-ghost use Rattle.pfair_desk.specs.Boards.{BoardFrame};
-ghost use Rattle.pfair_desk.specs.Desks.{DeskView, IsDeskOf, state_of, fresh_desk};
+ghost use Rattle.pfair_replica.specs.Replica.{IsShape};
+ghost use Rattle.pfair_desk.specs.Desks.{BoardFrame, DeskView, IsDeskOf, state_of, fresh_desk};
 ghost use Rattle.pfair_entry.specs.Entry.{Logged};
-ghost use Rattle.pfair_desk.specs.Knowledge.{Knowledge, knowing, shared};
-ghost use Rattle.pfair_desk.specs.Noted.{Grows, KnowMore};
+ghost use Rattle.pfair_desk.specs.Noted.{Knowledge, knowing, shared, Grows, KnowMore};
 
 use crate::desk::Desk;
 use once_cell::race::{Note, OnceBox};
@@ -26,8 +24,8 @@ pub struct Board {
 
 impl Model for Board {
     ghost use Rattle.std.specs.Prelude.{◌≡◌, ◌*◌, length, map};
-    ghost use Rattle.pfair_replica.specs.ReplicaRows.{IsShape};
-    ghost use Rattle.pfair_desk.specs.Boards.{BoardFrame};
+    ghost use Rattle.pfair_replica.specs.Replica.{IsShape};
+    ghost use Rattle.pfair_desk.specs.Desks.{BoardFrame};
     ghost use Rattle.once_cell.specs.Once.{cell_name};
 
     ghost Value = { BoardFrame };
@@ -113,7 +111,7 @@ pub(crate) struct Notes {
 
 impl Model for Notes {
     ghost use Rattle.std.specs.Prelude.{map};
-    ghost use Rattle.pfair_desk.specs.Knowledge.{Knowledge};
+    ghost use Rattle.pfair_desk.specs.Noted.{Knowledge};
 
     ghost Value = { Knowledge };
 

@@ -3,13 +3,9 @@ ghost use Rattle.std.specs.Prelude.{◌≡◌, ◌<◌, ◌≤◌, ◌*◌, ◌+
 ghost use Rattle.once_cell.specs.Once.{cell_name};
 ghost use Rattle.pfair_lattice.specs.declared.join_map.Flat.TheVariants.{One};
 ghost use Rattle.pfair_entry.specs.Entry.{Logged};
-ghost use Rattle.pfair_replica.specs.ReplicaRows.{IsShape, IsReplicaRows, held, replica_of};
+ghost use Rattle.pfair_replica.specs.Replica.{IsShape, IsReplicaRows, held, replica_of, Untorn};
 ghost use Rattle.pfair_replica.specs.Faults.{HoldsMore, IsTakeFaultOf};
-ghost use Rattle.pfair_replica.specs.Replica.{Untorn};
-ghost use Rattle.pfair_desk.specs.Boards.{IsKey, place_of};
-ghost use Rattle.pfair_desk.specs.Desks.{DeskView, state_of, IsDeskOf, OfOneBoard, IsPartlyMet, GrownDesk, IsLearned, fresh_desk, numbered, met};
-ghost use Rattle.pfair_desk.specs.Faults.{IsPublishFaultOf};
-ghost use Rattle.pfair_desk.specs.Gained.{HasReadRow, LacksSome, gained, gained_in_row, NoGapInRow};
+ghost use Rattle.pfair_desk.specs.Desks.{IsKey, place_of, DeskView, state_of, IsDeskOf, OfOneBoard, IsPartlyMet, GrownDesk, IsLearned, fresh_desk, numbered, met, IsPublishFaultOf, HasReadRow, LacksSome, gained, gained_in_row, NoGapInRow};
 
 use crate::board::{Board, Notes};
 use crate::fault::PublishFault;
@@ -33,7 +29,7 @@ pub struct Desk {
 }
 
 impl Model for Desk {
-    ghost use Rattle.pfair_replica.specs.ReplicaRows.{replica_of};
+    ghost use Rattle.pfair_replica.specs.Replica.{replica_of};
     ghost use Rattle.pfair_desk.specs.Desks.{DeskView};
     ghost use Rattle.pfair_desk.specs.Noted.{IsInOrder};
 

@@ -1,6 +1,6 @@
 //! Why a desk refuses.
 ghost use Rattle.std.specs.Prelude.{◌≡◌};
-ghost use Rattle.pfair_desk.specs.Faults.{publish_fault_number};
+ghost use Rattle.pfair_desk.specs.Desks.{publish_fault_number};
 
 use pfair_entry::Entry;
 use thiserror::Error;

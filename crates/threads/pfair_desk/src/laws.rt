@@ -1,5 +1,5 @@
 //! The law of cells and desks. The function does nothing: its contract is the law.
-ghost use Rattle.pfair_desk.specs.Laws.{DesksStayBelow, DesksAgree, DesksHoldReplicas};
+ghost use Rattle.pfair_desk.specs.Steps.{DesksStayBelow, DesksAgree, DesksHoldReplicas};
 
 /// After any sets, gets and meets by any desks, from empty cells and desks, what each desk holds is
 /// below the map of the set cells. So no two desks disagree; and if only entries are set, at

@@ -1,4 +1,4 @@
-use Rattle.pfair_weight.specs.JobFacts.{starts_after_jobs, starts_job_only, job_released, job_due, job_apart}
+use Rattle.pfair_weight.specs.WindowFacts.{starts_after_jobs, starts_job_only, job_released, job_due, job_apart}
 use Rattle.pfair_weight.proofs.laws.jobs_fill_periods.Goals as goal
 
 pub returns : goal.returns

@@ -1,4 +1,4 @@
-use Rattle.pfair_weight.specs.JobFacts.{release_repeats, deadline_repeats, b_bit_repeats, group_deadline_repeats, starts_job_repeats}
+use Rattle.pfair_weight.specs.WindowFacts.{release_repeats, deadline_repeats, b_bit_repeats, group_deadline_repeats, starts_job_repeats}
 use Rattle.pfair_weight.proofs.laws.jobs_repeat.Goals as goal
 
 pub returns : goal.returns

@@ -1,4 +1,4 @@
-use Rattle.pfair_weight.specs.NameFacts.{identical_names, tied_names, prefix_goes_first, first_byte_decides}
+use Rattle.pfair_weight.specs.Name.{identical_names, tied_names, prefix_goes_first, first_byte_decides}
 use Rattle.pfair_weight.proofs.laws.names_in_byte_order.Goals as goal
 
 pub returns : goal.returns

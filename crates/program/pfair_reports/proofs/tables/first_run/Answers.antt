@@ -1,5 +1,5 @@
 use Rattle.std.specs.Prelude.{IfErr}
-use Rattle.pfair_board.specs.Sinks.{has_first}
+use Rattle.pfair_board.specs.Works.{has_first}
 use Rattle.pfair_file.proofs.CommandFacts.{err_is, taken_by}
 use Rattle.pfair_reports.specs.Runs.{IsFaultOfReplay}
 use Rattle.pfair_reports.proofs.RunFacts.{refused_by_file, refused_by_run}

@@ -3,9 +3,8 @@ use Rattle.std.proofs.lemmas.List.{flat_map_more}
 use Rattle.std.proofs.lemmas.List.FromFn.{map-range_with_len_more}
 use Rattle.std.specs.List.{range_with_len}
 use Rattle.pfair_text.specs.Rows.{line, lines_text, text_so_far}
-use Rattle.pfair_reports.specs.Windows.{header, window_row}
-use Rattle.pfair_weight.specs.Share.{Share}
-use Rattle.pfair_weight.specs.Position.{Position}
+use Rattle.pfair_reports.specs.Runs.{header, window_row}
+use Rattle.pfair_weight.specs.Window.{Share, Position}
 use Rattle.pfair_reports.proofs.window_rows.windows_table.Goals as goal
 
 -- one more row

@@ -1,7 +1,7 @@
 use Rattle.std.proofs.Common.{◌≡◌, ◌∷◌, ◌+◌, map}
 use Rattle.std.specs.List.{range_with_len}
 use Rattle.pfair_text.specs.Rows.{IsOpen, lines_text, text_so_far}
-use Rattle.pfair_reports.specs.Windows.{header, window_row}
+use Rattle.pfair_reports.specs.Runs.{header, window_row}
 use Rattle.pfair_reports.proofs.window_rows.windows_table.Given as goal
 
 -- the rows so far, and the stepper at the subtask after them

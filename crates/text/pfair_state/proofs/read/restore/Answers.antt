@@ -1,4 +1,4 @@
-use Rattle.pfair_admission.specs.Restored.{member_in}
+use Rattle.pfair_admission.specs.Carried.{member_in}
 use Rattle.pfair_state.proofs.Carried.{left_on}
 use Rattle.pfair_state.proofs.read.restore.Goals as goal
 

@@ -1,5 +1,5 @@
 use Rattle.pfair_feed.proofs.Common.{IsWholePlan, Follow, Some, subst, sym}
-use Rattle.pfair_table.specs.Limits.{settings_from}
+use Rattle.pfair_table.specs.Places.{settings_from}
 use Rattle.pfair_feed.proofs.Planned.{whole_start}
 use Rattle.pfair_feed.proofs.follower.Follower.resume.Goals as goal
 

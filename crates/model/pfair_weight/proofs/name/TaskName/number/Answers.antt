@@ -1,5 +1,5 @@
 use Rattle.pfair_weight.proofs.Common.{w128, from_be_bytes, slice_cmp, nat_cmp, IsTaskName, NameValue, ◌≡◌, ◌∙◌, ap, subst}
-use Rattle.pfair_weight.specs.Number.{name_of, number_of}
+use Rattle.pfair_weight.specs.Name.{name_of, number_of}
 use Rattle.pfair_weight.proofs.ByteOrder.{is_number, name_back, numbers_order}
 use Rattle.pfair_weight.proofs.name.TaskName.number.Goals as goal
 use Rattle.pfair_weight.proofs.name.TaskName.number.Goals.{After-from_be_bytes}

@@ -1,5 +1,5 @@
 use Rattle.pfair_weight.proofs.Common.{w128, to_be_bytes, before_zero, ◌∙◌, sym, ap}
-use Rattle.pfair_weight.specs.Number.{name_of}
+use Rattle.pfair_weight.specs.Name.{name_of}
 use Rattle.pfair_weight.proofs.ByteOrder.{number_bytes}
 use Rattle.pfair_weight.proofs.name.TaskName.of_number.Goals as goal
 
