@@ -7,7 +7,7 @@ pub use Rattle.pfair_c.specs.declared.quanta.PfairQuantum.{PfairQuantum}
 pub use Rattle.pfair_file.specs.declared.input.TheConstants.{LONGEST_FILE}
 pub use Rattle.pfair_handle.specs.Kept.{is_kept}
 pub use Rattle.pfair_lag.specs.Book.{Book}
-pub use Rattle.pfair_output.proofs.BookFacts.{first_time}
+pub use Rattle.pfair_output.proofs.WorldFacts.{first_time}
 pub use Rattle.pfair_replica.specs.Replica.{Replica, replica_of}
 pub use Rattle.pfair_table.specs.Refinement.{Dispatch}
 pub use Rattle.pfair_table.specs.Table.{Table}

@@ -1,6 +1,3 @@
 mod Common
-mod LagFacts
-mod Onward
 mod SlotRows
 mod TakingFacts
-mod Written

@@ -5,11 +5,10 @@ use Rattle.std.proofs.lemmas.Int.{ints}
 use Rattle.std.proofs.lemmas.Simd.{map-map}
 use Rattle.std.proofs.Math.Nat.{mul-add, mul_assoc, mul_comm}
 use Rattle.pfair_order.specs.declared.Key.{Key}
-use Rattle.pfair_order.proofs.Later.{filter_mapped}
+use Rattle.pfair_order.proofs.KeyLaws.{filter_mapped}
 use Rattle.pfair_entry.specs.Entry.{name_exact, name_eq, IsWeighed}
-use Rattle.pfair_admission.proofs.Keeping.{theta_earlier, theta_later}
-use Rattle.pfair_admission.proofs.Lowered.{IsLowered, counted_from, eligible_same, freeing_slot_same, next_key_same, release_same}
-use Rattle.pfair_admission.proofs.NamesKept.{apart_effect, apart_present}
+use Rattle.pfair_admission.proofs.Boundaries.{theta_earlier, theta_later, apart_effect, apart_present}
+use Rattle.pfair_admission.proofs.Carrying.{IsLowered, counted_from, eligible_same, freeing_slot_same, next_key_same, release_same}
 
 abbrev label : Member → List ℕ
 label m = m.name

@@ -1,6 +1,37 @@
 -- Lists of members: who is freed, and what they claim.
-use Rattle.pfair_admission.proofs.Common.{AllByRecursion, all_by_recursion_push, sum_by_push, take_more, map, carried, common_steps, same_Some, slice_get-get_or, slice_get_within, sum_by-cons, sum_by_more_le, nat_tests, units_of, Member, claimed, change, is_freed, present, earlier_of, IsNotBefore, NoneFreedBefore, NoneFreed, ◌≡◌, ℕ, ◌+◌, ◌≤◌, false, cond, List, [], ◌∷◌, ◌++◌, get_or, take, Option, Some, refl, sym, ap, subst, ◌∙◌, arith, not, slice_get}
-use Rattle.pfair_admission.proofs.Sums.{sum_filter}
+use Rattle.pfair_admission.proofs.Common.{common_steps, AllByRecursion, filter, ◌≡◌, ◌<◌, ℕ, Bool, true, List, [], ◌∷◌, get_or, length, map, arith, sum_by, sum_by-cons, ◌≤◌, all_by_recursion_push, sum_by_push, take_more, carried, same_Some, slice_get-get_or, slice_get_within, sum_by_more_le, nat_tests, units_of, Member, claimed, change, is_freed, present, earlier_of, IsNotBefore, NoneFreedBefore, NoneFreed, ◌+◌, false, cond, ◌++◌, take, Option, Some, refl, sym, ap, subst, ◌∙◌, not, slice_get}
+
+-- What holds of each element of a list.
+
+pub each : {A : Type 0} (P Q : A → Type 0) → ((x : A) → P x → Q x) → (xs : List A) → AllByRecursion P xs → AllByRecursion Q xs
+each P Q to [] h = tt
+each P Q to (x ∷ xs) h = (to x h.0, each P Q to xs h.1)
+
+pub each_map : {A B : Type 0} (P : A → Type 0) (Q : B → Type 0) (f : A → B) → ((x : A) → P x → Q (f x)) → (xs : List A) → AllByRecursion P xs → AllByRecursion Q (map f xs)
+each_map P Q f to [] h = tt
+each_map P Q f to (x ∷ xs) h = (to x h.0, each_map P Q f to xs h.1)
+
+pub both : {A : Type 0} (P Q R : A → Type 0) → ((x : A) → P x → Q x → R x) → (xs : List A) → AllByRecursion P xs → AllByRecursion Q xs → AllByRecursion R xs
+both P Q R to [] h g = tt
+both P Q R to (x ∷ xs) h g = (to x h.0 g.0, both P Q R to xs h.1 g.1)
+
+-- those that a test keeps pass it
+pub each_kept : {A : Type 0} (P Q : A → Type 0) (p : A → Bool) → ((x : A) → p x ≡ true → P x → Q x) → (xs : List A) → AllByRecursion P xs → AllByRecursion Q (filter p xs)
+each_kept P Q p to [] h = tt
+each_kept P Q p to (x ∷ xs) h = grind (arith, each_kept P Q p to xs h.1)
+
+pub each_filter : {A : Type 0} (P : A → Type 0) (p : A → Bool) (xs : List A) → AllByRecursion P xs → AllByRecursion P (filter p xs)
+each_filter P p xs h = each_kept P P p (λ x _ is. is) xs h
+
+pub each_at : {A : Type 0} (P : A → Type 0) (xs : List A) (k : ℕ) (d : A) → AllByRecursion P xs → k < length xs → P (get_or xs k d)
+each_at P xs k d h within = grind (arith, common_steps)
+
+-- Sums over a part of a list.
+
+-- a part of the items sums to no more than all of them
+pub sum_filter : {A : Type 0} (f : A → ℕ) (p : A → Bool) (xs : List A) → sum_by f (filter p xs) ≤ sum_by f xs
+sum_filter f p [] = omega arith
+sum_filter f p (x ∷ xs) = grind (arith, sum_by-cons, sum_filter f p xs)
 
 -- ---- who is freed
 

@@ -1,9 +1,13 @@
--- The numbers of members, and the names that lead to them.
-use Rattle.std.proofs.Common.{filter, is_some, position}
-use Rattle.pfair_admission.proofs.Common.{AllByRecursion, IsDistinct, keys_of, values_of, lookup, all_by_recursion_push, nat_tests, same_Some, none-some, slice_get-get_or, insert_entry, set_value_at, NameValue, name_eq, Member, is_named, member_named, NoneFreed, has_number, is_there, IsFound, IsNamedIn, IsNumberOf, IsOnly, IsRegister, Numbered, ◌≡◌, ℕ, zero, suc, ◌+◌, ◌<◌, Bool, true, false, cond, List, [], ◌∷◌, ◌++◌, Option, IfSome, Some, None, refl, sym, ap, subst, ◌∙◌, arith, nat_eq, not, slice_get}
+-- The numbers of members and the names that lead to them, and what the ledger keeps of them.
+use Rattle.std.proofs.Common.{filter, is_some, position, ◌^◌}
+use Rattle.pfair_admission.proofs.Common.{AllByRecursion, IsDistinct, keys_of, values_of, lookup, all_by_recursion_push, nat_tests, same_Some, none-some, slice_get-get_or, insert_entry, set_value_at, NameValue, name_eq, Member, is_named, member_named, NoneFreed, has_number, is_there, IsFound, IsNamedIn, IsNumberOf, IsOnly, IsRegister, Numbered, ◌≡◌, ℕ, zero, suc, ◌+◌, ◌<◌, Bool, true, false, cond, List, [], ◌∷◌, ◌++◌, Option, IfSome, Some, None, refl, sym, ap, subst, ◌∙◌, arith, nat_eq, not, slice_get, whole, CanJoin, common_steps, sum_by_push, with_value_at, filter-append, units_of, Admitted, arrival, claimed, earlier_of, IsNotBefore, NoneFreedBefore, listed, IsLedger, IsUnswept, Ledger, Membership, length-append, map-append, LONGEST_DELAY, LAST_SLOT, last_offset, carried, CanBeCarried, EachBounded, ◌*◌, ◌≤◌, length, map, take}
 use Rattle.std.specs.Cmp.Lexicographic.{bytes_decides}
 use Rattle.std.proofs.lemmas.List.Quantifiers.{position-Some}
-use Rattle.pfair_admission.proofs.Each.{each, each_kept, both}
+use Rattle.pfair_admission.proofs.MemberLists.{each, each_kept, both, claimed_present, first_earlier, not_before_own, present_all, claimed_carried, claimed_part, take_one, each_map}
+use Rattle.pfair_admission.proofs.Deciding.{IsLike, admitted_new, admitted_room, claimed_written, filter_all, first_at, first_written, values_written, others_named}
+use Rattle.pfair_order.proofs.RankLemmas.{at_each}
+
+-- The numbers of members, and the names that lead to them.
 
 abbrev pub Names : Type 0
 Names = List (NameValue × ℕ)
@@ -234,3 +238,143 @@ register_written counts admitted es names place m n r at there same = record {
   named = each (λ e. IsNumberOf es e.0 e.1) (λ e. IsNumberOf (set_value_at es place n) e.0 e.1) (λ e is. number_written es place m n e.0 e.1 at same is) names r.named;
   found = each_written (IsNamedIn counts names) es place m n at (λ k leads _. ap (λ name. lookup (name_eq name) names) same ∙ leads there) r.found;
 }
+
+-- What the ledger keeps when a member is written.
+
+-- a member that is written, and keeps its name and its weight: its units are free if it no longer counts
+pub ledger_changed : (counts : Member → Bool) (a : Ledger) (place claim : ℕ) (first : Option ℕ) (m n : Member) → IsLedger counts a → slice_get (listed a) place ≡ Some m → counts m ≡ true → n.name ≡ m.name → n.weight ≡ m.weight
+    → claim + cond (counts n) 0 (units_of m.weight a.frame) ≡ a.claim → NoneFreedBefore first (listed a) → IsNotBefore first n.freed_at → IsLedger counts (record a { members = with_value_at a.members place n; claim = claim; first_freeing = first })
+ledger_changed counts a place claim first m n k at there name weight sum none own =
+    let was = claimed_written counts a.frame (listed a) place m n at there weight in
+    let values = ap (λ (l : List Member). claimed a.frame (filter counts l)) (values_written a.members.entries place n) in
+    record {
+      register = register_written counts a.admitted a.members.entries a.names.entries place m n k.register at there name;
+      few_processors = k.few_processors;
+      short_frame = k.short_frame;
+      room = omega (arith, sum, k.room);
+      total = omega (arith, was, values, sum, k.total);
+      first = subst (NoneFreedBefore first) (sym (values_written a.members.entries place n)) (first_written first (listed a) place n none own);
+    }
+
+-- and its freeing slot
+pub ledger_written : (counts : Member → Bool) (a : Ledger) (place : ℕ) (m n : Member) → IsLedger counts a → slice_get (listed a) place ≡ Some m → counts m ≡ true → counts n ≡ true → IsLike m n → IsLedger counts (record a { members = with_value_at a.members place n })
+ledger_written counts a place m n k at there still like =
+    let held = ap (λ b. cond b 0 (units_of m.weight a.frame)) still in
+    ledger_changed counts a place a.claim a.first_freeing m n k at there like.name like.weight (omega (arith, held)) k.first
+    (subst (IsNotBefore a.first_freeing) (sym like.freed_at) (first_at a.first_freeing (listed a) place m k.first at))
+
+-- ---- a member that stands behind all others
+
+pub values_pushed : (es es' : Numbered) (k : ℕ) (m : Member) → es' ≡ es ++ (k, m) ∷ [] → values_of es' ≡ values_of es ++ m ∷ []
+values_pushed es es' k m made = grind (arith, common_steps)
+
+pub ledger_joined : (counts : Member → Bool) (a b : Ledger) (m : Member) → CanJoin counts a m
+    → b.members.entries ≡ a.members.entries ++ (a.admitted, m) ∷ [] → IsDistinct nat_eq (keys_of b.members.entries) → b.names.entries ≡ insert_entry name_eq a.names.entries m.name a.admitted
+    → ((q : List ℕ) → lookup (name_eq q) b.names.entries ≡ cond (name_eq m.name q) (Some a.admitted) (lookup (name_eq q) a.names.entries))
+    → IsLedger counts (record a { members = b.members; names = b.names; admitted = a.admitted + 1; claim = a.claim + units_of m.weight a.frame; first_freeing = earlier_of a.first_freeing m.freed_at })
+ledger_joined counts a b m can made unique entered updates =
+    let k = can.kept in
+    let values = values_pushed a.members.entries b.members.entries a.admitted m made in
+    let all = ap (λ (ms : List Member). claimed a.frame (filter counts ms)) values ∙ ap (claimed a.frame) (filter-append counts (listed a) (m ∷ []))
+    ∙ ap (λ b. claimed a.frame (filter counts (listed a) ++ cond b (m ∷ []) [])) can.counted ∙ sum_by_push (λ (x : Member). units_of x.weight a.frame) (filter counts (listed a)) m in
+    record {
+      register = register_more counts a.admitted a.members.entries b.members.entries a.names.entries b.names.entries m k.register can.free made unique entered updates;
+      few_processors = k.few_processors;
+      short_frame = k.short_frame;
+      room = can.room;
+      total = omega (arith, all, k.total);
+      first = grind (arith, all_by_recursion_push, first_earlier, not_before_own);
+    }
+
+pub can_join : (counts : Member → Bool) (a : Ledger) (m : Member) → IsLedger counts a → a.admitted + 1 < 2 ^ 64 → counts m ≡ true → Admitted ≡ arrival (whole a).machine (filter counts (listed a)) m.name m.weight → CanJoin counts a m
+can_join counts a m k numbers counted is = grind (arith, admitted_room, admitted_new)
+
+-- ---- before and after a boundary
+
+-- if nobody is freed all count
+pub kept_less : (t : ℕ) (a : Ledger) → NoneFreed t (listed a) → IsLedger (λ _. true) a → IsLedger (is_there t) a
+kept_less t a none k = grind (arith, filter_all, present_all, each)
+
+-- with the claim of all
+pub unswept_all : (t : ℕ) (a : Ledger) → IsLedger (λ _. true) a → IsUnswept t a
+unswept_all t a k = grind (arith, filter_all, claimed_present, each)
+
+-- with the claim of those that are left
+pub unswept_rest : (t : ℕ) (a : Ledger) → IsLedger (is_there t) a → IsUnswept t a
+unswept_rest t a k = grind (arith, claimed_present)
+
+-- The members of a next run, numbered anew.
+
+-- the first members are carried
+pub record AreCarried (a : Ledger) (place : ℕ) (next : Ledger) : Type 0 where
+  pub members : listed next ≡ map carried (take place (listed a))
+  pub processors : next.processors ≡ a.processors
+  pub frame : next.frame ≡ a.frame
+  pub admitted : next.admitted ≡ place
+  pub kept : IsLedger (λ _. true) next
+
+-- ---- no name stands twice
+
+key_there : (es : Numbered) (place : ℕ) (x : Member) → slice_get (values_of es) place ≡ Some x → (k : ℕ) × (slice_get (keys_of es) place ≡ Some k)
+key_there [] place x at = absurd (none-some x at)
+key_there (e ∷ es) zero x at = (e.0, refl)
+key_there (e ∷ es) (suc place) x at = key_there es place x at
+
+same_place : (admitted : ℕ) (es : Numbered) (names : Names) (place other : ℕ) (x y : Member) → IsRegister (λ _. true) admitted es names → slice_get (values_of es) place ≡ Some x → slice_get (values_of es) other ≡ Some y → is_named x.name y ≡ true → other ≡ place
+same_place admitted es names place other x y r here there named =
+    let key = key_there es place x here in
+    let leads = sym (number_at (λ _. true) names es place x r.found here refl) ∙ key.1 in
+    one_place (keys_of es) key.0 place other r.unique key.1
+    (number_at (λ _. true) names es other y r.found there refl ∙ ap (λ n. lookup (name_eq n) names) (sym (same_name x.name y.name named)) ∙ leads)
+
+carried_from : (ms : List Member) (place i : ℕ) (y : Member) → slice_get (map carried (take place ms)) i ≡ Some y → (z : Member) × ((slice_get ms i ≡ Some z) × ((carried z ≡ y) × (i < place)))
+carried_from [] zero i y at = absurd (none-some y at)
+carried_from [] (suc place) i y at = absurd (none-some y at)
+carried_from (m ∷ ms) zero i y at = absurd (none-some y at)
+carried_from (m ∷ ms) (suc place) zero y at = (m, (refl, (same_Some (carried m) y at, omega arith)))
+carried_from (m ∷ ms) (suc place) (suc i) y at = grind (arith, carried_from ms place i y at)
+
+unnamed : (admitted : ℕ) (es : Numbered) (names : Names) (place : ℕ) (m : Member) → IsRegister (λ _. true) admitted es names → slice_get (values_of es) place ≡ Some m
+    → member_named (filter (λ _. true) (map carried (take place (values_of es)))) m.name ≡ None
+unnamed admitted es names place m r here = grind (arith, others_named, map, carried_from, same_place)
+
+-- ---- one more is carried
+
+pub carried_joins : (a next : Ledger) (place : ℕ) (m n : Member) → IsLedger (λ _. true) a → slice_get (listed a) place ≡ Some m → n ≡ carried m → place + 1 < 2 ^ 64 → AreCarried a place next → CanJoin (λ _. true) next n
+carried_joins a next place m n k here is few s =
+    rw is (record {
+      kept = s.kept;
+      numbers = omega (arith, few, s.admitted);
+      counted = refl;
+      free = ap (λ (l : List Member). member_named (filter (λ _. true) l) m.name) s.members ∙ unnamed a.admitted a.members.entries a.names.entries place m k.register here;
+      room = grind (arith, claimed_part, filter_all, claimed_carried);
+    })
+
+pub carried_more : (a next after : Ledger) (place : ℕ) (m n : Member) → slice_get (listed a) place ≡ Some m → n ≡ carried m → AreCarried a place next → whole after ≡ record (whole next) { members = listed next ++ n ∷ [] }
+    → after.admitted + length (listed next) ≡ next.admitted + length (listed after) → IsLedger (λ _. true) after → AreCarried a (place + 1) after
+carried_more a next after place m n here is s all numbers kept =
+    let ms : List Member = listed a in
+    let members = ap (λ (x : Membership). x.members) all in
+    let longer = ap (λ (l : List Member). length l) members in
+    record {
+      members =
+          members ∙ (λ i. s.members i ++ is i ∷ [])
+          ∙ sym (ap (map carried) (take_one ms place m here) ∙ map-append carried (take place ms) (m ∷ []));
+      processors = ap (λ (x : Membership). x.machine.processors) all ∙ s.processors;
+      frame = ap (λ (x : Membership). x.machine.frame) all ∙ s.frame;
+      admitted = omega (arith, longer, length-append (listed next) (n ∷ []), numbers, s.admitted);
+      kept = kept;
+    }
+
+-- ---- who can be carried
+
+pub able_at : (ms : List Member) (place : ℕ) (m : Member) → slice_get ms place ≡ Some m → AllByRecursion CanBeCarried ms → CanBeCarried m
+able_at ms place m at able = at_each CanBeCarried ms place m able at
+
+-- all are listed
+pub all_listed : (es : Numbered) (n : ℕ) → n ≡ length es → take n (values_of es) ≡ values_of es
+all_listed es n is = grind (arith, common_steps)
+
+-- with no announcement counted the offsets are within the last slot of a boundary
+pub bounded_carried : (ms : List Member) → AllByRecursion CanBeCarried ms → EachBounded 0 (map carried ms)
+bounded_carried ms able = each_map CanBeCarried (λ (m : Member). last_offset m ≤ LAST_SLOT + LONGEST_DELAY * 0) carried (λ m k. (let fits = k.offset in omega (arith, fits))) ms able

@@ -1,8 +1,11 @@
 -- What a run can leave, and whether it is restored.
 use Rattle.std.proofs.Common.{is_some, nat_le}
-use Rattle.pfair_admission.proofs.Common.{common_steps, list_all, values_of, all_by_recursion_push, nat_tests, sum_by-cons, Delay, Member, IsWeight, Share, Decision, Admitted, Refused, IsFound, Numbered, EachBounded, Membership, arrival, is_freed, member_named, Machine, as_one, carried, coming_delays, delays_from, jobs_done, passed_delays, subtasks_done, IsNotBefore, is_left_at, is_summed_up, CanBeRestored, IsLeftAt, ◌≡◌, ℕ, ◌+◌, ◌-◌, ◌*◌, ◌<◌, ◌≤◌, Bool, true, false, List, [], ◌∷◌, ◌++◌, length, length-append, map, Option, Some, None, Result, Ok, Err, OnOk, OnErr, refl, sym, ap, subst, ◌∙◌, arith, div-eq_of_lt, Refusal, NameTaken}
-use Rattle.pfair_admission.proofs.CarriedAgain.{done_low, lowered_by_none, next_low}
-use Rattle.pfair_admission.proofs.Written.{filter_all, only_named}
+use Rattle.pfair_admission.proofs.Common.{common_steps, list_all, values_of, all_by_recursion_push, nat_tests, sum_by-cons, Delay, Member, IsWeight, Share, Decision, Admitted, Refused, IsFound, Numbered, EachBounded, Membership, arrival, is_freed, member_named, Machine, as_one, carried, coming_delays, delays_from, jobs_done, passed_delays, subtasks_done, IsNotBefore, is_left_at, is_summed_up, CanBeRestored, IsLeftAt, ◌≡◌, ℕ, ◌+◌, ◌-◌, ◌*◌, ◌<◌, ◌≤◌, Bool, true, false, List, [], ◌∷◌, ◌++◌, length, length-append, map, Option, Some, None, Result, Ok, Err, OnOk, OnErr, refl, sym, ap, subst, ◌∙◌, arith, div-eq_of_lt, Refusal, NameTaken, AllByRecursion, sum_by-append, sum_by_push, NamesApart, units_of, claimed, CanBeCarried, ◌%◌, cond, nat_list_eq_equiv, apart_head, apart_push, apart_tail, AreInFrame, HaveRoom}
+use Rattle.pfair_admission.proofs.Carrying.{done_low, lowered_by_none, next_low, able_again, carried_again}
+use Rattle.pfair_admission.proofs.Deciding.{filter_all, only_named, admitted_new, admitted_room}
+use Rattle.pfair_entry.specs.Entry.{name_eq}
+use Rattle.pfair_admission.proofs.MemberLists.{each}
+use Rattle.pfair_admission.proofs.Boundaries.{admitted_in_frame, others_named}
 
 -- ---- delays that are summed up
 
@@ -101,3 +104,54 @@ pub bounded_restored : {A E : Type 0} (r : Result A E) (heard t : ℕ) (machine 
     → OnErr r (new ≡ old) → EachBounded heard old.members → EachBounded heard new.members
 bounded_restored (Ok x) heard t machine old new m fit is same h = grind (arith, all_by_recursion_push)
 bounded_restored (Err e) heard t machine old new m fit is same h = subst (λ (s : Membership). EachBounded heard s.members) (sym same) h
+
+-- The members that a run begins with, restored one behind the other.
+
+abbrev label : Member → List ℕ
+label m = m.name
+
+-- ---- one member more
+
+pub named_more : (machine : Machine) (t : ℕ) (members : List Member) (m : Member) → CanBeRestored machine t members m → NamesApart (λ m. m.name) members → NamesApart (λ m. m.name) (members ++ m ∷ [])
+named_more machine t members m can h = apart_push label members m (others_named m.name members (admitted_new machine members m.name m.weight (sym can.admitted))) h
+
+pub room_more : (machine : Machine) (t : ℕ) (members : List Member) (m : Member) → CanBeRestored machine t members m → HaveRoom machine (members ++ m ∷ [])
+room_more machine t members m can = grind (arith, admitted_room, sum_by_push)
+
+pub in_frame_more : (machine : Machine) (t : ℕ) (members : List Member) (m : Member) → CanBeRestored machine t members m → AreInFrame machine members → AreInFrame machine (members ++ m ∷ [])
+in_frame_more machine t members m can h = all_by_recursion_push (λ (x : Member). machine.frame % x.weight.period ≡ 0) members m h (admitted_in_frame machine members m.name m.weight (sym can.admitted))
+
+pub left_more : (machine : Machine) (t : ℕ) (members : List Member) (m : Member) → CanBeRestored machine t members m → AllByRecursion (IsLeftAt t) members → AllByRecursion (IsLeftAt t) (members ++ m ∷ [])
+left_more machine t members m can h = all_by_recursion_push (IsLeftAt t) members m h can.left
+
+pub all_again : (t : ℕ) (members : List Member) → AllByRecursion (IsLeftAt t) members → map carried members ≡ members
+all_again t [] h = refl
+all_again t (m ∷ members) h = λ i. h.0.again i ∷ all_again t members h.1 i
+
+pub all_able : (t : ℕ) (members : List Member) → AllByRecursion (IsLeftAt t) members → AllByRecursion CanBeCarried members
+all_able t members h = each (IsLeftAt t) CanBeCarried (λ m left. left.able) members h
+
+-- ---- what a run leaves
+
+pub left_carried : (t : ℕ) (m : Member) → IsWeight m.weight.cost m.weight.period → CanBeCarried m → 1 ≤ m.next → (carried m).joined < t → IsNotBefore (Some t) m.freed_at → IsLeftAt t (carried m)
+left_carried t m weighed able first joined freed = grind (arith, able_again, carried_again, done_low)
+
+middle : {A : Type 0} (P : A → Type 0) (xs ys : List A) (x : A) → AllByRecursion P (xs ++ x ∷ ys) → P x
+middle P [] ys x h = h.0
+middle P (y ∷ xs) ys x h = middle P xs ys x h.1
+
+free_before : (before after : List Member) (m : Member) → NamesApart (λ m. m.name) (before ++ m ∷ after) → member_named before m.name ≡ None
+free_before [] after m h = refl
+free_before (x ∷ before) after m h =
+    let other = middle (λ (y : Member). name_eq x.name y.name ≡ false) before after m (apart_head label x (before ++ m ∷ after) h) in
+    ap (λ b. cond b (Some x) (member_named before m.name)) (nat_list_eq_equiv.symm m.name x.name ∙ other) ∙ free_before before after m (apart_tail label x (before ++ m ∷ after) h)
+
+pub in_turn : (machine : Machine) (t : ℕ) (before after : List Member) (m : Member) → NamesApart (λ m. m.name) (before ++ m ∷ after) → HaveRoom machine (before ++ m ∷ after) → machine.frame % m.weight.period ≡ 0 → IsLeftAt t m → CanBeRestored machine t before m
+in_turn machine t before after m named room divides left =
+    let units : Member → ℕ = λ (x : Member). units_of x.weight machine.frame in
+    let all = sum_by-append units before (m ∷ after) in
+    let rest = sum_by-cons units m after in
+    grind (arith, beside, free_before)
+  where
+    beside : (name : List ℕ) (w : Share) → member_named before name ≡ None → machine.frame % w.period ≡ 0 → claimed machine.frame before + units_of w machine.frame ≤ machine.processors * machine.frame → arrival machine before name w ≡ Admitted
+    beside name w free divides fits = grind (arith, nat_tests)

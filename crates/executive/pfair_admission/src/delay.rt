@@ -54,7 +54,7 @@ fn has_passed(delays: &[Delay], next: u64) -> bool
 
 /// The delays of a carried member: those before subtask `next` as one, of subtask 1, and the others
 /// at lower indexes.
-#[tactic(auto, using(crate::proofs::Coming::none_passed, crate::proofs::Coming::some_passed, crate::proofs::Coming::before_next))]
+#[tactic(auto, using(crate::proofs::Carrying::none_passed, crate::proofs::Carrying::some_passed, crate::proofs::Carrying::before_next))]
 pub(crate) fn carried_delays(
     alloc: Global,
     delays: &[Delay],

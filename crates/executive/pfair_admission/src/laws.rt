@@ -1,7 +1,7 @@
 //! The laws of members, for every machine, slot and list of members.
 //!
 //! Each function states one law and does nothing; [`next_key_is_of_its_subtask`] returns true.
-#![tactic(auto, using(crate::proofs::LawLemmas::kept, crate::proofs::LawLemmas::of_members))]
+#![tactic(auto, using(crate::proofs::Carrying::kept, crate::proofs::Carrying::of_members))]
 
 ghost use Rattle.std.specs.Prelude.{IsTrue};
 ghost use Rattle.pfair_admission.specs.Laws.{NamesStayApart, MembersKeepRoom, RefusalsChangeNothing, OrderIsKept, OneDecisionEach, DelaysMoveLaterSubtasks, LeaversHoldTheirClaim, EarlyReleaseKeepsBorders, CarriedMembersStay, CarriedMembersAreRestored, CarryingKeepsWindows, PeriodsStayInFrame, RestoredMembersAreCarried};

@@ -1,6 +1,6 @@
 -- The accounts of a book, and the book that they show.
-use Rattle.std.proofs.Common.{◌^◌, ◌||◌, position}
-use Rattle.pfair_lag.proofs.Common.{option_map, Share, Tally, Book, tally_of, entered_after, left, slot_more, recorded, tally_shown, entered_shown, IsSound, IsKept, EachFits, counted_at, with_quantum, with_quanta, ◌≡◌, ℕ, zero, suc, ◌+◌, ◌-◌, ◌*◌, ◌<◌, ◌≤◌, Bool, true, false, cond, not, List, [], ◌∷◌, ◌++◌, map, length, take, get_or, Option, Some, None, refl, sym, ap, subst, ◌∙◌, arith, slice_get, filter, is_some, lookup, bytes_decides, mul-le, nothing, START, Account, NameValue, name_eq}
+use Rattle.std.proofs.Common.{◌^◌, ◌||◌, position, ◌&&◌, count_by}
+use Rattle.pfair_lag.proofs.Common.{option_map, Share, Tally, Book, tally_of, entered_after, left, slot_more, recorded, tally_shown, entered_shown, IsSound, IsKept, EachFits, counted_at, with_quantum, with_quanta, ◌≡◌, ℕ, zero, suc, ◌+◌, ◌-◌, ◌*◌, ◌<◌, ◌≤◌, Bool, true, false, cond, not, List, [], ◌∷◌, ◌++◌, map, length, take, get_or, Option, Some, None, refl, sym, ap, subst, ◌∙◌, arith, slice_get, filter, is_some, lookup, bytes_decides, mul-le, nothing, START, Account, NameValue, name_eq, has_run}
 use Rattle.std.specs.List.{AllByRecursion, IsDistinct}
 use Rattle.std.specs.Map.{keys_of, values_of, remove_entry}
 use Rattle.std.specs.Cmp.Lexicographic.{nat_list_eq_equiv}
@@ -13,6 +13,8 @@ use Rattle.indexmap.specs.IndexMap.{set_value_at}
 use Rattle.pfair_weight.specs.declared.window.TheConstants.{MAX_INDEX}
 use Rattle.pfair_lag.specs.declared.TheConstants.{MAX_HORIZON}
 use Rattle.pfair_weight.specs.Name.{NamesApart, name_at}
+use Rattle.std.proofs.lemmas.List.Sums.{sum_by-cons}
+use Rattle.pfair_lag.specs.Book.{Enter, Leave, Record, Stay, slot_passed, tally_in, CountsSinceEntering}
 
 abbrev pub Accounts : Type 0
 Accounts = List (NameValue × Account)
@@ -246,3 +248,72 @@ length_entered time (e ∷ es) = ap suc (length_entered time es)
 
 pub length_shown : (time : ℕ) (es : Accounts) (book : Book) → book_shown time es ≡ book → length es ≡ length book.entered
 length_shown time es book is = sym (length_entered time es) ∙ ap (λ (b : Book). length b.entered) is
+
+-- A book counts for each task the slots since it was entered.
+
+abbrev Entries : Type 0
+Entries = List (NameValue × Tally)
+
+-- ---- entering
+
+found_push : (name other : NameValue) (t : Tally) (es : Entries) → lookup (name_eq name) (es ++ (other, t) ∷ []) ≡ cond (is_some (lookup (name_eq name) es)) (lookup (name_eq name) es) (cond (name_eq name other) (Some t) None)
+found_push name other t [] = refl
+found_push name other t (e ∷ es) = grind (arith, found_push name other t es)
+
+abbrev fresh : (slots ran : ℕ) → Share → Tally
+fresh slots ran weight = record { weight = weight; slots = slots; ran = ran }
+
+found_or_new : (o : Option Tally) (b : Bool) (t : Tally) → cond (is_some o) o (cond b (Some t) None) ≡ cond (b && not (is_some o)) (Some t) o
+found_or_new None true t = refl
+found_or_new None false t = refl
+found_or_new (Some x) true t = refl
+found_or_new (Some x) false t = refl
+
+-- a name that is there is not entered anew
+there_already : (name other : NameValue) (book : Book) (t : Tally) → is_some (tally_of other book) ≡ true → tally_of name book ≡ cond (name_eq name other && not (is_some (tally_of name book))) (Some t) (tally_of name book)
+there_already name other book t there = grind (arith, bytes_decides)
+
+found_entered : (name other : NameValue) (slots ran : ℕ) (weight : Share) (book : Book)
+    → tally_of name (entered_after slots ran other weight book) ≡ cond (name_eq name other && not (is_some (tally_of name book))) (Some (fresh slots ran weight)) (tally_of name book)
+found_entered name other slots ran weight book = grind (arith, there_already, found_push, found_or_new)
+
+-- ---- leaving
+
+found_left : (name other : NameValue) (es : Entries) → lookup (name_eq name) (filter (λ (e : NameValue × Tally). not (name_eq other e.0)) es) ≡ cond (name_eq name other) None (lookup (name_eq name) es)
+found_left name other [] = elim (name_eq name other) as (λ b. let e : Option Tally = None in e ≡ cond b e e) [ true ↦ refl | false ↦ refl ]
+found_left name other (e ∷ es) = grind (arith, found_left name other es, lookup, bytes_decides)
+
+-- ---- a slot
+
+found_recorded : (names : List NameValue) (name : NameValue) (es : Entries) → lookup (name_eq name) (map (λ (e : NameValue × Tally). (e.0, slot_more names e.0 e.1)) es) ≡ option_map (slot_more names name) (lookup (name_eq name) es)
+found_recorded names name [] = refl
+found_recorded names name (e ∷ es) = grind (arith, found_recorded names name es, lookup, bytes_decides)
+
+slot_counted : (names : List NameValue) (name : NameValue) (s : Stay) → slot_more names name (tally_in name s) ≡ tally_in name (slot_passed names s)
+slot_counted names name s =
+    let slots : s.slots_before + length s.slots + 1 ≡ s.slots_before + length (names ∷ s.slots) = omega arith in
+    let cons : count_by (λ l. has_run l name) (names ∷ s.slots) ≡ cond (has_run names name) 1 0 + count_by (λ l. has_run l name) s.slots = sum_by-cons (λ l. cond (has_run l name) 1 0) names s.slots in
+    grind arith
+
+counted_slot : (names : List NameValue) (name : NameValue) (o : Option Stay) → option_map (slot_more names name) (option_map (tally_in name) o) ≡ option_map (tally_in name) (option_map (slot_passed names) o)
+counted_slot names name None = refl
+counted_slot names name (Some s) = ap Some (slot_counted names name s)
+
+-- ---- any calls
+
+new_stay : (name : NameValue) (b : Bool) (slots ran : ℕ) (weight : Share) (o : Option Stay)
+    → cond b (Some (fresh slots ran weight)) (option_map (tally_in name) o) ≡ option_map (tally_in name) (cond b (Some (record { weight = weight; slots_before = slots; ran_before = ran; slots = [] })) o)
+new_stay name true slots ran weight o = grind arith
+new_stay name false slots ran weight o = refl
+
+no_stay : (name : NameValue) (b : Bool) (o : Option Stay) → cond b None (option_map (tally_in name) o) ≡ option_map (tally_in name) (cond b None o)
+no_stay name true o = refl
+no_stay name false o = refl
+
+pub counts_since_entering : CountsSinceEntering
+counts_since_entering name [] = refl
+counts_since_entering name (Enter slots ran other weight ∷ before) = grind (arith, counts_since_entering name before, is_some-map, found_entered, new_stay)
+counts_since_entering name (Leave other ∷ before) =
+    grind (arith, found_left, no_stay, counts_since_entering name before)
+counts_since_entering name (Record names ∷ before) =
+    grind (arith, found_recorded, counted_slot, counts_since_entering name before)

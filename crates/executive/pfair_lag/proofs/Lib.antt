@@ -1,6 +1,3 @@
-mod Agree
 mod BookLemmas
 mod Common
 mod Counts
-mod MissLemmas
-mod RunLemmas

@@ -19,7 +19,7 @@ pub fn lags_keep_deadlines()
 
 /// At most one subtask, and one cause, is the first that is out of its window, and then not all are
 /// in their windows.
-#[tactic(auto, using(crate::proofs::MissLemmas::one_first_miss, crate::proofs::MissLemmas::misses_are_out))]
+#[tactic(auto, using(crate::proofs::Counts::one_first_miss, crate::proofs::Counts::misses_are_out))]
 pub fn first_misses_are_one()
     ensures one { OneFirstMiss }
     ensures out { MissesAreOut }
@@ -27,7 +27,7 @@ pub fn first_misses_are_one()
 
 /// At most one subtask, and one cause, is the first that is late, and then not all meet their
 /// deadlines.
-#[tactic(auto, using(crate::proofs::MissLemmas::one_first_late, crate::proofs::MissLemmas::late_miss_deadlines))]
+#[tactic(auto, using(crate::proofs::Counts::one_first_late, crate::proofs::Counts::late_miss_deadlines))]
 pub fn first_late_are_one()
     ensures one { OneFirstLate }
     ensures late { LateMissDeadlines }
@@ -36,7 +36,7 @@ pub fn first_late_are_one()
 /// After any calls the lag of a task goes by the slots recorded since it was last entered, and by
 /// those of them whose list names it, with the slots and quanta that it was entered with. Slots
 /// before it was last entered don't count, even if it had been entered before.
-#[tactic(auto, using(crate::proofs::RunLemmas::counts_since_entering))]
+#[tactic(auto, using(crate::proofs::BookLemmas::counts_since_entering))]
 pub fn lags_count_since_entering()
     ensures { CountsSinceEntering }
 {}

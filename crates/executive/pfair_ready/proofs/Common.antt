@@ -1,6 +1,6 @@
 -- The names that many of these proofs cite, passed on from one place. Declares nothing.
 pub use Rattle.itertools.specs.Extremes.{IsKLeast, by_cmp}
-pub use Rattle.pfair_order.proofs.ByRank.{by_rank_of_split}
+pub use Rattle.pfair_order.proofs.InOrder.{by_rank_of_split}
 pub use Rattle.pfair_order.proofs.KeyLaws.{keys_exact, keys_total}
 pub use Rattle.pfair_order.proofs.RankLemmas.{IsSplit, at_place, first_within, less_of, place_of, split_from_least, split_more, split_of_permutation}
 pub use Rattle.pfair_order.specs.Order.{pd2_cmp, tie_group_of, first_by_rank}

@@ -1,13 +1,119 @@
 -- How far a selection has come over the turns, and its steps.
-use Rattle.std.proofs.Common.{length-append}
-use Rattle.pfair_ready.proofs.Common.{AllByRecursion, Less, is_lt, is_eq, Equal-is, IsPermutation, map_push, All-contains, true≢false, and_parts, Key, pd2_cmp, first_by_rank, keys_total, keys_exact, IsSplit, less_of, split_more, Calendar, Date, NameValue, Queue, released, without, HasTurn, IsCovered, IsNoted, IsKeyIn, All-from_recursion, PopsGreatest, Turn, is_due, is_turn_of, leb-true, turn_cmp, turn_of, ◌≡◌, ℕ, ◌+◌, ◌<◌, ◌≤◌, inl, inr, true, false, List, [], ◌∷◌, ◌++◌, length, map, min, refl, sym, ap, subst, ◌∙◌, arith, Some, Contains, nat_le, by_rank_of_split, IsTaskName, name_of, name_back}
-use Rattle.std.specs.FinMap as finmap
+use Rattle.std.proofs.Common.{◌||◌, T, length-append}
+use Rattle.pfair_ready.proofs.Common.{AllByRecursion, filter, list_any, Less, Equal, is_lt, is_eq, eq_by_cmp, ordering_reverse, tied_itself, Equal-is, find, is_sorted, put, get-entries, entries-insert, entries_sorted, get-insert, get-remove, get-retain_keys, same_map, IsPermutation, leb-true, Key, NameValue, name_cmp, name_eq, Queue, released, without, ◌≡◌, ℕ, ◌≤◌, Bool, true, false, cond, not, List, [], ◌∷◌, ◌++◌, map, refl, sym, ap, subst, ◌∙◌, Option, Some, None, arith, nat_le, ◌&&◌, Ordering, map_push, All-contains, true≢false, and_parts, pd2_cmp, first_by_rank, keys_total, keys_exact, IsSplit, less_of, split_more, Calendar, Date, HasTurn, IsCovered, IsNoted, IsKeyIn, All-from_recursion, PopsGreatest, Turn, is_due, is_turn_of, turn_cmp, turn_of, ◌+◌, ◌<◌, inl, inr, length, min, Contains, by_rank_of_split, IsTaskName, name_of, name_back}
+use Rattle.std.specs.FinMap.Entries.{below_all}
+use Rattle.std.proofs.lemmas.List.Folds.{list_any-append}
+use Rattle.pfair_ready.proofs.Names.{names_total, names_exact, tied_names}
+use Rattle.pfair_ready.proofs.WaitingLemmas.{chosen, chosen_put}
 use Rattle.std.proofs.lemmas.List.Sorted.{IsPermutation-sym, length_permutation}
 use Rattle.pfair_order.proofs.InOrder.{each_trivial}
 use Rattle.pfair_order.proofs.RankLemmas.{all_map}
-use Rattle.pfair_ready.proofs.CoverLemmas.{covered_less, covered_popped, still_there}
-use Rattle.pfair_ready.proofs.TurnLemmas.{due_of, own_turn, popped_turns, same_order, top_number}
-use Rattle.pfair_ready.proofs.Released.{IsReleased, each_released, released_remove, without_none, without_push}
+use Rattle.pfair_ready.proofs.CalendarLemmas.{covered_less, covered_popped, still_there, due_of, own_turn, popped_turns, same_order, top_number}
+use Rattle.std.specs.FinMap as finmap
+
+-- What is released of what a map holds.
+
+first_so : (a b : Bool) → T (a && b) → T a
+first_so a b h = grind arith
+
+second_so : (a b : Bool) → T (a && b) → T b
+second_so a b h = grind arith
+
+less_so : (r : Ordering) → T (is_lt r) → r ≡ Less
+less_so r h = grind arith
+
+greater_apart : (r s : Ordering) → r ≡ ordering_reverse s → s ≡ Less → is_eq r ≡ false
+greater_apart r s e f = rw e (rw f refl)
+
+-- in a sorted list each entry is found under its name
+module _ {X : Type 0} where
+  past_head : (e : NameValue × X) (es fs : List (NameValue × X)) → T (below_all name_cmp e.0 fs) → AllByRecursion (λ f. find name_cmp f.0 es ≡ Some f.1) fs → AllByRecursion (λ f. find name_cmp f.0 (e ∷ es) ≡ Some f.1) fs
+  past_head e es [] below h = tt
+  past_head e es (f ∷ fs) below h = grind (arith, greater_apart, names_total, less_so, first_so, second_so, past_head e es fs)
+
+  pub each_found : (es : List (NameValue × X)) → T (is_sorted name_cmp es) → AllByRecursion (λ e. find name_cmp e.0 es ≡ Some e.1) es
+  each_found [] h = tt
+  each_found (e ∷ es) h = (
+    ap (λ r. cond (is_eq r) (Some e.1) (find name_cmp e.0 es)) (tied_itself names_total e.0),
+    past_head e es es (first_so (below_all name_cmp e.0 es) (is_sorted name_cmp es) h) (each_found es (second_so (below_all name_cmp e.0 es) (is_sorted name_cmp es) h)),
+  )
+
+-- a key is held and released
+pub record IsReleased (slot : ℕ) (m : Queue) (k : Key) : Type 0 where
+  pub name : NameValue
+  pub release : ℕ
+  pub at : finmap.get m name ≡ Some (release, k)
+  pub due : release ≤ slot
+
+each_of : (slot : ℕ) (m : Queue) (es : List (NameValue × (ℕ × Key))) → AllByRecursion (λ e. finmap.get m e.0 ≡ Some e.1) es → AllByRecursion (IsReleased slot m) (map (λ e. e.1) (filter (λ e. nat_le e.0 slot) (map (λ e. e.1) es)))
+each_of slot m [] h = tt
+each_of slot m (e ∷ es) h =
+    let l : List (ℕ × Key) = filter (λ e. nat_le e.0 slot) (map (λ e. e.1) es) in
+    elim (nat_le e.1.0 slot) as (λ b. nat_le e.1.0 slot ≡ b → AllByRecursion (IsReleased slot m) (map (λ e. e.1) (cond b (e.1 ∷ l) l))) [
+      | true ↦ λ t. (record { name = e.0; release = e.1.0; at = h.0; due = leb-true e.1.0 slot t }, each_of slot m es h.1)
+      | false ↦ λ _. each_of slot m es h.1
+    ] refl
+
+found_gets : (m : Queue) (es : List (NameValue × (ℕ × Key))) → AllByRecursion (λ e. find name_cmp e.0 (finmap.entries m) ≡ Some e.1) es → AllByRecursion (λ e. finmap.get m e.0 ≡ Some e.1) es
+found_gets m [] h = tt
+found_gets m (e ∷ es) h = (get-entries m e.0 ∙ h.0, found_gets m es h.1)
+
+-- each released key is held under some name
+pub each_released : (slot : ℕ) (m : Queue) → AllByRecursion (IsReleased slot m) (released slot m)
+each_released slot m = each_of slot m (finmap.entries m) (found_gets m (finmap.entries m) (each_found (finmap.entries m) (entries_sorted m)))
+
+-- one more that is released
+pub released_insert : (slot : ℕ) (m : Queue) (name : NameValue) (r : ℕ) (k : Key) → finmap.get m name ≡ None → nat_le r slot ≡ true → IsPermutation (k ∷ released slot m) (released slot (finmap.insert m name (r, k)))
+released_insert slot m name r k none due =
+    let passes : ℕ × Key → Bool = λ e. nat_le e.0 slot in
+    let es : List (NameValue × (ℕ × Key)) = finmap.entries m in
+    let l : List (ℕ × Key) = filter passes (map (λ e. e.1) es) in
+    let put_in : IsPermutation (chosen passes (λ e. e.1) ((name, (r, k)) ∷ es)) (chosen passes (λ e. e.1) (put name_cmp name (r, k) es)) =
+    chosen_put passes (λ e. e.1) name (r, k) es (sym (get-entries m name) ∙ none) in
+    subst (λ fs. IsPermutation (k ∷ released slot m) (chosen passes (λ e. e.1) fs)) (sym (entries-insert names_total m name (r, k)))
+    (subst (λ b. IsPermutation (map (λ e. e.1) (cond b ((r, k) ∷ l) l)) (chosen passes (λ e. e.1) (put name_cmp name (r, k) es))) due put_in)
+
+-- what is taken out can be put back
+pub put_back : (m n : Queue) (name : NameValue) (v : ℕ × Key) → finmap.get m name ≡ Some v → n ≡ finmap.remove m name → m ≡ finmap.insert n name v
+put_back m n name v there gone =
+    same_map names_total names_exact _ _ (λ q.
+    elim (eq_by_cmp name_cmp q name) as (λ b. eq_by_cmp name_cmp q name ≡ b → finmap.get m q ≡ cond b (Some v) (cond b None (finmap.get m q))) [
+      | true ↦ λ t. ap (finmap.get m) (names_exact q name ((Equal-is (name_cmp q name)).0 t)) ∙ there
+      | false ↦ λ _. refl
+    ] refl
+    ∙ sym (get-insert names_total n name v q ∙ ap (λ (o : Option (ℕ × Key)). cond (eq_by_cmp name_cmp q name) (Some v) o) (ap (λ (x : Queue). finmap.get x q) gone ∙ get-remove names_total m name q)))
+
+not_there : (m : Queue) (name : NameValue) → finmap.get (finmap.remove m name) name ≡ None
+not_there m name = get-remove names_total m name name ∙ ap (λ r. cond (is_eq r) None (finmap.get m name)) (tied_itself names_total name)
+
+-- a released key that is taken out was one of the released
+pub released_remove : (slot : ℕ) (m n : Queue) (name : NameValue) (r : ℕ) (k : Key) → finmap.get m name ≡ Some (r, k) → nat_le r slot ≡ true → n ≡ finmap.remove m name → IsPermutation (k ∷ released slot n) (released slot m)
+released_remove slot m n name r k there due gone =
+    subst (λ x. IsPermutation (k ∷ released slot n) (released slot x)) (sym (put_back m n name (r, k) there gone))
+    (released_insert slot n name r k (ap (λ (x : Queue). finmap.get x name) gone ∙ not_there m name) due)
+
+-- the names of no keys are let go
+pub without_none : (m : Queue) → without [] m ≡ m
+without_none m = same_map names_total names_exact _ _ (λ q. get-retain_keys m (λ _. true) q (λ _ _. refl))
+
+any_of_tied : (keys : List Key) (q x : NameValue) → name_cmp q x ≡ Equal → not (list_any (λ k. name_eq x k.name) keys) ≡ not (list_any (λ k. name_eq q k.name) keys)
+any_of_tied keys q x t = ap (λ n. not (list_any (λ k. name_eq n k.name) keys)) (sym (names_exact q x t))
+
+pub get_without : (keys : List Key) (m : Queue) (q : NameValue) → finmap.get (without keys m) q ≡ cond (not (list_any (λ k. name_eq q k.name) keys)) (finmap.get m q) None
+get_without keys m q = get-retain_keys m (λ name. not (list_any (λ k. name_eq name k.name) keys)) q (any_of_tied keys q)
+
+one_of_two : {A : Type 0} (a b c : Bool) (x y : A) → c ≡ (a || (b || false)) → cond (not c) x y ≡ cond b y (cond (not a) x y)
+one_of_two a b c x y e = grind arith
+
+-- one more name is let go
+pub without_push : (keys : List Key) (k : Key) (m : Queue) → without (keys ++ k ∷ []) m ≡ finmap.remove (without keys m) k.name
+without_push keys k m =
+    same_map names_total names_exact _ _ (λ q.
+    get_without (keys ++ k ∷ []) m q
+    ∙ one_of_two (list_any (λ l. name_eq q l.name) keys) (name_eq q k.name) (list_any (λ l. name_eq q l.name) (keys ++ k ∷ [])) (finmap.get m q) None (list_any-append (λ l. name_eq q l.name) keys (k ∷ []))
+    ∙ sym (get-remove names_total (without keys m) k.name q
+    ∙ ap (λ (o : Option (ℕ × Key)). cond (eq_by_cmp name_cmp q k.name) None o) (get_without keys m q)
+    ∙ ap (λ b. cond b None (cond (not (list_any (λ l. name_eq q l.name) keys)) (finmap.get m q) None)) (tied_names q k.name)))
 
 pub record IsTaking (slot m room : ℕ) (start held : Queue) (dates : Calendar) (turns : List Turn) (first : List Key) : Type 0 where
   -- what is given, and what is released of what waits still

@@ -1,7 +1,6 @@
 -- The names that many of these proofs cite, passed on from one place. Declares nothing.
-pub use Rattle.pfair_admission.proofs.Each.{both, each, each_filter, each_map}
-pub use Rattle.pfair_admission.proofs.Effects.{by_boundary, by_effect, each_change}
-pub use Rattle.pfair_admission.proofs.NamesKept.{apart_boundary, apart_effect, apart_present, apart_ran}
+pub use Rattle.pfair_admission.proofs.MemberLists.{both, each, each_filter, each_map}
+pub use Rattle.pfair_admission.proofs.Boundaries.{by_boundary, by_effect, each_change, apart_boundary, apart_effect, apart_present, apart_ran}
 pub use Rattle.pfair_admission.specs.Admission.{Machine, all_decided, announcements, boundary, boundary_decisions, change, effect, is_freed, is_named, member_named, newcomer, present, quantum_of, ran, running, seatless, with_delay, with_freeing, with_quantum, Roster}
 pub use Rattle.pfair_admission.specs.Carried.{CanBeCarried, IsFirstLeft, all_raised, carried, carried_delays, jobs_done, subtasks_done, subtasks_of, taken_off, IsLeftAt}
 pub use Rattle.pfair_admission.specs.Member.{Member, eligible_from, is_departing, next_key, theta}
@@ -13,15 +12,14 @@ pub use Rattle.pfair_entry.specs.declared.entry.Announcement.{Announcement}
 pub use Rattle.pfair_entry.specs.declared.entry.Said.{Said}
 pub use Rattle.pfair_lattice.specs.Held.{join_second, join_least, below_itself, below_trans}
 pub use Rattle.pfair_lattice.specs.declared.join_map.Flat.TheVariants.{One, Torn}
-pub use Rattle.pfair_order.proofs.NamesApart.{first_names}
+pub use Rattle.pfair_order.proofs.InOrder.{first_names}
 pub use Rattle.pfair_order.specs.Order.{GoesBefore}
 pub use Rattle.pfair_order.specs.declared.Key.{Key}
 pub use Rattle.pfair_ready.proofs.Names.{tied_names}
 pub use Rattle.pfair_ready.specs.Queue.{name_cmp, NameValue as Name, Queue, released, without}
 pub use Rattle.pfair_ready.specs.declared.Seated.{Seated}
-pub use Rattle.pfair_replica.proofs.Marks.{below_agree, frontier_le, mark_le, same_said}
-pub use Rattle.pfair_replica.proofs.OfferedTo.{offered_stays}
-pub use Rattle.pfair_replica.proofs.SoundEntries.{beginnings_grow, held_within, read_by_number, some_at}
+pub use Rattle.pfair_replica.proofs.Marks.{below_agree, frontier_le, mark_le, same_said, beginnings_grow, held_within, read_by_number, some_at}
+pub use Rattle.pfair_replica.proofs.Merging.{offered_stays}
 pub use Rattle.pfair_replica.proofs.TornKeys.{test_by_untorn, untorn_by_test}
 pub use Rattle.pfair_replica.specs.Laws.{Among, all_among, among_all, among_below, among_contains, among_filter, among_map, among_right, contains_among, filter_among, map_among, map_same}
 pub use Rattle.pfair_replica.specs.Replica.{absorbed, has_key, has_shape, taken, Agree, Below, IsReplica, Replica, Untorn, empty_replica, frontier, has_torn, join, numbers_below, only, said, said_behind, said_by, said_in, sound_beginning, sound_total, with_entry, IsShape, ReplicaRows, SameShape, replica_of}

@@ -1,16 +1,156 @@
 -- What a finished run leaves can be taken over by a next run, and finished runs that agree leave the same.
-use Rattle.pfair_table.proofs.Common.{IsNextStep, AllByRecursion, ReplicaRows, replica_of, Replica, IsReplica, has_torn, said, same_said, Queue, carried, CanBeCarried, Roster, Machine, Member, Decided, AreLeftAt, IsCarried, CanBeFollowed, IsFinished, IsNextRunFault, IsResumeFault, LeaveAlike, end_of, left_by, members_left, table_before, places_before, places_in, IsFit, ArePlacesOf, last_or, Dispatch, IsKept, members_after, Settings, Origin, Carried, Table, machine, slot_of, history, ℕ, ◌+◌, ◌≤◌, ◌<◌, ◌≡◌, sym, ap, subst, ◌∙◌, arith, Bool, false, List, length, map, Result, IfErr, OnOk, IsErrAnd, Step, Done, LAST_SLOT}
+use Rattle.pfair_table.proofs.Common.{or_parts, AllByRecursion, nat_list_eq_equiv, length-append, name_eq, apart_nil, apart_push, Machine, Member, Pick, AreLeftAt, IsCarried, IsSettings, IsState, with_row, AllDiffer, ArePlacesOf, IsFit, is_used, Carried, Settings, Table, names_task, ℕ, ◌≡◌, ◌≢◌, ◌<◌, ◌∙◌, refl, arith, false, List, ◌∷◌, ◌++◌, length, [], all_by_recursion_push, Announcement, Said, IsWithinLimits, IsWeighed, announcements, all_among, among_contains, among_map, Replica, IsReplica, said, read_by_number, ◌+◌, subst, sym, Option, apart_map, boundary, is_freed, ran, with_quantum, carried, CanBeCarried, both, each, each_map, each_change, IsOrigin, Origin, Story, machine, members_before, slot_of, all_ran, history, table, world, zero, suc, ap, Some, None, map, nat_tests, IsLeftAt, HasBegun, IsBegun, IsWeighedStory, IsNextStep, ReplicaRows, replica_of, has_torn, same_said, Queue, Roster, Decided, CanBeFollowed, IsFinished, IsNextRunFault, IsResumeFault, LeaveAlike, end_of, left_by, members_left, table_before, places_before, places_in, last_or, Dispatch, IsKept, members_after, ◌≤◌, Bool, Result, IfErr, OnOk, IsErrAnd, Step, Done, LAST_SLOT}
+use Rattle.std.proofs.Common.{IfSome}
+use Rattle.pfair_replica.proofs.SaidListed.{is_said}
+use Rattle.pfair_admission.specs.Laws.{AreInFrame, HaveRoom}
+use Rattle.pfair_admission.specs.Admission.{IsNotBefore}
+use Rattle.pfair_admission.proofs.Boundaries.{frame_boundary, frame_carried, frame_ran, none_freed_boundary, room_boundary, room_carried, room_ran}
+use Rattle.pfair_admission.proofs.Restoring.{left_carried}
+use Rattle.pfair_table.proofs.TableLaws.{label, named_before, named_history, same_history}
+use Rattle.pfair_table.proofs.RunsOn.{begun_over, slot_more}
 use Rattle.pfair_table.specs.declared.answer.NextRunFault.{NextRunFault}
 use Rattle.pfair_table.specs.declared.answer.NextRunFault.TheVariants.{Memory}
-use Rattle.pfair_table.proofs.Alike.{untorn_right}
-use Rattle.pfair_table.proofs.Keeping.{is_of_held, plan_now, step_now}
-use Rattle.pfair_table.proofs.Left.{all_left}
+use Rattle.pfair_table.proofs.Alike.{untorn_right, fit_before, fit_plan, last_fit, last_places}
+use Rattle.pfair_table.proofs.Keeping.{is_of_held, plan_now, step_now, plan_of_held}
 use Rattle.pfair_table.proofs.PlacesKept.{places_before_are}
-use Rattle.pfair_table.proofs.PlacesOn.{fit_before, fit_plan, last_fit, last_places}
 use Rattle.pfair_table.proofs.Runs.{untorn_left}
-use Rattle.pfair_table.proofs.Steps.{plan_of_held}
-use Rattle.pfair_table.proofs.Within.{said_weighed}
-use Rattle.pfair_table.proofs.TableLaws.{same_history}
+
+-- What a run can begin with, and what settings a run has that does.
+
+pub none_left : (t : ℕ) (machine : Machine) → AreLeftAt t machine []
+none_left t machine = record { named = apart_nil (λ (m : Member). m.name); room = omega arith; in_frame = tt; left = tt }
+
+-- ---- rows
+
+pub no_rows : (n : ℕ) → IsFit n [] × ArePlacesOf n [] []
+no_rows n = ((omega arith, apart_nil (λ (p : Pick). p.name)), record { one_each = refl; below = tt; differ = tt })
+
+differ_push : (places : List ℕ) (k : ℕ) → AllByRecursion (λ j. j ≢ k) places → AllDiffer places → AllDiffer (places ++ k ∷ [])
+differ_push [] k free differ = (tt, tt)
+differ_push (j ∷ places) k free differ = grind (arith, all_by_recursion_push, differ_push places k free.1 differ.1)
+
+unnamed : (name : List ℕ) (rows : Table) → names_task name rows ≡ false → AllByRecursion (λ (q : Pick). name_eq q.name name ≡ false) rows
+unnamed name [] e = tt
+unnamed name (q ∷ rows) e = (let none = or_parts (name_eq name q.name) (names_task name rows) e in (nat_list_eq_equiv.symm q.name name ∙ none.0, unnamed name rows none.1))
+
+unused : (k : ℕ) (places : List ℕ) → is_used places k ≡ false → AllByRecursion (λ j. j ≢ k) places
+unused k [] e = tt
+unused k (j ∷ places) e = grind (arith, or_parts, unused k places)
+
+pub row_fits : (c : Carried) (p : Pick) (k : ℕ) → IsState c → length c.table < c.machine.processors → k < c.machine.processors → names_task p.name c.table ≡ false → is_used c.places k ≡ false
+    → IsState (with_row c p k)
+row_fits c p k state few is_one none_named none_used =
+    let rows = state.rows in
+    let places = state.places in record {
+      processors = state.processors;
+      frame = state.frame;
+      members = state.members;
+      early = state.early;
+      rows = (omega (arith, few, length-append {A = Pick}), apart_push (λ (q : Pick). q.name) c.table p (unnamed p.name c.table none_named) rows.1);
+      places = grind (arith, length-append, all_by_recursion_push, differ_push, unused);
+    }
+
+-- ---- settings
+
+pub state_of : (s : Settings) (slots : ℕ) (c : Carried) → IsSettings s → IsCarried (record s { slots = slots }) c → IsState c
+state_of s slots c limits taken = grind arith
+
+-- What is said is within the limits of announcements.
+
+abbrev pub AreWithinLimits : List Said → Type 0
+AreWithinLimits announced = AllByRecursion (λ a. IsWithinLimits a.announcement) announced
+
+-- each announcement that a replica says at a slot is within its limits
+pub said_within : (x : Replica) → IsReplica x → (t : ℕ) → AreWithinLimits (said x t)
+said_within x sound t = all_among (λ a. IsWithinLimits a.announcement) (said x t) (λ a h.
+    (let at = ((is_said.members x t a).0 (among_contains (said x t) a h)).1 in
+    let entry = sound.stamped a.proc (at.0 + 1) at.1 (read_by_number.entry x a.proc at.0 at.1 at.3) in
+    subst (λ (o : Option (ℕ × Announcement)). IfSome o (λ s. IsWithinLimits s.1)) at.4 entry.within_limits))
+
+-- and each arrival among them has a weight
+pub said_weighed : (x : Replica) → IsReplica x → (t : ℕ) → AllByRecursion IsWeighed (announcements (said x t))
+said_weighed x sound t = all_among IsWeighed (announcements (said x t)) (λ a h.
+    (let p = among_map (λ (q : Said). q.announcement) (said x t) a h in
+    let at = ((is_said.members x t p.0).0 (among_contains (said x t) p.0 p.1)).1 in
+    let entry = sound.stamped p.0.proc (at.0 + 1) at.1 (read_by_number.entry x p.0.proc at.0 at.1 at.3) in
+    subst IsWeighed (sym p.2) (subst (λ (o : Option (ℕ × Announcement)). IfSome o (λ s. IsWeighed s.1)) at.4 entry.weighed)))
+
+-- What a run leaves is what a next run can begin with, wherever it began.
+
+-- ---- a table's rows
+
+by_rows : (P : List Member → Type 0) → ((name : List ℕ) (members : List Member) → P members → P (ran name members)) → (rows : Table) (members : List Member) → P members → P (all_ran rows members)
+by_rows P keeps [] members h = h
+by_rows P keeps (p ∷ rows) members h = by_rows P keeps rows (ran p.name members) (keeps p.name members h)
+
+-- ---- a run from where it began
+
+has_begun : (t : ℕ) (m : Member) → IsLeftAt t m → HasBegun (t + 0) m
+has_begun t m left = record { weighed = left.weighed; first = left.first; joined = omega (arith, ap (λ (x : Member). x.joined) left.again, left.joined) }
+
+pub begins : (o : Origin) (s : Settings) → IsOrigin o s → IsBegun o
+begins None s began = record { named = apart_nil label; begun = tt }
+begins (Some c) s began = record { named = began.members.named; begun = each (IsLeftAt c.slot) (HasBegun (c.slot + 0)) (has_begun c.slot) c.members began.members.left }
+
+-- what is not freed at a slot is not freed before the next
+not_before : (t : ℕ) (slot : Option ℕ) → is_freed t slot ≡ false → IsNotBefore (Some (suc t)) slot
+not_before t None h = tt
+not_before t (Some slot) h = grind (arith, nat_tests)
+
+module _ (o : Origin) (s : Settings) (began : IsOrigin o s) (story : Story) where
+  -- what boundaries and quanta keep holds of the members in each slot
+  by_slots : (P : List Member → Type 0) → P (members_before o) → ((t : ℕ) (members : List Member) (announced : List Announcement) → P members → P (boundary (machine s) t members announced))
+      → ((name : List ℕ) (members : List Member) → P members → P (ran name members)) → (t : ℕ) → P (history o s story t).members
+  by_slots P first boundaries quanta zero = first
+  by_slots P first boundaries quanta (suc t) =
+      let h = history o s story t in
+      by_rows P quanta (table o s story t) (world o s story t) (boundaries (slot_of o t) h.members (announcements (story t)) (by_slots P first boundaries quanta t))
+
+  room_over : (t : ℕ) → HaveRoom (machine s) (history o s story t).members
+  room_over = by_slots (HaveRoom (machine s)) (first o began) (room_boundary (machine s)) (room_ran (machine s))
+    where
+      first : (o : Origin) → IsOrigin o s → HaveRoom (machine s) (members_before o)
+      first None began = omega arith
+      first (Some c) began = subst (λ (m : Machine). HaveRoom m c.members) began.machine_is began.members.room
+
+  frame_over : (t : ℕ) → AreInFrame (machine s) (history o s story t).members
+  frame_over = by_slots (AreInFrame (machine s)) (first o began) (frame_boundary (machine s)) (frame_ran (machine s))
+    where
+      first : (o : Origin) → IsOrigin o s → AreInFrame (machine s) (members_before o)
+      first None began = tt
+      first (Some c) began = subst (λ (m : Machine). AreInFrame m c.members) began.machine_is began.members.in_frame
+
+  -- who is freed before a slot is gone
+  abbrev Stay : ℕ → List Member → Type 0
+  Stay t members = AllByRecursion (λ m. IsNotBefore (Some t) m.freed_at) members
+
+  stay_over : (t : ℕ) → Stay (slot_of o t) (history o s story t).members
+  stay_over zero = first o began
+    where
+      first : (o : Origin) → IsOrigin o s → Stay (slot_of o 0) (members_before o)
+      first None began = tt
+      first (Some c) began = subst (λ n. Stay n c.members) (let n : c.slot ≡ c.slot + 0 = omega arith in n) (each (IsLeftAt c.slot) (λ m. IsNotBefore (Some c.slot) m.freed_at) (λ m left. left.freed_at) c.members began.members.left)
+  stay_over (suc t) =
+      let at = slot_of o t in
+      let h = history o s story t in
+      let world = world o s story t in
+      let stay : Stay (suc at) world = each (λ (m : Member). is_freed at m.freed_at ≡ false) (λ m. IsNotBefore (Some (suc at)) m.freed_at) (λ m. not_before at m.freed_at) world (none_freed_boundary (machine s) at h.members (announcements (story t))) in
+      subst (λ n. Stay n (history o s story (suc t)).members) (sym (slot_more o t))
+      (by_rows (Stay (suc at)) (λ name. each_change (λ m. IsNotBefore (Some (suc at)) m.freed_at) (λ m. IsNotBefore (Some (suc at)) m.freed_at) name with_quantum (λ m h. h) (λ m h. h)) (table o s story t) world stay)
+
+  -- so what is left can be restored
+  pub all_left : IsWeighedStory story → (n : ℕ) → AllByRecursion CanBeCarried (history o s story n).members → AreLeftAt (slot_of o n) (machine s) (map carried (history o s story n).members)
+  all_left weights n able =
+      let members = (history o s story n).members in
+      let t = slot_of o n in
+      record {
+        named = apart_map label label carried (λ m. refl) members (named_history o s (named_before o s began) story n);
+        room = room_carried (machine s) members (room_over n);
+        in_frame = frame_carried (machine s) members (frame_over n);
+        left = each_map (λ m. IsLeftAt t (carried m)) (IsLeftAt t) carried (λ m left. left) members
+            (both (HasBegun t) (λ m. CanBeCarried m × IsNotBefore (Some t) m.freed_at) (λ m. IsLeftAt t (carried m)) (λ m b more. left_carried t m b.weighed more.0 b.first b.joined more.1) members (begun_over o s (begins o s began) story weights n)
+            (both CanBeCarried (λ m. IsNotBefore (Some t) m.freed_at) (λ m. CanBeCarried m × IsNotBefore (Some t) m.freed_at) (λ m can stays. (can, stays)) members able (stay_over n)));
+      }
 
 module _ {o : Origin} {s : Settings} {replica : Replica} {tables : List Table} {decided : List (List Decided)} {spent : Bool} {roster : Roster} {now : ℕ} {waiting : Queue} (kept : IsKept o s replica tables decided spent roster now waiting) (sound : IsReplica replica) (test : has_torn replica ≡ false) (able : spent ≡ false) (all : s.slots ≤ length tables) where
   long : length tables ≡ s.slots

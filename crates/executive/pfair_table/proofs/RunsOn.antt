@@ -6,17 +6,13 @@ use Rattle.std.proofs.Math.Nat.{add-mul-div_right, div-eq_of_lt, mul-div_cancel}
 use Rattle.std.proofs.lemmas.Nat.{div-add-mod'}
 use Rattle.pfair_weight.specs.WindowFacts.{job_released, starts_job_only}
 use Rattle.pfair_weight.specs.Window.{IsWeight, release_of, starts_job_of}
-use Rattle.pfair_admission.proofs.CarriedAgain.{done_low, next_ran, none_done}
+use Rattle.pfair_admission.proofs.Carrying.{done_low, next_ran, none_done, carried_lowered}
 use Rattle.pfair_admission.proofs.Beside.{AreDecided, ArePaired, Pair, all_paired, eligible_paired, index_paired, lags_paired, keys_paired, later_paired, present_paired, ran_paired}
-use Rattle.pfair_admission.proofs.Keeping.{eligible_at_job, one_each}
-use Rattle.pfair_admission.proofs.Lowered.{carried_lowered}
+use Rattle.pfair_admission.proofs.Boundaries.{eligible_at_job, one_each}
 use Rattle.pfair_table.specs.NextRun.{IsSlotOf, RunsGoOn, both_stories, left_over, raised_rows}
-use Rattle.pfair_table.proofs.FirstByRank.{among_first}
-use Rattle.pfair_table.proofs.FirstSubtasks.{found_own}
-use Rattle.pfair_table.proofs.Members.{label, named_from, named_history}
-use Rattle.pfair_table.proofs.NextIndexes.{after_table, all_ran_is}
-use Rattle.pfair_table.proofs.PlacesOn.{next_are}
-use Rattle.pfair_table.proofs.TableLaws.{eligible_apart, rows_apart, same_history}
+use Rattle.pfair_table.proofs.TableLaws.{among_first, label, named_from, named_history, after_table, all_ran_is, eligible_apart, rows_apart, same_history}
+use Rattle.pfair_table.proofs.QueueKept.{found_own}
+use Rattle.pfair_table.proofs.Alike.{next_are}
 
 -- ---- slots
 

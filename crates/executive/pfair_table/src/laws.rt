@@ -47,7 +47,7 @@ pub fn plan_so_far()
 
 /// In a first run, adding one to the next index of each task of a table gives the indexes that are
 /// counted over all tables.
-#[tactic(auto, using(crate::proofs::NextIndexes::runs_are_counted))]
+#[tactic(auto, using(crate::proofs::TableLaws::runs_are_counted))]
 pub fn runs_are_counted()
     ensures { RunsAreCounted }
 {}

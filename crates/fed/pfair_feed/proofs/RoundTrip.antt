@@ -4,13 +4,11 @@ use Rattle.pfair_lattice.specs.Held.{HeldBelow, below_antisym}
 use Rattle.pfair_entry_row.specs.Laws.{EachEntryHasItsRow}
 use Rattle.pfair_table.specs.Events.{EventsLeaveTheLeast, IsBroughtBelow}
 use Rattle.pfair_feed.specs.Laws.{EntriesAreTheirRows, EntriesGiveTheirSchedule, OrderIsNothing, WholeText, FedEntriesGiveTheirText}
-use Rattle.pfair_feed.proofs.ScriptRows.{all_placed, at_logs, entries_are_lines, in_logs}
-use Rattle.pfair_feed.proofs.Schedules.{schedule_with_room}
+use Rattle.pfair_feed.proofs.ScriptRows.{all_placed, at_logs, entries_are_lines, in_logs, schedule_with_room, lines_are_one}
 use Rattle.pfair_table.specs.declared.run.Event.{Event}
 use Rattle.pfair_table.specs.declared.run.Event.TheVariants.{Take}
-use Rattle.pfair_feed.proofs.OneWay.{lines_are_one}
-use Rattle.pfair_feed.proofs.RowsGoOn.{rows_go_on, whole_texts}
-use Rattle.pfair_admission.proofs.Each.{each, each_map}
+use Rattle.pfair_feed.proofs.Going.{rows_go_on, whole_texts}
+use Rattle.pfair_admission.proofs.MemberLists.{each, each_map}
 use Rattle.pfair_replica.specs.Laws.{all_among, among_all, among_map, map_among}
 
 -- the contents after some entries

@@ -1,11 +1,14 @@
 -- The entries of logs: their rows, and where they stand.
-use Rattle.std.proofs.Common.{flat_map}
-use Rattle.pfair_feed.proofs.Common.{AllByRecursion, list_all, and_parts, leb-true, append-nil, map-append, lines_text, Logged, IsLoggable, entries_text, log_rows, numbered_from, AreLines, IsOneLine, ended, Among, IsPlaced, IsScript, Placed, placed_from, placed_in, row_of, rows_of, ℕ, zero, suc, ◌+◌, ◌<◌, ◌≤◌, ◌≡◌, inl, inr, refl, ap, arith, true, List, [], ◌∷◌, ◌++◌, length, map, Some, None, take, slice_get, ◌⊎◌, flat_map-append, lines_text-append, One, slots_from, LoggedRun, capacity_of, contents_of}
+use Rattle.std.proofs.Common.{flat_map, filter}
+use Rattle.pfair_feed.proofs.Common.{AllByRecursion, list_all, and_parts, leb-true, append-nil, map-append, lines_text, Logged, IsLoggable, entries_text, log_rows, numbered_from, AreLines, IsOneLine, ended, Among, IsPlaced, IsScript, Placed, placed_from, placed_in, row_of, rows_of, ℕ, zero, suc, ◌+◌, ◌<◌, ◌≤◌, ◌≡◌, inl, inr, refl, ap, arith, true, List, [], ◌∷◌, ◌++◌, length, map, Some, None, take, slice_get, ◌⊎◌, flat_map-append, lines_text-append, One, slots_from, LoggedRun, capacity_of, contents_of, Replica, frontier, goes_on, last_floor, numbers_below, run_from, run_on, said, said_in, sound_beginning, Settings, decisions, history, plan, table, Output, HasScheduleOf, replica_with_room, min, fold, Held, replica_of_logs, Tables, PlacedTables, Decisions, Lags, text_of, ◌≢◌, sym, ◌∙◌, append_assoc}
 use Rattle.std.proofs.lemmas.List.{take_more}
 use Rattle.std.proofs.lemmas.Option.{get_or_from_slice_get}
-use Rattle.pfair_entry_row.proofs.Lines.{rows_are_lines}
+use Rattle.pfair_entry_row.proofs.Refused.{rows_are_lines}
 use Rattle.pfair_replica.specs.Laws.{among_append, among_left, among_right}
 use Rattle.pfair_table.specs.Script.{entry_of, is_short}
+use Rattle.pfair_output.specs.Replay.{decisions_text, placed_replay_text, replay_text}
+use Rattle.pfair_output.specs.Lags.{is_staying, lag_row, lags_header}
+use Rattle.pfair_feed.specs.Laws.{LinesAreOne}
 
 -- ---- their rows
 
@@ -91,3 +94,87 @@ at_logs processor (log ∷ logs) (suc j) n = grind (arith, among_right, at_logs 
 pub all_next : {A : Type 0} (P : A → Type 0) (xs : List A) (index : ℕ) (x : A) → index < length xs → slice_get xs index ≡ Some x → AllByRecursion P (take index xs) → P x → AllByRecursion P (take (index + 1) xs)
 all_next P xs index x inside here all p =
     rw (take_more xs index x inside, get_or_from_slice_get xs index x x here) (all_append P (take index xs) (x ∷ []) all (p, tt))
+
+-- More room in the logs doesn't change the schedule of the contents.
+
+-- ---- the same sound beginnings
+
+-- a run ends where nothing is held
+none_on : (row : ℕ → Held Logged) (room n floor : ℕ) → row n ≡ None → run_from row room n floor ≡ []
+none_on row zero n floor none = refl
+none_on row (suc room) n floor none = ap (λ (h : Held Logged). run_on (goes_on h floor) (run_from row room (suc n))) none
+
+-- numbers at which nothing is held
+run_longer : (row : ℕ → Held Logged) (more few n floor : ℕ) → few ≤ more → ((m : ℕ) → n + few ≤ m → row m ≡ None) → run_from row more n floor ≡ run_from row few n floor
+run_longer row more zero n floor h none = none_on row more n floor (none n (omega arith))
+run_longer row zero (suc few) n floor h none = absurd (omega arith)
+run_longer row (suc more) (suc few) n floor h none = grind (arith, run_longer row more few (suc n))
+
+module _ (run : LoggedRun) (capacity : ℕ) (room : capacity_of run.logs ≤ capacity) where
+  none_past : (k n : ℕ) → capacity_of run.logs < n → contents_of run.logs k n ≡ None
+  none_past k n past = elim (at_logs 0 run.logs k n) [
+    | inl none ↦ none
+    | inr some ↦ absurd (let l = some.4 in omega (arith, l, past))
+  ]
+
+  same_beginning : (k : ℕ) → sound_beginning (replica_with_room capacity run) k ≡ sound_beginning (replica_of_logs run.logs) k
+  same_beginning k = run_longer (contents_of run.logs k) capacity (capacity_of run.logs) 1 0 room (λ m l. none_past k m (omega (arith, l)))
+
+-- ---- the same schedules
+
+module _ (x y : Replica) (processors : x.processors ≡ y.processors) (beginnings : (k : ℕ) → sound_beginning x k ≡ sound_beginning y k) where
+  same_frontier : frontier x ≡ frontier y
+  same_frontier i = fold min (last_floor 0 (beginnings 0 i)) (map (λ k. last_floor 0 (beginnings k i)) (numbers_below (processors i)))
+
+  same_said : said x ≡ said y
+  same_said = λ i t. flat_map (λ k. said_in t k 1 (beginnings k i)) (numbers_below (processors i))
+
+  module _ (s : Settings) where
+    same_plan : plan None s x ≡ plan None s y
+    same_plan = λ i. map (table None s (same_said i)) (numbers_below (min (same_frontier i) s.slots))
+
+    same_decisions : (t : ℕ) → decisions None s (said x) t ≡ decisions None s (said y) t
+    same_decisions t = λ i. decisions None s (same_said i) t
+
+    same_text : (output : Output) → text_of output s x ≡ text_of output s y
+    same_text Tables = ap replay_text same_plan
+    same_text PlacedTables = ap placed_replay_text same_plan
+    same_text Decisions = λ i. decisions_text (map (decisions None s (same_said i)) (numbers_below (min (same_frontier i) s.slots)))
+    same_text Lags = λ i. lines_text (lags_header ∷ flat_map (λ t. map (lag_row (t + 1)) (filter is_staying (history None s (same_said i) (suc t)).members)) (numbers_below (min (same_frontier i) s.slots)))
+
+-- a script's own schedule, whatever the room
+pub schedule_with_room : (run : LoggedRun) (capacity : ℕ) → capacity_of run.logs ≤ capacity → HasScheduleOf run (replica_with_room capacity run)
+schedule_with_room run capacity room = grind (arith, same_beginning, same_frontier, same_plan, same_decisions, same_text)
+
+-- Bytes are lines in one way.
+
+-- the head and the tail of equal lists
+pub heads : {A : Type 0} (x y : A) (xs ys : List A) → x ∷ xs ≡ y ∷ ys → (x ≡ y) × (xs ≡ ys)
+heads x y xs ys e = grind arith
+
+-- a line's end comes first where the line ends
+one_end : (a b xs ys : List ℕ) → IsOneLine a → IsOneLine b → a ++ 10 ∷ xs ≡ b ++ 10 ∷ ys → (a ≡ b) × (xs ≡ ys)
+one_end [] [] xs ys p q e = (refl, (heads 10 10 xs ys e).1)
+one_end [] (y ∷ b) xs ys p q e = absurd (q.0 (sym (heads 10 y xs (b ++ 10 ∷ ys) e).0))
+one_end (x ∷ a) [] xs ys p q e = absurd (p.0 (heads x 10 (a ++ 10 ∷ xs) ys e).0)
+one_end (x ∷ a) (y ∷ b) xs ys p q e = grind (arith, heads, one_end a b xs ys p.1 q.1)
+
+-- no line ends in what is none
+no_end : (a rest xs : List ℕ) → IsOneLine rest → rest ≢ a ++ 10 ∷ xs
+no_end a [] xs q e = none a e
+  where
+    none : (a : List ℕ) → [] ≢ a ++ 10 ∷ xs
+    none [] e = absurd (cc e)
+    none (x ∷ a) e = absurd (cc e)
+no_end [] (y ∷ rest) xs q e = absurd (q.0 (heads y 10 rest xs e).0)
+no_end (x ∷ a) (y ∷ rest) xs q e = no_end a rest xs q.1 (heads y x rest (a ++ 10 ∷ xs) e).1
+
+-- the first line, and what is behind it
+first_line : (l : List ℕ) (lines : List (List ℕ)) (rest : List ℕ) → flat_map ended (l ∷ lines) ++ rest ≡ l ++ 10 ∷ (flat_map ended lines ++ rest)
+first_line l lines rest = append_assoc (ended l) (flat_map ended lines) rest ∙ append_assoc l (10 ∷ []) (flat_map ended lines ++ rest)
+
+pub lines_are_one : LinesAreOne
+lines_are_one bytes [] [] rest rest' a b = (refl, sym a.bytes_are ∙ b.bytes_are)
+lines_are_one bytes [] (m ∷ lines') rest rest' a b = absurd (no_end m rest (flat_map ended lines' ++ rest') a.open_end (sym a.bytes_are ∙ b.bytes_are ∙ first_line m lines' rest'))
+lines_are_one bytes (l ∷ lines) [] rest rest' a b = absurd (no_end l rest' (flat_map ended lines ++ rest) b.open_end (sym b.bytes_are ∙ a.bytes_are ∙ first_line l lines rest))
+lines_are_one bytes (l ∷ lines) (m ∷ lines') rest rest' a b = grind (arith, one_end, first_line, lines_are_one (flat_map ended lines ++ rest) lines lines' rest rest')

@@ -1,19 +1,27 @@
 -- What a follower that was new comes to, by what it holds.
-use Rattle.std.proofs.Common.{ℕ, zero, suc, Bool, false, ◌≡◌, ◌≤◌, ◌<◌, refl, sym, ap, subst, ◌∙◌, arith, inl, inr, List, ◌∷◌, ◌++◌, length, append_assoc, Option, None, Some, Result, Ok, Err, IfErr, IsErrOf, OnOk, [], true, ⊎_elim, append-nil}
+use Rattle.std.proofs.Common.{ℕ, zero, suc, Bool, false, ◌≡◌, ◌≤◌, ◌<◌, refl, sym, ap, subst, ◌∙◌, arith, inl, inr, List, ◌∷◌, ◌++◌, length, append_assoc, Option, None, Some, Result, Ok, Err, IfErr, IsErrOf, OnOk, [], true, ⊎_elim, append-nil, IfOk, IfSome, map, min}
 use Rattle.std.proofs.lemmas.Bool.{false≢true}
 use Rattle.std.specs.List.{list_any}
 use Rattle.std.specs.Io.KnownBytes.{Appends, Consumes, IsAtEnd}
 use Rattle.pfair_text.specs.Rows.{line, lines_text}
-use Rattle.pfair_replica.specs.Replica.{replica_of, Replica, empty_replica, frontier, has_torn, numbers_below}
+use Rattle.pfair_replica.specs.Replica.{replica_of, Replica, empty_replica, frontier, has_torn, numbers_below, said}
 use Rattle.pfair_table.specs.Events.{Course}
 use Rattle.pfair_table.specs.Table.{Origin, Settings, plan, plan_decisions}
 use Rattle.pfair_feed.specs.declared.output.Output.{Output}
-use Rattle.pfair_feed.specs.Follow.{Follow, IsPlannedOut, news, header_of, rows_in}
-use Rattle.pfair_feed.specs.Laws.{text_of, WholeText}
-use Rattle.pfair_feed.specs.Feeding.{AreFedBytes, AreTakenFrom, AreWelcome, IsCaughtUp, IsFedTo}
+use Rattle.pfair_feed.specs.Follow.{Follow, IsPlannedOut, news, header_of, rows_in, IsStopOf}
+use Rattle.pfair_feed.specs.Laws.{text_of, WholeText, EntriesGiveTheirSchedule, LinesAreOne, HasScheduleOf, HaveTheRows, rows_of}
+use Rattle.pfair_feed.specs.Feeding.{AreFedBytes, AreTakenFrom, AreWelcome, IsCaughtUp, IsFedTo, IsLeft}
 use Rattle.pfair_file.specs.declared.program_fault.ProgramFault.{ProgramFault}
-use Rattle.pfair_feed.proofs.Planned.{planned, whole_start}
-use Rattle.pfair_follow.specs.Runs.{AreBrought, AreTakenAll, HasReachedLast, IsEndOf, IsFed, IsFedEndOf, IsFedShort, IsFollowed, IsFresh, IsSettled, IsSettledBelow, IsShort, head_from, rows_of_plan, text_from}
+use Rattle.pfair_feed.proofs.Going.{planned, whole_start}
+use Rattle.pfair_follow.specs.Runs.{AreBrought, AreTakenAll, HasReachedLast, IsEndOf, IsFed, IsFedEndOf, IsFedShort, IsFollowed, IsFresh, IsSettled, IsSettledBelow, IsShort, head_from, rows_of_plan, text_from, is_refused, HasLeft, IsEndOfLeaving, IsNoneLeft, IsTextLeft, HasScript, IsScriptStalled, IsScriptWritten, OfItsScript}
+use Rattle.pfair_table.specs.NextRun.{left_by, start_after, left_over}
+use Rattle.pfair_table.specs.Refinement.{Dispatch, course_of}
+use Rattle.pfair_state.specs.Rows.{state_text}
+use Rattle.pfair_follow.specs.declared.fault.FollowFault.{FollowFault}
+use Rattle.pfair_table.specs.Script.{LoggedRun, replica_of_logs}
+use Rattle.pfair_file.specs.declared.program_fault.ProgramFault.TheVariants.{Memory, ReadFailed, Row, Stalled, WriteFailed}
+use Rattle.pfair_entry_row.specs.declared.fault.RowFault.TheVariants.{NoRow}
+use Rattle.pfair_table.proofs.Scripts.{capacity_short}
 
 -- one text behind another
 appends_more : (u v w : Option (List ℕ)) (a b : List ℕ) → Appends u v a → Appends v w b → Appends u w (a ++ b)
@@ -188,3 +196,121 @@ err_as {T} {F} (Err d) e is b f = f d b (same d is)
 
     same : (d : F) → ◌≡◌ {A = Result T F} (Err d) (Err e) → d ≡ e
     same d is = ap (of d) is
+
+-- The state that a run leaves, by what was brought.
+
+-- the next run of a finished dispatcher begins with what it left
+pub left_there : {T : Type 0} (items : T → List ℕ) (d next : Dispatch) (r : Result T FollowFault) → course_of next ≡ start_after d
+    → IfSome next.origin (λ c. IfOk r (λ text. items text ≡ state_text c)) → IfOk r (λ text. items text ≡ state_text (left_by d))
+left_there items d next r course is =
+    subst (λ (o : Origin). IfSome o (λ c. IfOk r (λ text. items text ≡ state_text c))) (ap (λ (c : Course). c.origin) course) is
+
+pub no_memory : {T : Type 0} {P Q : FollowFault → Type 0} (r : Result T FollowFault) → IfErr r P → ((e : FollowFault) → P e → Q e) → IfErr r Q
+no_memory (Ok x) h f = tt
+no_memory (Err e) h f = f e h
+
+module _ (law : WholeText) (f : Follow) (fresh : IsFresh f) (g : Follow) (is_strict : Bool) (given left before after : Option (List ℕ))
+    (fed : IsFed is_strict true f g given left before after) (d : Dispatch) (same : d ≡ g.dispatch) where
+  same_state : state_text (left_by d) ≡ state_text (left_over f.dispatch.origin f.dispatch.settings (said (replica_of g.dispatch.replica)) f.dispatch.settings.slots)
+  same_state =
+      let grown = fed.fed.fed.fed.gone_on.grown in
+      ap (λ (e : Dispatch). state_text (left_by e)) same
+      ∙ ap (λ (o : Origin). state_text (left_over o g.dispatch.settings (said (replica_of g.dispatch.replica)) g.dispatch.settings.slots)) grown.origin_is
+      ∙ ap (λ (s : Settings). state_text (left_over f.dispatch.origin s (said (replica_of g.dispatch.replica)) s.slots)) grown.settings_are
+
+  pub has_left : {T : Type 0} (items : T → List ℕ) (r : Result T FollowFault) → IsPlannedOut g → IfOk r (λ text. items text ≡ state_text (left_by d))
+      → IfOk r (λ text. HasLeft f is_strict given left before after (items text))
+  has_left items (Ok text) many is = reached_last f fresh law is_strict true g given left before after fed (IsTextLeft f (items text)) many (is ∙ same_state)
+  has_left items (Err e) many is = tt
+
+  pub has_left_none : {T : Type 0} (r : Result T FollowFault) → IfErr r (IsNoneLeft d) → IfErr r (IsEndOfLeaving f is_strict given left before after)
+  has_left_none (Ok text) is = tt
+  has_left_none (Err e) is = inr (g, fed, subst (λ (x : Dispatch). IsNoneLeft x e) same is)
+
+pub no_refusal : {T : Type 0} (d : Dispatch) (is_strict : Bool) (r : Result T FollowFault) → IfErr r (IsNoneLeft d) → IfErr r (λ e. is_strict ≡ false → is_refused e ≡ false)
+no_refusal d is_strict (Ok text) is = tt
+no_refusal d is_strict (Err e) (inl is) = λ lenient. ap is_refused is
+no_refusal d is_strict (Err e) (inr (next, is, why)) = λ lenient. ap is_refused is
+
+-- What is written of the rows of a script is the script's own text.
+
+-- all that the reader had to give was read
+all_read : (given left : Option (List ℕ)) (bytes : List ℕ) → Consumes given left bytes → IsAtEnd left → (P : List ℕ → Type 0) → P bytes → IfSome given P
+all_read None left bytes consumed ended P p = tt
+all_read (Some xs) None bytes consumed ended P p = absurd consumed
+all_read (Some xs) (Some ys) bytes consumed ended P p = subst P (sym (consumed ∙ ap (λ l. bytes ++ l) ended ∙ append-nil bytes)) p
+
+-- a text by the schedule alone
+same_text : (output : Output) (slot : ℕ) (script : LoggedRun) (replica : Replica) → HasScheduleOf script replica → text_from None output slot script.settings replica ≡ text_from None output slot script.settings (replica_of_logs script.logs)
+same_text output zero script replica has = has.texts_are output
+same_text output (suc slot) script replica has =
+    λ i. lines_text (rows_in None output (suc slot) (has.plan_is i) (map (λ t. has.decisions_are t i) (numbers_below (min (has.frontier_is i) script.settings.slots))))
+
+module _ (gives : EntriesGiveTheirSchedule) (one : LinesAreOne) (f : Follow) (given left before after : Option (List ℕ)) where
+  abbrev Kept : (Replica → Type 0) → LoggedRun → Type 0
+  Kept P script = (replica : Replica) × P replica × HasScheduleOf script replica × Appends before after (text_from None f.output f.unwritten script.settings (replica_of_logs script.logs))
+
+  -- the contents have the schedule of the script, whose text was written
+  of_script : (P : Replica → Type 0) → IsFollowed f P given left before after → OfItsScript f given (Kept P)
+  of_script P followed =
+      all_read given left followed.bytes followed.consumed followed.at_end
+      (λ bytes. (script : LoggedRun) → HasScript f bytes script → Kept P script)
+      (λ script has.
+      (let same = (one followed.bytes has.lines followed.brought.lines has.rest followed.brought.rest has.are_lines followed.brought.are_lines).0 in
+      let gave = gives script 4096 followed.brought.lines followed.replica has.is_script (capacity_short script.logs has.is_script.logged.short)
+      (subst (λ (s : Settings). HaveTheRows s.processors 4096 (rows_of script.logs) followed.brought.lines) (sym has.settings_are)
+      (subst (λ (ls : List (List ℕ)). HaveTheRows f.dispatch.settings.processors 4096 (rows_of script.logs) ls) same has.have_rows))
+      (subst (λ (s : Settings). AreTakenFrom followed.brought.lines (empty_replica s.processors 4096) followed.replica) (sym has.settings_are) followed.brought.taken) in (
+        followed.replica,
+        followed.settled,
+        gave.1,
+        subst (λ (text : List ℕ). Appends before after text)
+            (ap (λ (o : Origin). text_from o f.output f.unwritten f.dispatch.settings followed.replica) has.first
+            ∙ ap (λ (s : Settings). text_from None f.output f.unwritten s followed.replica) (sym has.settings_are) ∙ same_text f.output f.unwritten script followed.replica gave.1) followed.written,
+      )))
+
+  -- of each script
+  each_script : (P Q : LoggedRun → Type 0) → ((script : LoggedRun) → script.settings ≡ f.dispatch.settings → P script → Q script) → OfItsScript f given P → OfItsScript f given Q
+  each_script P Q to = by given
+    where
+      by : (given : Option (List ℕ)) → OfItsScript f given P → OfItsScript f given Q
+      by None p = tt
+      by (Some bytes) p = λ script has. to script has.settings_are (p script has)
+
+  pub writes_its_script : IsFollowed f (IsSettled f.dispatch.settings) given left before after → OfItsScript f given (λ script. IsScriptWritten f script before after)
+  writes_its_script followed =
+      each_script (Kept (IsSettled f.dispatch.settings)) (λ script. IsScriptWritten f script before after)
+      (λ script settings kept. record {
+        settled = subst (λ (n : ℕ). script.settings.slots ≤ n) kept.2.frontier_is (subst (λ (s : Settings). s.slots ≤ frontier kept.0) (sym settings) kept.1);
+        written = kept.3;
+      })
+      (of_script (IsSettled f.dispatch.settings) followed)
+
+  stalls_as_its_script : (slot : ℕ) → IsFollowed f (IsSettledBelow f.dispatch.settings slot) given left before after → OfItsScript f given (λ script. IsScriptStalled f slot script before after)
+  stalls_as_its_script slot followed =
+      each_script (Kept (IsSettledBelow f.dispatch.settings slot)) (λ script. IsScriptStalled f slot script before after)
+      (λ script settings kept. record {
+        slot_is = kept.1.0 ∙ kept.2.frontier_is;
+        short = subst (λ (s : Settings). slot < s.slots) (sym settings) kept.1.1;
+        written = kept.3;
+      })
+      (of_script (IsSettledBelow f.dispatch.settings slot) followed)
+
+  -- no line, and no reader, is at fault so
+  no_stall : (kept : List ℕ) (next : Option ℕ) (e : ProgramFault) (f g : Follow) (v w : Option (List ℕ)) → IsLeft kept next e f g v w → (slot : ℕ) → e ≡ Stalled slot → ⊥
+  no_stall kept next e f g v w (inl (inl (is, none), unchanged, keeps)) slot same = absurd (let h : ReadFailed ≡ Stalled slot = sym is ∙ same in cc h)
+  no_stall kept next e f g v w (inl (inr (inl (is, byte, at, inside)), unchanged, keeps)) slot same = absurd (let h : Memory ≡ Stalled slot = sym is ∙ same in cc h)
+  no_stall kept next e f g v w (inl (inr (inr (is, ended, long)), unchanged, keeps)) slot same = absurd (let h : Row NoRow ≡ Stalled slot = sym is ∙ same in cc h)
+  no_stall kept next e f g v w (inr (ended, short, failed)) slot same = elim failed.cause [
+    | inl row ↦ absurd (let h : Row row.0 ≡ Stalled slot = sym row.1 ∙ same in cc h)
+    | inr stopped ↦ absurd (subst (λ (d : ProgramFault). IsStopOf f g stopped.processor stopped.number stopped.entry d) same stopped.stop)
+  ]
+
+  pub stalls : (fault : ProgramFault) → IsEndOf f given left before after fault → (slot : ℕ) → fault ≡ Stalled slot → OfItsScript f given (λ script. IsScriptStalled f slot script before after)
+  stalls fault (inl (kept, inl (memory, none))) slot e = absurd (let h : Memory ≡ Stalled slot = sym memory ∙ e in cc h)
+  stalls fault (inl (kept, inr (failed, cut))) slot e = absurd (let h : WriteFailed ≡ Stalled slot = sym failed ∙ e in cc h)
+  stalls fault (inr (inl (g, at))) slot e = absurd (no_stall _ _ fault at.stopped.mid g at.stopped.reached after at.stopped.left slot e)
+  stalls fault (inr (inr (there, is, followed))) slot e =
+      let both : Stalled there ≡ Stalled slot = sym is ∙ e in
+      let same : there ≡ slot = cc both in
+      stalls_as_its_script slot (subst (λ (n : ℕ). IsFollowed f (IsSettledBelow f.dispatch.settings n) given left before after) same followed)

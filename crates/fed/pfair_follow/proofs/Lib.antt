@@ -1,3 +1,1 @@
 mod Ends
-mod Scripts
-mod States

@@ -1,17 +1,78 @@
 -- A loop over the entries of one map that joins them into another, or compares them, with `rest` still to come.
-use Rattle.std.proofs.Common.{◌≡◌, sym, ap, subst, false, List, ◌∷◌, arith, Option, None, Some, []}
+use Rattle.std.proofs.Common.{◌≡◌, refl, sym, ◌∙◌, ap, subst, ⊎_elim, false, List, [], ◌∷◌, inl, arith, Option, None, Some}
 use Rattle.std.specs.declared.cmp.Ordering.{Ordering}
+use Rattle.std.specs.List.Sorted.{IsStrictlySortedBy}
 use Rattle.std.specs.Ordering.{is_eq, eq_by_cmp}
-use Rattle.std.specs.Map.{keys_of}
 use Rattle.std.specs.BTreeMap.{is_at}
-use Rattle.std.specs.Cmp.{IsTotalOrder, eq_by_cmp_equiv, tied_itself}
+use Rattle.std.specs.Cmp.{IsTotalOrder, Equal-is, eq_by_cmp_equiv, tied_itself}
+use Rattle.std.proofs.lemmas.Bool.{cases_Bool}
+use Rattle.std.proofs.lemmas.Map.Entries.{lookup_head, lookup_tail, none_past_head}
+use Rattle.std.proofs.lemmas.Map.Lookups.{CmpEqualImpliesEq}
+use Rattle.pfair_lattice.specs.Order.{IsJoin, OptionJoins, OptionPartly, IsOrder, OptionBelow, OptionOutgrows}
+use Rattle.pfair_lattice.specs.Entries.{IsOrdered, get, MapJoins, MapPartly, MapBelow, MapOutgrows, covers, entries_from_get}
+use Rattle.std.specs.Map.{keys_of}
 use Rattle.std.proofs.lemmas.Map.{lookup-none}
 use Rattle.std.proofs.lemmas.Map.Keys.{sorted_tail, IsDistinct-from_sorted}
-use Rattle.std.proofs.lemmas.Map.Entries.{none_past_head}
-use Rattle.std.proofs.lemmas.Map.Lookups.{CmpEqualImpliesEq}
-use Rattle.pfair_lattice.specs.Order.{IsOrder, IsJoin, OptionBelow, OptionJoins, OptionOutgrows}
-use Rattle.pfair_lattice.specs.Entries.{IsOrdered, get, MapBelow, MapJoins, MapOutgrows, covers, entries_from_get}
-use Rattle.pfair_lattice.proofs.AtKey.{by_key, head_at, tail_at}
+
+-- One pair joined into a map.
+
+-- at the key k, and at each other
+pub by_key : {K : Type 0} {cmp : K → K → Ordering} → CmpEqualImpliesEq cmp → (P : K → Type 0) (k q : K) → P k → (eq_by_cmp cmp k q ≡ false → P q) → P q
+by_key {cmp = cmp} x P k q here apart = ⊎_elim (λ e. subst P (x k q ((Equal-is (cmp k q)).0 e)) here) apart (cases_Bool (eq_by_cmp cmp k q))
+
+pub keeps : {X : Type 0} (joins : X → X → X → Type 0) (a : Option X) → OptionJoins joins a None a
+keeps joins a = grind arith
+
+ordered_one : {K X : Type 0} (cmp : K → K → Ordering) (k : K) (v : X) → IsOrdered cmp ((k, v) ∷ [])
+unfolding IsStrictlySortedBy
+ordered_one cmp k v = (tt, tt)
+
+module _ {K X : Type 0} {cmp : K → K → Ordering} (o : IsTotalOrder cmp) where
+  pub head_at : (k : K) (v : X) (es : List (K × X)) → get cmp ((k, v) ∷ es) k ≡ Some v
+  head_at k v es = lookup_head (is_at (cmp k)) (k, v) es (ap is_eq (tied_itself o k))
+
+  pub tail_at : (k q : K) (v : X) (es : List (K × X)) → eq_by_cmp cmp k q ≡ false → get cmp ((k, v) ∷ es) q ≡ get cmp es q
+  tail_at k q v es h = lookup_tail (is_at (cmp q)) (k, v) es ((eq_by_cmp_equiv o).symm q k ∙ h)
+
+  module _ (x : CmpEqualImpliesEq cmp) {below : X → X → Type 0} {joins : X → X → X → Type 0} (l : IsJoin below joins) where
+    pub joins_put : (es gs : List (K × X)) (k : K) (v : X) → IsOrdered cmp es → IsOrdered cmp gs → OptionJoins joins (get cmp es k) (Some v) (get cmp gs k)
+        → ((q : K) → eq_by_cmp cmp k q ≡ false → get cmp gs q ≡ get cmp es q) → MapJoins cmp joins es ((k, v) ∷ []) gs
+    joins_put es gs k v p r here apart = record {
+      ordered_first = p;
+      ordered_second = ordered_one cmp k v;
+      ordered = r;
+      each = λ q. by_key x (λ q'. OptionJoins joins (get cmp es q') (get cmp ((k, v) ∷ []) q') (get cmp gs q')) k q
+          (subst (λ (b : Option X). OptionJoins joins (get cmp es k) b (get cmp gs k)) (sym (head_at k v [])) here)
+          (λ h. subst (λ (b : Option X). OptionJoins joins (get cmp es q) b (get cmp gs q)) (sym (tail_at k q v [] h)) (subst (λ (c : Option X). OptionJoins joins (get cmp es q) None c) (sym (apart q h)) (keeps joins (get cmp es q))));
+    }
+
+    pub partly_put : {partly : X → X → X → Type 0} (es gs : List (K × X)) (k : K) (v : X) → IsOrdered cmp es → IsOrdered cmp gs → OptionPartly joins partly (get cmp es k) (Some v) (get cmp gs k)
+        → ((q : K) → eq_by_cmp cmp k q ≡ false → get cmp gs q ≡ get cmp es q) → MapPartly cmp joins partly es ((k, v) ∷ []) gs
+    partly_put {partly} es gs k v p r here apart = record {
+      ordered_first = p;
+      ordered_second = ordered_one cmp k v;
+      ordered = r;
+      each = λ q. by_key x (λ q'. OptionPartly joins partly (get cmp es q') (get cmp ((k, v) ∷ []) q') (get cmp gs q')) k q
+          (subst (λ (b : Option X). OptionPartly joins partly (get cmp es k) b (get cmp gs k)) (sym (head_at k v [])) here)
+          (λ h. inl (apart q h));
+    }
+
+    -- nothing changed
+    pub partly_unchanged : {partly : X → X → X → Type 0} (es gs : List (K × X)) (k : K) (v : X) → IsOrdered cmp es → gs ≡ es → MapPartly cmp joins partly es ((k, v) ∷ []) gs
+    partly_unchanged {partly} es gs k v p e = subst (λ (hs : List (K × X)). MapPartly cmp joins partly es ((k, v) ∷ []) hs) (sym e)
+        (record { ordered_first = p; ordered_second = ordered_one cmp k v; ordered = p; each = λ q. inl refl })
+
+-- at a key that the map lacks
+pub absent : {X : Type 0} (joins : X → X → X → Type 0) (a c : Option X) (v : X) → a ≡ None → c ≡ Some v → OptionJoins joins a (Some v) c
+absent {X} joins a c v p q = subst (λ (a' : Option X). OptionJoins joins a' (Some v) c) (sym p) q
+
+-- at a key that it has
+pub present : {X : Type 0} (joins : X → X → X → Type 0) (a c : Option X) (u v w : X) → a ≡ Some u → c ≡ Some w → joins u v w → OptionJoins joins a (Some v) c
+present {X} joins a c u v w p q j = subst (λ (a' : Option X). OptionJoins joins a' (Some v) c) (sym p) (subst (λ (c' : Option X). OptionJoins joins (Some u) (Some v) c') (sym q) j)
+
+-- a value there that is partly joined
+pub present_partly : {X : Type 0} (joins partly : X → X → X → Type 0) (a c : Option X) (u v w : X) → a ≡ Some u → c ≡ Some w → partly u v w → OptionPartly joins partly a (Some v) c
+present_partly {X} joins partly a c u v w p q j = grind arith
 
 -- at a key: joined, or still to come, and then as it was
 abbrev pub JoinedSoFar : {X : Type 0} → (X → X → X → Type 0) → Option X → Option X → Option X → Option X → Type 0

@@ -73,7 +73,7 @@ pub fn first_keys_rise()
 {}
 
 /// No two of the first m keys have one name, if no two of the keys have one.
-#[tactic(auto, using(crate::proofs::NamesApart::first_names))]
+#[tactic(auto, using(crate::proofs::InOrder::first_names))]
 pub fn first_keys_have_different_names()
     ensures { (m : ℕ) (keys : List Key) → NamesApart (λ k. k.name) keys →
         NamesApart (λ k. k.name) (first_by_rank pd2_cmp m keys) }

@@ -1,7 +1,6 @@
 -- The first torn key, as a replica keeps it.
 use Rattle.pfair_replica.proofs.Common.{option_map, Torn, EntryKey, Contents, Replica, IsReplica, is_torn, entry_key, numbers_below, numbers_to, torn_in, torn_keys, ComesFirst, IsFirst, IsTornAt, IsFirstTornIn, IsEarlier, ℕ, zero, suc, ◌+◌, ◌-◌, ◌≤◌, ◌≡◌, refl, sym, ap, ◌∙◌, subst, arith, inl, inr, ⊎_elim, true, [], Option, Some, None, ◌⊎◌, find, flat_map, slice_get, IsSomeAnd}
-use Rattle.pfair_replica.proofs.Listing.{find_none, find_first}
-use Rattle.pfair_replica.proofs.TornKeys.{torn_first, flat_none, flat_first, not_torn, no_key_no_torn, test_by_untorn}
+use Rattle.pfair_replica.proofs.TornKeys.{find_none, find_first, torn_first, flat_none, flat_first, not_torn, no_key_no_torn, test_by_untorn}
 
 -- ---- the first of some keys
 

@@ -1,8 +1,19 @@
--- Rows joined, and what stays true of what they hold.
-use Rattle.std.proofs.Common.{OnOk}
-use Rattle.pfair_replica.proofs.Common.{nat_cmp, option_and_then, eqb-true, get, MapJoins, MapPartly, Held, held_join, HeldBelow, Flat, One, joins_held, below_itself, join_first, join_assoc, join_idem, Logged, IsEntry, entry_eq, entry_exact, Contents, Replica, IsReplica, only, Row, held_in, IsFull, IsReplicaRows, ◌≡◌, inr, ⊎_elim, arith, ◌⊎◌, ◌<◌, ◌≤◌, ℕ, Option, Some, List, Result, OnErr, FlatJoins, join_none}
-use Rattle.pfair_lattice.specs.Order.{OptionJoins, OptionPartly}
+-- Rows of entries: written, joined, and compared.
+use Rattle.std.proofs.Common.{OnOk, ◌&&◌, nat_lt, nat_le, if◌then◌else◌, IsTrue, nat_eq}
+use Rattle.pfair_replica.proofs.Common.{nat_cmp, option_and_then, eqb-true, get, MapJoins, MapPartly, Held, held_join, HeldBelow, Flat, One, joins_held, below_itself, join_first, join_assoc, join_idem, Logged, IsEntry, entry_eq, entry_exact, Contents, Replica, IsReplica, only, Row, held_in, IsFull, IsReplicaRows, ◌≡◌, inr, ⊎_elim, arith, ◌⊎◌, ◌<◌, ◌≤◌, ℕ, Option, Some, List, Result, OnErr, FlatJoins, join_none, ltb-true, leb-true, and_parts, Below, contents_join, join, with_entry, OfferedStays, refl, subst, sym, Bool, true, false, cond, ◌==◌, common_steps, eq_by_cmp, cases_Bool, cases_eq, eq-eqb, ne_eqb, none-some, IsOrdered, ◌∙◌, ap, ◌≢◌, None, [], ◌∷◌, IsSome, is_at, nat_cmp_total, exact_unsigned, cases_lt, IsKnownByHeld, IsSomeAnd, IsShape, AreEmptyRows, is_eq, MapBelow, MapOutgrows, none_below, below_held, held_below, inl, ◌↔◌, length}
+use Rattle.pfair_lattice.specs.Order.{OptionJoins, OptionPartly, OptionOutgrows}
 use Rattle.pfair_replica.specs.Faults.{IsPartlyMerged}
+use Rattle.pfair_replica.specs.Replica.{has_key, has_shape, taken, absorbed}
+use Rattle.std.specs.Map.{set_value}
+use Rattle.std.specs.Cmp.{Equal-is, eq_by_cmp_equiv, tied_itself}
+use Rattle.std.proofs.lemmas.Map.{lookup-set_value, keys-set_value}
+use Rattle.std.proofs.lemmas.Map.Steps.{set_value_same}
+use Rattle.pfair_lattice.specs.Entries.{same_entries}
+use Rattle.std.specs.List.Sorted.{IsStrictlySortedBy}
+use Rattle.std.proofs.lemmas.Map.Entries.{lookup_head}
+use Rattle.pfair_lattice.specs.Held.{FlatBelow}
+
+-- Rows joined, and what stays true of what they hold.
 
 abbrev in_row : Option Row → ℕ → Held Logged
 in_row r n = option_and_then (λ row. get nat_cmp row n) r
@@ -123,3 +134,174 @@ either_held r a b z joined partly k n = grind (arith, joined_held, between_held)
 
 pub on_err_here : {A E P : Type 0} (r : Result A E) → P → OnErr r P
 on_err_here r p = grind arith
+
+-- The contents after an entry or a replica was offered.
+
+above : (x z : Replica) → Below x z → (b : Bool) → Below x (cond b z x)
+above x z h b = grind (arith, below_itself)
+
+shape : (x z : Replica) → z.processors ≡ x.processors → z.capacity ≡ x.capacity → (b : Bool) → ((cond b z x).processors ≡ x.processors) × ((cond b z x).capacity ≡ x.capacity)
+shape x z p c b = grind arith
+
+taken_replica : (x : Replica) (k n : ℕ) (e : Logged) → IsReplica x → IsEntry e → IsReplica (taken x k n e)
+taken_replica x j m e r good = by (has_key x j m) refl
+  where
+    by : (b : Bool) → has_key x j m ≡ b → IsReplica (cond b (with_entry x j m e) x)
+    by true p =
+        (let q = and_parts (nat_lt j x.processors) (nat_lt 0 m && nat_le m x.capacity) p in
+        let s = and_parts (nat_lt 0 m) (nat_le m x.capacity) q.1 in
+        replica_taken x j m e (contents_join x.at (only j m e)) r good (ltb-true j x.processors q.0) (ltb-true 0 m s.0) (leb-true m x.capacity s.1) (λ k n. refl))
+    by false p = r
+
+absorbed_replica : (x y : Replica) → IsReplica x → IsReplica y → IsReplica (absorbed x y)
+absorbed_replica x y r s = by (has_shape x y) refl
+  where
+    by : (b : Bool) → has_shape x y ≡ b → IsReplica (cond b (join x y) x)
+    by true p =
+        (let q = and_parts (x.processors == y.processors) (x.capacity == y.capacity) p in
+        let ep = eqb-true x.processors y.processors q.0 in
+        let ec = eqb-true x.capacity y.capacity q.1 in
+        let other : IsReplica (record { processors = x.processors; capacity = x.capacity; at = y.at }) =
+        subst (λ m. IsReplica (record { processors = m; capacity = x.capacity; at = y.at })) (sym ep) (subst (λ c. IsReplica (record { processors = y.processors; capacity = c; at = y.at })) (sym ec) s) in
+        replica_between x.processors x.capacity x.at y.at (contents_join x.at y.at) r other (λ k n. inr refl))
+    by false p = r
+
+pub offered_stays : OfferedStays
+offered_stays = grind (arith, above, join_first, entry_exact, shape, taken_replica, absorbed_replica)
+
+-- Rows of entries, one of them changed.
+
+pub apart : (p q : ℕ) → q ≢ p → eq_by_cmp nat_cmp p q ≡ false
+apart p q ne = ⊎_elim (λ e. absurd (ne (sym (exact_unsigned p q ((Equal-is (nat_cmp p q)).0 e))))) (λ f. f) (cases_Bool (eq_by_cmp nat_cmp p q))
+
+module _ {X : Type 0} where
+  at_set : (es : List (ℕ × X)) (p q : ℕ) (w : X) → IsSome (get nat_cmp es p) → get nat_cmp (set_value (is_at (nat_cmp p)) es w) q ≡ cond (eq_by_cmp nat_cmp p q) (Some w) (get nat_cmp es q)
+  at_set es p q w h = let laws = eq_by_cmp_equiv nat_cmp_total in lookup-set_value laws (is_at (nat_cmp p)) (λ x y e. laws.congr p x y e) q w es h
+
+  get_set : (es : List (ℕ × X)) (p : ℕ) (w : X) → IsSome (get nat_cmp es p) → get nat_cmp (set_value (is_at (nat_cmp p)) es w) p ≡ Some w
+  get_set es p w h = at_set es p p w h ∙ ap (λ b. cond b (Some w) (get nat_cmp es p)) ((eq_by_cmp_equiv nat_cmp_total).refl p)
+
+pub none_if : {X : Type 0} (o : Option X) → (IsSome o → ⊥) → o ≡ None
+none_if o h = grind arith
+
+pub on_err_both : {A E P Q R : Type 0} (r : Result A E) → (P → Q → R) → OnErr r P → OnErr r Q → OnErr r R
+on_err_both r f p q = grind arith
+
+module _ (rows : List (ℕ × Row)) (p : ℕ) (row after : Row) (was : get nat_cmp rows p ≡ Some row) where
+  there : IsSome (get nat_cmp rows p)
+  there = subst IsSome (sym was) refl
+
+  pub set_same : after ≡ row → set_value (is_at (nat_cmp p)) rows after ≡ rows
+  set_same e = set_value_same (is_at (nat_cmp p)) rows after (was ∙ ap Some (sym e))
+
+  module _ (m : ℕ) (e : Logged) (j : MapJoins nat_cmp FlatJoins row ((m, One e) ∷ []) after) where
+    one_joined : (n : ℕ) → get nat_cmp after n ≡ held_join entry_eq (get nat_cmp row n) (if n == m then Some (One e) else None)
+    one_joined n = grind (arith, joins_held, entry_exact)
+
+    own_row : (n : ℕ) → held_in (set_value (is_at (nat_cmp p)) rows after) p n ≡ held_join entry_eq (held_in rows p n) (only p m e p n)
+    own_row n = grind (arith, one_joined, eq-eqb, get_set, there)
+
+    -- an entry joined into one row
+    pub put_held : (k n : ℕ) → held_in (set_value (is_at (nat_cmp p)) rows after) k n ≡ held_join entry_eq (held_in rows k n) (only p m e k n)
+    put_held k n = grind (arith, own_row, ne_eqb, join_none, cases_eq, common_steps, there, at_set, apart)
+
+-- rows that are all there stay so
+pub full_set : (m p : ℕ) (rows : List (ℕ × Row)) (row after : Row) → get nat_cmp rows p ≡ Some row → IsOrdered nat_cmp after → IsFull m rows → IsFull m (set_value (is_at (nat_cmp p)) rows after)
+full_set m p rows row after was s f = grind (arith, at_set, keys-set_value, there, none-some, exact_unsigned)
+
+-- Rows that hold the same are the same rows.
+
+same_row : (a b : Option Row) → IsSomeAnd a (IsOrdered nat_cmp) → IsSomeAnd b (IsOrdered nat_cmp)
+    → ((n : ℕ) → option_and_then (λ (r : Row). get nat_cmp r n) a ≡ option_and_then (λ (r : Row). get nat_cmp r n) b) → a ≡ b
+same_row None b p q h = absurd p
+same_row (Some v) None p q h = absurd q
+same_row (Some v) (Some w) p q h = ap Some (same_entries nat_cmp_total exact_unsigned v w p q h)
+
+pub same_rows : (m : ℕ) (a b : List (ℕ × Row)) → IsFull m a → IsFull m b → ((k n : ℕ) → held_in a k n ≡ held_in b k n) → a ≡ b
+same_rows m a b f g h =
+    same_entries nat_cmp_total exact_unsigned a b f.ordered g.ordered (λ k. ⊎_elim
+    (λ i. same_row (get nat_cmp a k) (get nat_cmp b k) (f.there k i) (g.there k i) (h k))
+    (λ o. f.beyond k o ∙ sym (g.beyond k o))
+    (cases_lt k m))
+
+pub known_by_held : IsKnownByHeld
+known_by_held x y h g e =
+    let m : x.processors ≡ y.processors = ap (λ r. r.processors) e in
+    let c : x.capacity ≡ y.capacity = ap (λ r. r.capacity) e in
+    let rows : x.rows ≡ y.rows = same_rows x.processors x.rows y.rows h.full (subst (λ (q : ℕ). IsFull q y.rows) (sym m) g.full) (λ k n. ap (λ r. r.at k n) e) in
+    λ i. record { processors = m i; capacity = c i; rows = rows i }
+
+-- Rows that hold nothing.
+
+sorted_nothing : IsSomeAnd {T = Row} (Some []) (IsOrdered nat_cmp)
+unfolding IsStrictlySortedBy
+sorted_nothing = tt
+
+module _ (m c : ℕ) (rows : List (ℕ × Row)) (e : AreEmptyRows m rows) where
+  pub holds_nothing : (k n : ℕ) → held_in rows k n ≡ None
+  holds_nothing k n = grind arith
+
+  pub replica_rows_empty : IsShape m c → IsReplicaRows (record { processors = m; capacity = c; rows = rows })
+  replica_rows_empty s = grind (arith, sorted_nothing, holds_nothing)
+
+-- Rows compared, read cell by cell.
+
+module _ (v w : Row) where
+  pub row_below : MapBelow nat_cmp FlatBelow v w → (n : ℕ) → HeldBelow (get nat_cmp v n) (get nat_cmp w n)
+  row_below h n = ⊎_elim
+      (λ e. subst (λ (u : Row). HeldBelow (get nat_cmp v n) (get nat_cmp u n)) e (below_itself (get nat_cmp v n)))
+      (λ c. below_held (get nat_cmp v n) (get nat_cmp w n) (c.each n))
+      h
+
+  pub below_row : IsOrdered nat_cmp v → IsOrdered nat_cmp w → ((n : ℕ) → HeldBelow (get nat_cmp v n) (get nat_cmp w n)) → MapBelow nat_cmp FlatBelow v w
+  below_row s t h = inr (record { ordered_first = s; ordered_second = t; each = λ n. held_below (get nat_cmp v n) (get nat_cmp w n) (h n) })
+
+not_none : (c : Flat Logged) (o : Held Logged) → o ≡ Some c → HeldBelow o None → ⊥
+not_none c o e h = elim (h c e) [ inl k ↦ absurd (cc) | inr k ↦ absurd (cc) ]
+
+-- only the empty row is below one that isn't there
+pub nothing_below : (v : Row) → ((n : ℕ) → HeldBelow (get nat_cmp v n) None) → length v ≡ 0
+nothing_below [] h = refl
+nothing_below (x ∷ xs) h = absurd (not_none x.1 (get nat_cmp (x ∷ xs) x.0) (lookup_head (is_at (nat_cmp x.0)) x xs (ap is_eq (tied_itself nat_cmp_total x.0))) (h x.0))
+
+pub empty_below : (v : Row) → length v ≡ 0 → (n : ℕ) → HeldBelow (get nat_cmp v n) None
+empty_below v e n = grind (arith, none_below, common_steps)
+
+pub below_as : (x x' y y' : Held Logged) → x' ≡ x → y' ≡ y → HeldBelow x y → HeldBelow x' y'
+below_as x x' y y' e f h = subst (λ (u : Held Logged). HeldBelow u y') (sym e) (subst (HeldBelow x) (sym f) h)
+
+-- what a row holds, by the rows
+at_row : (rows : List (ℕ × Row)) (p : ℕ) (o : Option Row) → get nat_cmp rows p ≡ o → (n : ℕ) → held_in rows p n ≡ option_and_then (λ (r : Row). get nat_cmp r n) o
+at_row rows p o e n = ap (option_and_then (λ (r : Row). get nat_cmp r n)) e
+
+module _ (a b : List (ℕ × Row)) (p : ℕ) (v : Row) (ea : get nat_cmp a p ≡ Some v) where
+  pub rows_both : (w : Row) → get nat_cmp b p ≡ Some w → IsOrdered nat_cmp v → IsOrdered nat_cmp w → (r : Bool) → (IsTrue r ↔ MapBelow nat_cmp FlatBelow v w)
+      → (IsTrue r ↔ ((n : ℕ) → HeldBelow (held_in a p n) (held_in b p n)))
+  rows_both w eb s t r h = (
+    λ i n. below_as (get nat_cmp v n) (held_in a p n) (get nat_cmp w n) (held_in b p n) (at_row a p (Some v) ea n) (at_row b p (Some w) eb n) (row_below v w (h.0 i) n),
+    λ q. h.1 (below_row v w s t (λ n. below_as (held_in a p n) (get nat_cmp v n) (held_in b p n) (get nat_cmp w n) (sym (at_row a p (Some v) ea n)) (sym (at_row b p (Some w) eb n)) (q n))),
+  )
+
+  pub rows_first : get nat_cmp b p ≡ None → (l : ℕ) → l ≡ length v → (IsTrue (nat_eq l 0) ↔ ((n : ℕ) → HeldBelow (held_in a p n) (held_in b p n)))
+  rows_first eb l e = (
+    λ i n. below_as (get nat_cmp v n) (held_in a p n) None (held_in b p n) (at_row a p (Some v) ea n) (at_row b p None eb n) (empty_below v (sym e ∙ eqb-true l 0 i) n),
+    λ q. eq-eqb l 0 (e ∙ nothing_below v (λ n. below_as (held_in a p n) (get nat_cmp v n) (held_in b p n) None (sym (at_row a p (Some v) ea n)) (sym (at_row b p None eb n)) (q n))),
+  )
+
+-- ---- all rows of two replicas of one shape
+
+-- if the second row has something for which the first has no place, it holds a key at which the first holds nothing
+cell_outgrown : (a b : Held Logged) → OptionOutgrows (λ _ _. ⊥) a b → (a ≡ None) × (b ≢ None)
+cell_outgrown a b h = grind arith
+
+pub rows_outgrown : (m m' : ℕ) (a b : List (ℕ × Row)) → m ≡ m' → IsFull m a → IsFull m' b → MapOutgrows nat_cmp (MapOutgrows nat_cmp (λ _ _. ⊥)) a b
+    → (k : ℕ) × (n : ℕ) × (held_in a k n ≡ None) × (held_in b k n ≢ None)
+rows_outgrown m m' a b same f g (k, more) = by (get nat_cmp a k) (get nat_cmp b k) refl refl more
+  where
+    by : (u v : Option Row) → get nat_cmp a k ≡ u → get nat_cmp b k ≡ v → OptionOutgrows (MapOutgrows nat_cmp (λ _ _. ⊥)) u v → (k : ℕ) × (n : ℕ) × (held_in a k n ≡ None) × (held_in b k n ≢ None)
+    by None None p q h = absurd h
+    by (Some u) None p q h = absurd h
+    by None (Some v) p q h = grind (arith, nat_cmp, cases_lt)
+    by (Some u) (Some v) p q (n, h) =
+        (let cell = cell_outgrown (get nat_cmp u n) (get nat_cmp v n) h in
+        (k, n, at_row a k (Some u) p n ∙ cell.0, λ none. cell.1 (sym (at_row b k (Some v) q n) ∙ none)))

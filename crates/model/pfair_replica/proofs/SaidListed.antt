@@ -1,9 +1,61 @@
 -- What the lists of what is said contain, and in which order the lists stand.
-use Rattle.std.proofs.Common.{get_or, AllPairs}
-use Rattle.pfair_replica.proofs.Common.{eqb-true, eq-eqb, map-append, Held, Logged, EntryKey, Replica, sound_beginning, numbers_below, numbers_to, said_by, said_in, said, is_torn, entry_key, torn_in, torn_keys, fallen_at, fallen_in, fallen_keys, mark, Among, among_left, among_right, among_append, among_at, among_contains, contains_among, among_filter, among_map, among_flat, flat_among, below_among, among_below, ℕ, zero, suc, ◌+◌, ◌≡◌, refl, ap, ◌∙◌, subst, arith, inr, ⊎_elim, Bool, List, [], ◌∷◌, ◌++◌, length, Some, map, filter, flat_map, slice_get, Option, Contains, Announcement, Said}
+use Rattle.pfair_replica.proofs.Common.{true≢false, ltb-true, lt-ltb, One, Torn, Held, Logged, EntryKey, Replica, IsReplica, sound_beginning, mark, is_torn, entry_key, numbers_below, numbers_to, torn_in, torn_keys, fallen_at, fallen_in, fallen_keys, IsListed, Among, among_contains, contains_among, among_filter, filter_among, among_map, map_among, among_flat, flat_among, below_among, ℕ, zero, suc, ◌+◌, ◌<◌, ◌≤◌, ◌≡◌, refl, sym, ap, subst, arith, inl, true, cond, [], ◌∷◌, length, Some, filter, Contains, eqb-true, eq-eqb, map-append, said_by, said_in, said, among_left, among_right, among_append, among_at, among_below, ◌∙◌, inr, ⊎_elim, Bool, List, ◌++◌, map, flat_map, slice_get, Option, Announcement, Said, append-nil, drop_all, drop_more, slice_get_within, get_or_from_slice_get, said_behind, None, append_assoc, ◌≢◌, IsSome}
+use Rattle.std.proofs.Common.{get_or, AllPairs, drop}
 use Rattle.pfair_replica.specs.Replica.{IsSaidAt, ComesBefore, key_of, IsSaid}
 use Rattle.pfair_replica.proofs.TornKeys.{flat_more}
-use Rattle.pfair_replica.proofs.Listed.{fallen_one}
+
+-- What the lists of torn and of fallen keys contain.
+
+-- ---- torn keys
+
+torn_true : (c : Held Logged) → is_torn c ≡ true → c ≡ Some Torn
+torn_true c e = grind (arith, true≢false)
+
+number_to : (m n : ℕ) → 1 ≤ n → n ≤ m → Among (numbers_to m) n
+number_to m zero low high = absurd (omega (arith, low))
+number_to m (suc b) low high = map_among suc (numbers_below m) b (below_among m b (omega (arith, high)))
+
+module _ (x : Replica) where
+  torn_from : (k n : ℕ) → Contains (torn_keys x) (entry_key k n) → x.at k n ≡ Some Torn
+  torn_from k n h =
+      let row = among_flat (torn_in x) (numbers_below x.processors) (entry_key k n) (contains_among (torn_keys x) (entry_key k n) h) in
+      grind (arith, among_map, torn_true, among_filter)
+
+  torn_to_list : IsReplica x → (k n : ℕ) → x.at k n ≡ Some Torn → Contains (torn_keys x) (entry_key k n)
+  torn_to_list r k n torn =
+      let range = r.in_range k n Torn torn in
+      let low = range.1 in
+      among_contains (torn_keys x) (entry_key k n)
+      (flat_among (torn_in x) (numbers_below x.processors) (entry_key k n) k (below_among x.processors k range.0)
+      (map_among (entry_key k) (filter (λ i. is_torn (x.at k i)) (numbers_to x.capacity)) n
+      (filter_among (λ i. is_torn (x.at k i)) (numbers_to x.capacity) n (number_to x.capacity n (omega (arith, low)) range.2) (ap is_torn torn))))
+
+-- ---- fallen keys
+
+pub fallen_one : (j i mark : ℕ) (c : Held Logged) (v : EntryKey) → Among (fallen_at j i mark c) v → (v ≡ entry_key j i) × ((e : Logged) × (c ≡ Some (One e)) × (e.floor < mark))
+fallen_one j i mark c v h = grind (arith, ltb-true)
+
+fallen_here : (j i mark : ℕ) (e : Logged) → e.floor < mark → Among (fallen_at j i mark (Some (One e))) (entry_key j i)
+fallen_here j i mark e lower = subst (λ b. Among (cond b (entry_key j i ∷ []) []) (entry_key j i)) (sym (lt-ltb e.floor mark lower)) (inl refl)
+
+module _ (x : Replica) where
+  fallen_from : (k n : ℕ) → Contains (fallen_keys x) (entry_key k n) → (n ≡ length (sound_beginning x k) + 1) × ((e : Logged) × (x.at k n ≡ Some (One e)) × (e.floor < mark x k))
+  fallen_from k n h =
+      let row = among_flat (fallen_in x) (numbers_below x.processors) (entry_key k n) (contains_among (fallen_keys x) (entry_key k n) h) in
+      grind (arith, fallen_one)
+
+  fallen_to_list : IsReplica x → (k n : ℕ) → (n ≡ length (sound_beginning x k) + 1) × ((e : Logged) × (x.at k n ≡ Some (One e)) × (e.floor < mark x k)) → Contains (fallen_keys x) (entry_key k n)
+  fallen_to_list r k n h =
+      let at = h.1 in
+      among_contains (fallen_keys x) (entry_key k n)
+      (flat_among (fallen_in x) (numbers_below x.processors) (entry_key k n) k (below_among x.processors k (r.in_range k n (One at.0) at.1).0)
+      (grind (arith, fallen_here)))
+
+pub listed : IsListed
+listed = record {
+  torn = λ x r k n. (torn_from x k n, torn_to_list x r k n);
+  fallen = λ x r k n. (fallen_from x k n, fallen_to_list x r k n);
+}
 
 -- ---- what one processor says
 
@@ -97,3 +149,36 @@ is_said = record {
   fallen_order = λ x. pairs (λ e. e) (fallen_keys x) (of_each (λ e. e) (fallen_in x) (fallen_own x)
       (λ k. fallen_alone k (length (sound_beginning x k) + 1) (mark x k) (x.at k (length (sound_beginning x k) + 1))) x.processors);
 }
+
+-- What is said in a sound beginning behind some of its entries.
+
+module _ (x : Replica) (k place : ℕ) where
+  -- the next entry says the first of it
+  behind_next : (t : ℕ) (e : Logged) → slice_get (sound_beginning x k) place ≡ Some e → said_behind x t k place ≡ said_by t k (place + 1) e.said ++ said_behind x t k (place + 1)
+  behind_next t e is =
+      let es = sound_beginning x k in
+      let next : suc (place + 1) ≡ place + 1 + 1 = omega arith in
+      ap (said_in t k (place + 1)) (drop_more es place e (slice_get_within es place e is))
+      ∙ (λ i. said_by t k (place + 1) (get_or_from_slice_get es place e e is i).said ++ said_in t k (next i) (drop (place + 1) es))
+
+  -- so if that is noted the rest is what is behind it
+  pub noted_next : (t : ℕ) (e : Logged) (all now then_now : List Said) → slice_get (sound_beginning x k) place ≡ Some e → then_now ≡ now ++ said_by t k (place + 1) e.said → now ++ said_behind x t k place ≡ all → then_now ++ said_behind x t k (place + 1) ≡ all
+  noted_next t e all now then_now is noted so_far = grind (arith, append_assoc, behind_next)
+
+  -- behind the last entry nothing is left
+  pub all_noted : (t : ℕ) (came all : List Said) → length (sound_beginning x k) ≤ place → came ++ said_behind x t k place ≡ all → came ≡ all
+  all_noted t came all past so_far = grind (arith, drop_all, append-nil)
+
+still_said : (k n from place : ℕ) (es : List Logged) (e : Logged) (s : ℕ × Announcement) → from ≤ place → slice_get es place ≡ Some e → e.said ≡ Some s → said_in s.0 k n (drop from es) ≢ []
+still_said k n zero place es e s le is says none = subst (λ (l : List Said). Among l (record { proc = k; number = n + place; announcement = s.1 })) none (said_to s.0 k n es place e s.1 is says)
+still_said k n (suc from) place [] e s le is says none = cc
+still_said k n (suc from) zero (d ∷ es) e s le is says none = omega arith
+still_said k n (suc from) (suc place) (d ∷ es) e s le is says none = still_said k n from place es e s (omega arith) is says none
+
+-- an entry behind them that says something
+pub some_behind : (x : Replica) (k from place : ℕ) (e : Logged) → from ≤ place → slice_get (sound_beginning x k) place ≡ Some e → IsSome e.said → (t : ℕ) × (said_behind x t k from ≢ [])
+some_behind x k from place e le is some = by e.said refl some
+  where
+    by : (o : Option (ℕ × Announcement)) → e.said ≡ o → IsSome o → (t : ℕ) × (said_behind x t k from ≢ [])
+    by None says none = absurd (cc)
+    by (Some s) says some = (s.0, still_said k (from + 1) from place (sound_beginning x k) e s le is says)

@@ -7,13 +7,13 @@ ghost use Rattle.pfair_replica.specs.Replica.{IsKnownByHeld, IsSaid};
 
 /// The order of replicas is an order, and a merge gives the least replica above both; so it is
 /// commutative, associative and idempotent.
-#[tactic(auto, using(crate::proofs::Runs::least_join))]
+#[tactic(auto, using(crate::proofs::Marks::least_join))]
 pub fn least_join()
     ensures { IsLeastJoin }
 {}
 
 /// Replicas of one shape that have the same content at every key are equal.
-#[tactic(auto, using(crate::proofs::SameRows::known_by_held))]
+#[tactic(auto, using(crate::proofs::Merging::known_by_held))]
 pub fn known_by_held()
     ensures { IsKnownByHeld }
 {}
@@ -27,7 +27,7 @@ pub fn held_after()
 
 /// Offering an entry or a replica, refused or not, removes nothing, changes no shape and leaves a
 /// replica.
-#[tactic(auto, using(crate::proofs::OfferedTo::offered_stays))]
+#[tactic(auto, using(crate::proofs::Merging::offered_stays))]
 pub fn offered_stays()
     ensures { OfferedStays }
 {}
@@ -49,20 +49,20 @@ pub fn longest_run()
 {}
 
 /// Entry n of a sound beginning is the entry that the replica has under number n.
-#[tactic(auto, using(crate::proofs::SoundEntries::read_by_number))]
+#[tactic(auto, using(crate::proofs::Marks::read_by_number))]
 pub fn read_by_number()
     ensures { IsReadByNumber }
 {}
 
 /// If a replica is above another and has nothing torn, its sound beginnings continue those of the
 /// other.
-#[tactic(auto, using(crate::proofs::SoundEntries::beginnings_grow))]
+#[tactic(auto, using(crate::proofs::Marks::beginnings_grow))]
 pub fn beginnings_grow()
     ensures { BeginningsGrow }
 {}
 
 /// The frontier is no greater than any mark, and it is one of them.
-#[tactic(auto, using(crate::proofs::LeastMark::least_mark))]
+#[tactic(auto, using(crate::proofs::Marks::least_mark))]
 pub fn least_mark()
     ensures { IsLeastMark }
 {}
@@ -86,7 +86,7 @@ pub fn torn_test()
 
 /// The torn keys are those whose content is torn, and the fallen ones those of an entry
 /// right after a sound beginning with a floor below the mark.
-#[tactic(auto, using(crate::proofs::Listed::listed))]
+#[tactic(auto, using(crate::proofs::SaidListed::listed))]
 pub fn listed()
     ensures { IsListed }
 {}

@@ -217,7 +217,7 @@ fn all_of(beginnings: &[Beginning]) -> (u64, u64)
 }
 
 // The whole sound beginning of a row, from a part of it on.
-#[tactic(auto, using(crate::proofs::Beginnings::part_more))]
+#[tactic(auto, using(crate::proofs::Following::part_more))]
 fn carried_on(rows: &Rows, capacity: u32, processor: u8, part: Beginning) -> Beginning
     requires part { IsPart (held_in rows.now processor) part }
     requires room { part.count ≤ capacity }
@@ -240,7 +240,7 @@ fn carried_on(rows: &Rows, capacity: u32, processor: u8, part: Beginning) -> Beg
 
 // The part of a sound beginning that is left after something came at one key: all of it, or what
 // comes before the key if that is torn in it.
-#[tactic(auto, using(crate::proofs::Beginnings::part_to_entry, crate::proofs::Beginnings::part_to_none))]
+#[tactic(auto, using(crate::proofs::Following::part_to_entry, crate::proofs::Following::part_to_none))]
 fn part_left(rows: &Rows, processor: u8, number: u32, before: Beginning) -> Beginning
     requires { IsLeftAt (held_in rows.now processor) number before }
     ensures part { IsPart (held_in rows.now processor) result }

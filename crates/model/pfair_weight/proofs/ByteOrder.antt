@@ -6,8 +6,7 @@ use Rattle.std.specs.declared.cmp.Ordering.TheVariants.{Greater}
 use Rattle.std.proofs.lemmas.Cmp.{ranked}
 use Rattle.std.proofs.lemmas.List.{length-replicate}
 use Rattle.pfair_weight.specs.Name.{number_of, name_of, IsNumber}
-use Rattle.pfair_weight.proofs.Length.{first_apart}
-use Rattle.pfair_weight.proofs.Padding.{AreBytes, name_bytes, read_back, zeros_order}
+use Rattle.pfair_weight.proofs.Length.{first_apart, AreBytes, name_bytes, read_back, zeros_order}
 
 -- each of these is a byte
 abbrev Small : List ℕ → Type 0

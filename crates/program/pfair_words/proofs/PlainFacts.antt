@@ -1,13 +1,36 @@
 -- What is answered to the forms of the commands.
-use Rattle.std.proofs.Common.{◌↔◌, ◌≤◌}
-use Rattle.pfair_words.proofs.Common.{IsAmong, Row, Text, fault_of, first_of, subcommand_of, IsFlag, Named, Spells, line, windows, replay, decisions, lags, AskNumbers, HasCount, IsDecisionsAnswer, IsLagsAnswer, IsPlain, IsPlainAnswer, IsRefusal, IsReplayAnswer, IsTextAnswer, IsWindowsAnswer, ProgramFault, Weight, CommandLine, Memory, ◌≡◌, ℕ, Bool, inl, inr, true, false, refl, ap, subst, ◌∙◌, arith, List, [], ◌∷◌, Option, Some, IfOk, Result, Ok, Err, codes, one_of, ErrorKind, DisplayHelp, DisplayVersion, accepts, IsAnswer, IsAnswerTo, IsAnswerToAny, IsText, Asked}
+use Rattle.std.proofs.Common.{IsErrAnd, ◌↔◌, ◌≤◌}
+use Rattle.pfair_words.proofs.Common.{App, Text, subcommand_rows_of, IsParsed, Named, Help, Matches, ProgramFault, CommandLine, Memory, ◌≡◌, subst, sym, inl, inr, List, Result, Ok, Err, IsAmong, Row, fault_of, first_of, subcommand_of, IsFlag, Spells, line, windows, replay, decisions, lags, AskNumbers, HasCount, IsDecisionsAnswer, IsLagsAnswer, IsPlain, IsPlainAnswer, IsRefusal, IsReplayAnswer, IsTextAnswer, IsWindowsAnswer, Weight, ℕ, Bool, true, false, refl, ap, ◌∙◌, arith, [], ◌∷◌, Option, Some, IfOk, codes, one_of, ErrorKind, DisplayHelp, DisplayVersion, accepts, IsAnswer, IsAnswerTo, IsAnswerToAny, IsText, Asked}
+use Rattle.pfair_words.specs.Parse.{ToAny, ToWords, ToUntaken, IsTextKind}
+use Rattle.pfair_words.specs.declared.command.Parsed.{Parsed}
 use Rattle.clap.specs.declared.builder.value_parser.ValueParser.TheVariants.{Unsigned}
 use Rattle.clap.proofs.ValueTestLemmas.{Accepts-accepts}
-use Rattle.pfair_words.specs.Parse.{ToUntaken, IsTextKind}
 use Rattle.pfair_words.specs.ScheduleAsked.{AskWindows}
 use Rattle.pfair_words.specs.declared.schedule.Asked.TheVariants.{Windows}
-use Rattle.pfair_words.proofs.FirstWord.{first_answer}
+use Rattle.pfair_words.proofs.LineFacts.{first_answer}
 use Rattle.pfair_words.proofs.LineFacts as line
+
+-- What the parser makes of the words of a program gives what is answered.
+
+module _ {A : Type 0} (line app : App) (to_command : Named → Result A ProgramFault → Type 0) (is_text : A → Type 0) (words : List Text) (e : app ≡ line) where
+  parsed : (p q : Result Parsed ProgramFault) → IsParsed app words p → p ≡ q → IsParsed line words q
+  parsed p q is same = subst (λ a. IsParsed a words q) e (subst (IsParsed app words) same is)
+
+  pub taken : (p : Result Parsed ProgramFault) (m : _) → IsParsed app words p → p ≡ Ok (Matches m) → (r : Result A ProgramFault) → ToAny line to_command is_text (subcommand_rows_of m) r → ToWords line to_command is_text words r
+  taken p m is at (Err Memory) h = tt
+  taken p m is at r h = let took = parsed p (Ok (Matches m)) is at in inl (took.0, subst (λ n. ToAny line to_command is_text n r) took.1 h)
+
+  pub text : (p : Result Parsed ProgramFault) (t : _) → IsParsed app words p → p ≡ Ok (Help t) → (asked : A) → is_text asked → ToWords line to_command is_text words (Ok asked)
+  text p t is at asked h = let told = parsed p (Ok (Help t)) is at in inr (told.0, told.1, (h, told.2))
+
+  pub refused : (p : Result Parsed ProgramFault) (fault : ProgramFault) → IsParsed app words p → p ≡ Err fault → (r : Result A ProgramFault) → IsErrAnd r (λ f. f ≡ fault) → ToWords line to_command is_text words r
+  refused p fault is at (Ok asked) own = absurd own
+  refused p fault is at (Err f) own = subst (λ f. ToWords line to_command is_text words (Err f)) (sym own) (by fault (parsed p (Err fault) is at))
+    where
+      by : (f : ProgramFault) → IsParsed line words (Err f) → ToWords line to_command is_text words (Err f)
+      by Memory h = tt
+      by CommandLine h = inr h
+      by _ h = absurd h
 
 abbrev Answer : Type 0
 Answer = Result Asked ProgramFault
@@ -43,8 +66,8 @@ module _ (e p n : Text) (he : IsPlain e) (hp : IsPlain p) (hn : IsPlain n) where
   asked a b c = let read = line.windows_read e p n he hp hn in grind (arith, read)
 
   -- numbers are taken
-  taken : (a b c : ℕ) → AskNumbers e p n a b c → fault_of line words ≡ []
-  taken a b c h =
+  numbers_taken : (a b c : ℕ) → AskNumbers e p n a b c → fault_of line words ≡ []
+  numbers_taken a b c h =
       let low = spelled e a 18446744073709551615 h.spells_cost (omega (arith, h.spells_cost.0.1, h.spells_cost.1)) in
       let mid = spelled p b 18446744073709551615 h.spells_period (omega (arith, h.spells_period.0.1, h.spells_period.1)) in
       line.windows_taken e p n he hp hn ∙ rw (low, mid, spelled n c 1000000 h.spells_count h.in_range) refl
@@ -57,7 +80,7 @@ module _ (e p n : Text) (he : IsPlain e) (hp : IsPlain p) (hn : IsPlain n) where
 
   windows_refusal : (r : Answer) → ToUntaken line IsAnswerTo IsText words r → IsWindowsAnswer e p n r
   windows_refusal (Ok asked) h = let kind = line.among_refused _ _ _ h.0 (subst (IsAmong h.0) (line.windows_taken e p n he hp hn) h.1) in grind (arith, kind)
-  windows_refusal (Err CommandLine) h = λ a b c k. subst (IsAmong h.0) (taken a b c k) h.1
+  windows_refusal (Err CommandLine) h = λ a b c k. subst (IsAmong h.0) (numbers_taken a b c k) h.1
   windows_refusal r h = grind arith
 
   windows_any : (r : Answer) → IsAnswer words r → IsWindowsAnswer e p n r

@@ -1,5 +1,5 @@
 //! What the command lines of both programs are made of, and how words are read by them.
-#![tactic(auto, using(crate::proofs::Rows::by_rows))]
+#![tactic(auto, using(crate::proofs::LineFacts::by_rows))]
 
 ghost use Rattle.std.specs.Prelude.{◌≡◌, IfOk, Ok, false, ◌⊎◌, ℕ, MatchResult, None, Some, codes, string_bytes, true};
 ghost use Rattle.clap.specs.Words.{AddsSubcommand, new_app, rule_of, app_of, first_of, found_of, is_simple_and_free, rows_of, with_rule};

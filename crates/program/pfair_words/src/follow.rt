@@ -1,5 +1,5 @@
 //! The words of `pfair_follow`, and its command line, one level of commands.
-#![tactic(auto, using(crate::proofs::Rows::by_rows))]
+#![tactic(auto, using(crate::proofs::LineFacts::by_rows))]
 
 ghost use Rattle.std.specs.Prelude.{◌≡◌, ◌⊎◌, MatchResult, IfOk, false};
 ghost use Rattle.clap.specs.Words.{found_of, rows_of, subcommand_rows_of, new_app, rule_of};

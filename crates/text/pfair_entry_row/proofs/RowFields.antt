@@ -1,11 +1,88 @@
 -- The fields of a row are those of what it says, and of nothing else.
-use Rattle.pfair_entry_row.proofs.Common.{join_with_byte, decimal, join_with_byte-slice_split, Logged, Announcement, Arrive, Depart, Late, dash, truth, announced_fields, said_fields, entry_fields, entry_row, HasNoComma, IsSayable, IsSpelled, IsSpelledOut, ℕ, Bool, true, false, List, ◌∷◌, ◌≡◌, ◌≢◌, ◌<◌, ◌^◌, refl, ap, ◌∙◌, sym, arith, length, Option, None, Some, parts, SaysNothing}
-use Rattle.std.proofs.lemmas.Fmt.{decimal_injective}
-use Rattle.pfair_entry_row.specs.Row.{texts}
+use Rattle.std.proofs.Common.{◌-◌, take, drop, subst, Result, MatchResult}
+use Rattle.pfair_entry_row.proofs.Common.{join_with_byte, position_or_len, slice_split_at, slice_split_first, slice_split_none, HasNoComma, HasNone, ℕ, List, [], ◌∷◌, ◌≡◌, ◌<◌, ◌≤◌, ◌+◌, ◌==◌, arith, length, cond, ltb, Option, Some, None, fails_before_first, nat_tests, common_steps, parts, decimal, is_plain-decimal, ◌^◌, true, is_plain, ◌≢◌, ap, ◌∙◌, sym, Ok, Err, join_with_byte-slice_split, Logged, Announcement, Arrive, Depart, Late, dash, truth, announced_fields, said_fields, entry_fields, entry_row, IsSayable, IsSpelled, IsSpelledOut, Bool, false, refl, SaysNothing}
+use Rattle.std.proofs.lemmas.List.{get_or-take}
+use Rattle.pfair_entry_row.specs.Row.{parts_at, texts}
+use Rattle.std.proofs.lemmas.Bool.{both_ways}
+use Rattle.std.proofs.lemmas.List.Folds.{list_any_at}
+use Rattle.std.specs.Result.{result_ok}
+use Rattle.std.specs.Str.{IsUtf8}
+use Rattle.std.specs.Str.Parse.{ParsesUnsigned}
+use Rattle.std.proofs.lemmas.Fmt.{IsAscii-decimal, parse-decimal, decimal_injective}
+use Rattle.std.proofs.lemmas.Str.{IsUtf8-from_ascii}
 use Rattle.pfair_entry_row.specs.Line.{said_texts, Notes}
 use Rattle.pfair_entry_row.specs.declared.line.Fields.{Fields}
-use Rattle.pfair_entry_row.proofs.Commas.{HaveNoCommas, parts-join}
-use Rattle.pfair_entry_row.proofs.Names.{no_comma-decimal, no_comma-plain}
+
+-- Fields between commas.
+
+-- no field has a comma
+abbrev pub HaveNoCommas : List (List ℕ) → Type 0
+HaveNoCommas [] = Unit {0}
+HaveNoCommas (f ∷ fs) = HasNoComma f × HaveNoCommas fs
+
+-- the parts of fields that were joined by commas are these fields
+pub parts-join : (first : List ℕ) (rest : List (List ℕ)) → HasNoComma first → HaveNoCommas rest → parts (join_with_byte 44 (first ∷ rest)) ≡ first ∷ rest
+parts-join first [] h more = slice_split_none (λ b. b == 44) first h
+parts-join first (next ∷ rest) h more = grind (arith, slice_split_at, parts-join next rest more.0 more.1)
+
+-- ---- where a text is cut
+
+module _ (separator : ℕ) where
+  -- the first separator, or the end
+  abbrev pub first_of : List ℕ → ℕ
+  first_of text = position_or_len (λ b. b == separator) text
+
+  none_before : (text : List ℕ) → HasNone separator (take (first_of text) text)
+  none_before text k d inside = grind (arith, common_steps, get_or-take, fails_before_first)
+
+  -- if a place is found, it is that of the first separator
+  place_is : (text : List ℕ) (at : ℕ) (r : Option ℕ) → r ≡ cond (ltb (first_of text) (length text)) (Some (first_of text)) None → r ≡ Some at → (first_of text ≡ at) × (first_of text < length text)
+  place_is text at r found is = (grind (arith, nat_tests), grind (arith, nat_tests))
+
+  pub no_place : (text : List ℕ) (r : Option ℕ) → r ≡ cond (ltb (first_of text) (length text)) (Some (first_of text)) None → r ≡ None → length text ≤ first_of text
+  no_place text r found is = grind (arith, nat_tests)
+
+  -- what is cut at a place that was found
+  pub cut_there : (text : List ℕ) (at : ℕ) (r : Option ℕ) → r ≡ cond (ltb (first_of text) (length text)) (Some (first_of text)) None → r ≡ Some at
+      → HasNone separator (take at text) × (parts_at separator text ≡ take at text ∷ parts_at separator (take (length text - (at + 1)) (drop (at + 1) text)))
+  cut_there text at r found is = grind (arith, place_is, common_steps, none_before, slice_split_first)
+
+-- What stands in a field as it is has no comma: numbers and words.
+
+-- what is plain has no comma
+pub no_comma-plain : (bytes : List ℕ) → is_plain bytes ≡ true → HasNoComma bytes
+no_comma-plain bytes plain k d inside = grind (arith, both_ways, list_any_at)
+
+pub no_comma-decimal : (n : ℕ) → n < 2 ^ 64 → HasNoComma (decimal n)
+no_comma-decimal n small = no_comma-plain (decimal n) (is_plain-decimal n small)
+
+-- Numbers as they are written.
+
+-- a decimal number is text
+pub IsUtf8-decimal : (field : List ℕ) (n : ℕ) → n < 2 ^ 64 → field ≡ decimal n → IsUtf8 field
+IsUtf8-decimal field n small e = subst IsUtf8 (sym e) (IsUtf8-from_ascii (decimal n) (IsAscii-decimal n small))
+
+-- what is parsed of a decimal number
+pub parsed-decimal : {E : Type 0} (field : List ℕ) (r : Result ℕ E) (n : ℕ) → n < 2 ^ 64 → field ≡ decimal n → ParsesUnsigned 64 10 field r → result_ok r ≡ Some n
+parsed-decimal field r n small e h = ap result_ok (parse-decimal 64 n field r small small e h)
+
+-- what is no text is no number
+pub no_text : {T E : Type 0} (P : T → Type 0) (Q : E → Type 0) (field : List ℕ) (r : Result T E) → MatchResult r P (λ e. ¬ (IsUtf8 field) × Q e) → result_ok r ≡ None → (n : ℕ) → n < 2 ^ 64 → field ≢ decimal n
+no_text P Q field (Ok s) cases none n small e = cc
+no_text P Q field (Err f) cases none n small e = absurd (cases.0 (IsUtf8-decimal field n small e))
+
+some_is : {x y : ℕ} → Some x ≡ Some y → x ≡ y
+some_is e = cc
+
+not_both : (o : Option ℕ) (n : ℕ) → o ≡ None → o ≡ Some n → ⊥
+not_both o n none some = cc
+
+-- what was read of the text of a number is that number
+pub read_is : {E : Type 0} (text : List ℕ) (r : Result ℕ E) (number n : ℕ) → n < 2 ^ 64 → text ≡ decimal n → ParsesUnsigned 64 10 text r → result_ok r ≡ Some number → number ≡ n
+read_is text r number n small e h is = some_is (sym is ∙ parsed-decimal text r n small e h)
+
+pub not_read : {E : Type 0} (text : List ℕ) (r : Result ℕ E) (n : ℕ) → n < 2 ^ 64 → text ≡ decimal n → ParsesUnsigned 64 10 text r → result_ok r ≢ None
+not_read text r n small e h none = not_both (result_ok r) n none (parsed-decimal text r n small e h)
 
 -- ---- no field has a comma
 

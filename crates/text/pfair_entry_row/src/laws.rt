@@ -11,20 +11,20 @@ pub fn each_entry_has_its_row()
 {}
 
 /// What a row is read as is determined: as one entry, or as one fault.
-#[tactic(auto, using(crate::proofs::OneWay::one_way))]
+#[tactic(auto, using(crate::proofs::Refused::one_way))]
 pub fn rows_are_read_one_way()
     ensures { RowsAreReadOneWay }
 {}
 
 /// No line ends in a row.
-#[tactic(auto, using(crate::proofs::Lines::rows_are_lines))]
+#[tactic(auto, using(crate::proofs::Refused::rows_are_lines))]
 pub fn rows_are_lines()
     ensures { RowsAreLines }
 {}
 
 /// A text of entries, a line for each, is cut at its line ends into their rows, and into nothing
 /// besides.
-#[tactic(auto, using(crate::proofs::Lines::texts_are_rows))]
+#[tactic(auto, using(crate::proofs::Refused::texts_are_rows))]
 pub fn texts_are_rows()
     ensures { TextsAreRows }
 {}

@@ -3,7 +3,7 @@ ghost use Rattle.pfair_file.specs.Documents.{LogsAreInFileOrder, FirstTableIsAtF
 
 /// Before it is closed, the log of a processor has the entries of the tables that name the
 /// processor, in the order of the file, and nothing else.
-#[tactic(auto, using(crate::proofs::OrderFacts::in_file_order))]
+#[tactic(auto, using(crate::proofs::TableFacts::in_file_order))]
 pub fn logs_are_in_file_order()
     ensures { LogsAreInFileOrder }
 {}

@@ -1,5 +1,33 @@
 -- Texts that grow by the rows of one slot after another.
-use Rattle.pfair_output.proofs.Common.{append-nil, drop_all, IsOpen, TextWriter, lines_text, text_so_far, first_left, lines_text-append, slots_from, ℕ, ◌+◌, ◌<◌, ◌≤◌, ◌≡◌, sym, ap, ◌∙◌, arith, List, ◌++◌, Some, length, drop, slice_get, append_assoc}
+use Rattle.pfair_output.proofs.Common.{same_Some, first_left, line, lines_text, Table, placed_row, placed_rows_from, ℕ, ◌+◌, ◌<◌, ◌≡◌, arith, List, ◌++◌, Some, length, drop, slice_get, append_assoc, Pick, is_plain, is_plain-decimal, suc, true, ◌∷◌, ℤ, decimal, signed_decimal, to_z-of_z, append-nil, drop_all, IsOpen, TextWriter, text_so_far, lines_text-append, slots_from, ◌≤◌, sym, ap, ◌∙◌}
+use Rattle.std.proofs.Common.{pos, negsuc, FitsSigned}
+use Rattle.std.specs.Int.{w64}
+use Rattle.std.proofs.lemmas.Bool.{and_parts, ne_eqb}
+use Rattle.pfair_text.proofs.NameFacts.{is_plain-name}
+
+-- Texts that grow by one row after another, each with its place.
+
+-- one row more
+pub row_more : (places : List ℕ) (slot : ℕ) (table : Table) (row : ℕ) (pick : Pick) (before after : List ℕ) → row < length table → slice_get table row ≡ Some pick
+    → after ≡ before ++ line (placed_row slot row pick (slice_get places row))
+    → after ++ lines_text (placed_rows_from places slot (row + 1) (drop (row + 1) table)) ≡ before ++ lines_text (placed_rows_from places slot row (drop row table))
+row_more places slot table row pick before after inside here grown =
+    let t = first_left table row inside in
+    grind (arith, same_Some, append_assoc)
+
+-- A signed decimal number stands in a line as it is.
+
+-- a minus sign before a plain field
+after_minus : (field : List ℕ) → is_plain field ≡ true → is_plain (45 ∷ field) ≡ true
+after_minus field h = grind (arith, and_parts, ne_eqb)
+
+pub is_plain-signed : (z : ℤ) → FitsSigned w64 z → is_plain (signed_decimal z) ≡ true
+is_plain-signed (pos n) fits = is_plain-decimal n (omega (arith, fits))
+is_plain-signed (negsuc n) fits = after_minus (decimal (suc n)) (is_plain-decimal (suc n) (omega (arith, fits)))
+
+-- Numbers and names stand in a line as they are.
+
+pub ruleset plain_fields = (is_plain-decimal, is_plain-name, is_plain-signed, to_z-of_z)
 
 module _ {A : Type 0} (rows : ℕ → A → List (List (List ℕ))) where
   -- the rows of one slot more

@@ -1,6 +1,6 @@
 -- A book that is notified of a run's slots has the members that stay, with their lags.
 use Rattle.std.proofs.Common.{Bool, false, cond, filter}
-use Rattle.pfair_output.proofs.Common.{AllByRecursion, flat_map, map-append, append-nil, flat_map-append, Replica, frontier, said, numbers_below, replica_of, Settings, Origin, Story, Table, machine, members_before, names_task, slot_of, history, world, table, decisions, with_decisions, Tally, Book, empty_book, tally_of, has_run, entered_with, slot_more, is_staying, lag_row, lag_rows, booked, all_booked, slot_booked, all_slots_booked, tally_row, book_rows, rows_booked, all_entered, entered_again, first_book, ℕ, zero, suc, ◌+◌, ◌-◌, ◌≤◌, ◌≡◌, refl, sym, ap, ◌∙◌, arith, subst, true, not, List, [], ◌∷◌, ◌++◌, Some, None, map, length, append_assoc, min, NameValue, Share, Announcement, Arrive, Depart, Late, Dispatch, Decision, Member, Pick, Decided}
+use Rattle.pfair_output.proofs.Common.{AllByRecursion, flat_map, map-append, append-nil, flat_map-append, Replica, frontier, said, numbers_below, replica_of, Settings, Origin, Story, Table, machine, members_before, names_task, slot_of, history, world, table, decisions, with_decisions, Tally, Book, empty_book, tally_of, has_run, entered_with, slot_more, is_staying, lag_row, lag_rows, booked, all_booked, slot_booked, all_slots_booked, tally_row, book_rows, rows_booked, all_entered, entered_again, first_book, ℕ, zero, suc, ◌+◌, ◌-◌, ◌≤◌, ◌≡◌, refl, sym, ap, ◌∙◌, arith, subst, true, not, List, [], ◌∷◌, ◌++◌, Some, None, map, length, append_assoc, min, NameValue, Share, Announcement, Arrive, Depart, Late, Dispatch, Decision, Member, Pick, Decided, option_map, none-some, same_Some, first_left, ◌<◌, take, slice_get, length-map, lines_text, lines_text-append, decided_rows, slots_from, decided_below}
 use Rattle.std.specs.Cmp.Lexicographic.{nat_list_eq_equiv}
 use Rattle.std.specs.Map.{lookup}
 use Rattle.pfair_weight.specs.Name.{NamesApart, name_eq}
@@ -10,12 +10,11 @@ use Rattle.pfair_table.specs.Refinement.{IsWholePlan}
 use Rattle.pfair_admission.specs.declared.decision.Decision.TheVariants.{Admitted, Departing, Delayed}
 use Rattle.pfair_admission.specs.Admission.{Machine, member_named, decision, newcomer, with_freeing, with_delay, change, effect, present, all_decided, all_decisions, announcements}
 use Rattle.pfair_admission.proofs.Deciding.{admitted_new}
-use Rattle.pfair_admission.proofs.Each.{each_map}
-use Rattle.pfair_table.proofs.Members.{label, named_from}
-use Rattle.pfair_table.proofs.NextIndexes.{after_table, all_ran_is, each_boundary}
+use Rattle.pfair_admission.proofs.MemberLists.{each_map}
+use Rattle.pfair_table.proofs.TableLaws.{label, named_from, after_table, all_ran_is, each_boundary, rows_apart}
 use Rattle.pfair_table.proofs.RunsOn.{slot_more as slot_later}
-use Rattle.pfair_table.proofs.TableLaws.{rows_apart}
 use Rattle.pfair_output.proofs.BookedFacts.{time-all_booked}
+use Rattle.pfair_table.proofs.Runs.{length_numbers}
 
 -- what a book has of a member
 abbrev pub shown : ℕ → Member → NameValue × Tally
@@ -248,3 +247,64 @@ module _ (s : Settings) (x : Replica) where
 -- the rows of a first run's whole plan
 pub whole_rows : (d : Dispatch) → d.origin ≡ None → IsWholePlan d → rows_booked empty_book d.decided d.tables ≡ flat_map (lag_rows d.settings (replica_of d.replica)) (numbers_below (min (frontier (replica_of d.replica)) d.settings.slots))
 whole_rows d first whole = grind (arith, rows_of_slots)
+
+-- The book before a run's first slot.
+
+entered_more : (slot : ℕ) (ms : List Member) (place : ℕ) (m : Member) (b : Book) → slice_get ms place ≡ Some m
+    → all_entered slot (take (place + 1) ms) b ≡ entered_again slot m (all_entered slot (take place ms) b)
+entered_more slot [] place m b at = absurd (none-some m at)
+entered_more slot (x ∷ ms) zero m b at = ap (λ (x : Member). entered_again slot x b) (same_Some x m at)
+entered_more slot (x ∷ ms) (suc place) m b at = grind (arith, entered_more slot ms place m (entered_again slot x b) at)
+
+pub entered_next : (slot : ℕ) (ms : List Member) (place : ℕ) (before after : Book) → place < length ms → before ≡ all_entered slot (take place ms) empty_book
+    → ((m : Member) → slice_get ms place ≡ Some m → after ≡ entered_again slot m before) → after ≡ all_entered slot (take (place + 1) ms) empty_book
+entered_next slot ms place before after inside is next =
+    let here = first_left ms place inside in
+    next here.0 here.1 ∙ ap (entered_again slot here.0) is ∙ sym (entered_more slot ms place here.0 empty_book here.1)
+
+pub first_time : (o : Origin) → (first_book o).time ≡ 0
+first_time None = refl
+first_time (Some c) = entered_time c.slot c.members empty_book
+
+pub begun_with : (o : Origin) (slot : ℕ) (ms : List Member) (book : Book) → Some ms ≡ option_map (λ c. c.members) o → Some slot ≡ option_map (λ c. c.slot) o → book ≡ all_entered slot ms empty_book → book ≡ first_book o
+begun_with None slot ms book members_are slot_is made = absurd (none-some ms (sym members_are))
+begun_with (Some c) slot ms book members_are slot_is made = grind arith
+
+-- What one slot of a script's run adds.
+
+-- how many slots of a script are planned, if its logs settle all of them
+pub all_slots : (s t : Settings) (x y : Replica) → s ≡ t → x ≡ y → s.slots ≤ frontier x → s.slots ≡ min (frontier y) t.slots
+all_slots s t x y settings held settled = let slots = ap (λ (s : Settings). s.slots) settings in let mark = ap frontier held in omega (arith, slots, mark, settled)
+
+-- ---- the rows of one slot more
+
+pub slots_more : {A : Type 0} (rows : ℕ → A → List (List (List ℕ))) (from to : ℕ) (xs : List A) (x : A) → to ≡ from + length xs → slots_from rows from (xs ++ x ∷ []) ≡ slots_from rows from xs ++ rows to x
+slots_more rows from to [] x e = append-nil (rows from x) ∙ ap (λ n. rows n x) (let here : from ≡ to = omega (arith, e) in here)
+slots_more rows from to (y ∷ ys) x e = grind (arith, slots_more rows (suc from) to ys x, append_assoc)
+
+-- a text with some rows, and then with more
+pub text_more : (start before after : List ℕ) (rows more : List (List (List ℕ))) → before ≡ start ++ lines_text rows → after ≡ before ++ lines_text more → after ≡ start ++ lines_text (rows ++ more)
+text_more start before after rows more had has = rw (has, had, lines_text-append rows more) (append_assoc start (lines_text rows) (lines_text more))
+
+module _ (s : Settings) (x : Replica) (n : ℕ) (start before after : List ℕ) where
+  next_number : n + 1 ≡ suc n
+  next_number = omega arith
+
+  -- a text with the decisions of the slots so far, and then with those of the next one
+  pub decisions_more : before ≡ start ++ lines_text (slots_from decided_rows 0 (decided_below s x n)) → after ≡ before ++ lines_text (decided_rows n (decisions None s (said x) n))
+      → after ≡ start ++ lines_text (slots_from decided_rows 0 (decided_below s x (n + 1)))
+  decisions_more had has =
+      let so_far : List (List Decided) = decided_below s x n in
+      let long : length so_far ≡ n = length-map (numbers_below n) (decisions None s (said x)) ∙ length_numbers n in
+      text_more start before after (slots_from decided_rows 0 so_far) (decided_rows n (decisions None s (said x) n)) had has
+      ∙ ap (λ rows. start ++ lines_text rows) (sym (slots_more decided_rows 0 n so_far (decisions None s (said x) n) (omega (arith, long))))
+      ∙ ap (λ ds. start ++ lines_text (slots_from decided_rows 0 ds)) (sym (map-append (decisions None s (said x)) (numbers_below n) (n ∷ [])) ∙ ap (decided_below s x) (sym next_number))
+
+  -- a book that was notified of the slots so far, and then of the next one
+  pub book_more : (old new : Book) → old ≡ book_after s x n → new ≡ slot_booked (decisions None s (said x) n) (table None s (said x) n) old → new ≡ book_after s x (n + 1)
+  book_more old new had has = has ∙ ap (slot_booked (decisions None s (said x) n) (table None s (said x) n)) had ∙ ap (book_after s x) (sym next_number)
+
+  -- a text with the lags of the slots so far, and then with those of the next one
+  pub lags_more : (book : Book) → book ≡ book_after s x (n + 1) → before ≡ start ++ lines_text (flat_map (lag_rows s x) (numbers_below n)) → after ≡ before ++ lines_text (book_rows book)
+      → after ≡ start ++ lines_text (flat_map (lag_rows s x) (numbers_below (n + 1)))
+  lags_more book booked had has = grind (arith, next_number, rows_after, text_more, flat_map, append-nil, flat_map-append)

@@ -1,5 +1,5 @@
 //! Decisions as rows: slot, processor, number, task, outcome, value.
-#![tactic(auto, using(crate::proofs::PlainFields::plain_fields))]
+#![tactic(auto, using(crate::proofs::SlotFacts::plain_fields))]
 
 ghost use Rattle.std.specs.Prelude.{◌≡◌, ◌≤◌, ◌++◌, drop, map, OnOk, IsTrue};
 ghost use Rattle.pfair_text.specs.Rows.{IsOpen, is_plain, line, lines_text, text_so_far};

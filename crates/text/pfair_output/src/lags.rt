@@ -1,5 +1,5 @@
 //! Lags as rows: time, task, numerator, period; and the book of lags with which a run begins.
-#![tactic(auto, using(crate::proofs::PlainFields::plain_fields))]
+#![tactic(auto, using(crate::proofs::SlotFacts::plain_fields))]
 
 ghost use Rattle.std.specs.Prelude.{◌≡◌, ◌≤◌, ◌<◌, ◌-◌, ◌++◌, OnOk, List, Some, drop, slice_get, take, IfOk};
 ghost use Rattle.pfair_text.specs.Rows.{IsOpen, line, lines_text, text_so_far};

@@ -1,5 +1,5 @@
 //! Tables as rows: slot, processor, task, index, and in a text with places the place.
-#![tactic(auto, using(crate::proofs::PlainFields::plain_fields))]
+#![tactic(auto, using(crate::proofs::SlotFacts::plain_fields))]
 
 ghost use Rattle.std.specs.Prelude.{◌≡◌, ◌≤◌, ◌++◌, ◌∷◌, [], List, OnOk, IfOk, Some, drop, length, map, slice_get};
 ghost use Rattle.pfair_text.specs.Rows.{IsOpen, line, lines_text, text_so_far};

@@ -3,9 +3,8 @@ use Rattle.pfair_state.proofs.Common.{flat_map, decimal_injective, append_cancel
 use Rattle.pfair_admission.specs.Member.{Member as MemberOf}
 use Rattle.pfair_state.specs.declared.rows.Row.TheVariants.{Member}
 use Rattle.pfair_state.proofs.MembersRead.{no_late}
-use Rattle.pfair_state.proofs.RowsSaid.{rows_say}
+use Rattle.pfair_state.proofs.StateRead.{rows_say, behind_members, ends_members, members_there}
 use Rattle.pfair_state.proofs.Spelled.{dash_is_no_number, parts_of_line, parts_of_text, same_member}
-use Rattle.pfair_state.proofs.StateRead.{behind_members, ends_members, members_there}
 
 -- ---- a row from its fields
 

@@ -10,10 +10,8 @@ use Rattle.pfair_weight.specs.declared.name.NameFault.TheVariants.{Empty, TooLon
 use Rattle.pfair_weight.specs.declared.weight.WeightFault.{WeightFault}
 use Rattle.pfair_weight.specs.declared.weight.WeightFault.TheVariants.{ZeroCost, CostOverPeriod, PeriodTooLong}
 use Rattle.pfair_entry_row.specs.Row.{dash, HasNone}
-use Rattle.pfair_entry_row.proofs.Commas.{HaveNoCommas, parts-join}
-use Rattle.pfair_entry_row.proofs.Lines.{at_each, joined, truth_is_plain}
-use Rattle.pfair_entry_row.proofs.Names.{no_comma-plain}
-use Rattle.pfair_entry_row.proofs.RowFields.{truth_injective}
+use Rattle.pfair_entry_row.proofs.RowFields.{HaveNoCommas, parts-join, no_comma-plain, truth_injective}
+use Rattle.pfair_entry_row.proofs.Refused.{at_each, joined, truth_is_plain}
 use Rattle.pfair_state.specs.declared.rows.Row.TheVariants.{Member}
 
 -- ---- what is right has no fault

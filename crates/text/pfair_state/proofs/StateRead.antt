@@ -1,10 +1,34 @@
 -- The state of rows, from the first to the end.
-use Rattle.std.proofs.Common.{MatchResult}
-use Rattle.pfair_state.proofs.Common.{flat_map, length-append, length-drop, Member, Roster, AreLeftAt, Carried, Table, IsBehindMembers, IsWritable, first_of, member_said, as_quantum, ran_said, said_before_end, said_of, Row, First, End, ℕ, ◌+◌, ◌<◌, ◌≤◌, ◌≡◌, refl, sym, ap, subst, ◌∙◌, arith, List, [], ◌∷◌, ◌++◌, Option, Some, None, Result, Err, length, min, drop, slice_get, append_assoc, ArePlacesOf, IsFit}
+use Rattle.std.proofs.Common.{codes, MatchResult}
+use Rattle.pfair_state.proofs.Common.{decimal, flat_map, decimal_digit, length-map, map-append, Member, Delay, Carried, Table, fields_of, first_said, late_said, member_said, ran_said, said_before_end, said_of, first_row, late_row, member_rows, ran_rows, rows_before_end, state_rows, ℕ, ◌≡◌, arith, refl, ap, List, [], ◌∷◌, map, length-append, length-drop, Roster, AreLeftAt, IsBehindMembers, IsWritable, first_of, as_quantum, Row, First, End, ◌+◌, ◌<◌, ◌≤◌, sym, subst, ◌∙◌, ◌++◌, Option, Some, None, Result, Err, length, min, drop, slice_get, append_assoc, ArePlacesOf, IsFit}
 use Rattle.pfair_state.specs.declared.fault.ReadFault.{ReadFault}
 use Rattle.pfair_state.specs.declared.fault.ReadFault.TheVariants.{Memory}
 use Rattle.pfair_state.specs.declared.rows.FirstRow.{FirstRow}
-use Rattle.pfair_state.proofs.Behind.{first_at}
+use Rattle.pfair_state.proofs.MembersRead.{first_at}
+
+-- The rows of a state say what the state has.
+
+delays_say : (name : List ℕ) (delays : List Delay) → map fields_of (map (late_said name) delays) ≡ map (late_row name) delays
+delays_say name [] = refl
+delays_say name (d ∷ delays) = grind (arith, delays_say name delays)
+
+members_say : (members : List Member) → map fields_of (flat_map member_said members) ≡ flat_map member_rows members
+members_say [] = refl
+members_say (m ∷ members) = grind (arith, members_say members, map-append, flat_map, delays_say)
+
+ran_say : (table : Table) (places : List ℕ) → map fields_of (ran_said table places) ≡ ran_rows table places
+ran_say [] places = refl
+ran_say (p ∷ table) [] = refl
+ran_say (p ∷ table) (k ∷ places) = grind (arith, ran_say table places)
+
+first_says : (c : Carried) → fields_of (first_said c) ≡ first_row c
+first_says c = let one : decimal 1 ≡ codes "1" = decimal_digit 1 (omega arith) in ap (λ form. codes "state" ∷ form ∷ decimal c.slot ∷ decimal c.machine.processors ∷ decimal c.machine.frame ∷ []) one
+
+before_end_say : (c : Carried) → map fields_of (said_before_end c) ≡ rows_before_end c
+before_end_say c = grind (arith, map-append, flat_map, members_say, ran_say, first_says)
+
+pub rows_say : (c : Carried) → map fields_of (said_of c) ≡ state_rows c
+rows_say c = grind (arith, before_end_say, length-map, map-append)
 
 -- the number that a row says, if it is the last
 abbrev pub as_end : Option Row → Option ℕ

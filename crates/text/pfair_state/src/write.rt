@@ -1,5 +1,5 @@
 //! The rows of a state.
-#![tactic(auto, using(crate::proofs::PlainFields::plain_fields))]
+#![tactic(auto, using(crate::proofs::RowsSpelled::plain_fields))]
 
 ghost use Rattle.std.specs.Prelude.{◌≡◌, ◌<◌, ◌^◌, ◌++◌, min, length, IfOk, IfSome, IsTrue, OnOk};
 ghost use Rattle.std.specs.List.{AllByRecursion, flat_map};

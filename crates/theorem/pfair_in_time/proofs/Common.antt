@@ -1,6 +1,6 @@
 -- The names that many of these proofs cite, passed on from one place. Declares nothing.
-pub use Rattle.pfair_admission.proofs.Delays.{theta_rises}
-pub use Rattle.pfair_admission.proofs.Keeping.{eligible_at_job, eligible_no_later, eligible_not_early, one_each, room_boundary, theta_earlier}
+pub use Rattle.pfair_admission.proofs.Carrying.{theta_rises}
+pub use Rattle.pfair_admission.proofs.Boundaries.{eligible_at_job, eligible_no_later, eligible_not_early, one_each, room_boundary, theta_earlier}
 pub use Rattle.pfair_admission.specs.Admission.{Machine, all_decided, all_decisions, announcements, arrival, boundary, change, claimed, decided, decision, departure, effect, is_freed, is_named, late_release, member_named, newcomer, present, with_delay, with_freeing}
 pub use Rattle.pfair_admission.specs.Member.{Member, busy_until, eligible_from, freeing_slot, is_departing, lag_at, next_key, theta}
 pub use Rattle.pfair_entry.specs.Entry.{entry_exact, name_exact, name_itself, entry_eq, name_eq}
@@ -9,8 +9,7 @@ pub use Rattle.pfair_in_time.specs.Runs.{IsRunAfter, IsServed, NoneMisses, Past,
 pub use Rattle.pfair_order.specs.declared.Key.{Key}
 pub use Rattle.pfair_replica.specs.Laws.{Among, all_among, among_all, among_append, among_below, among_contains, among_filter, among_left, among_map, contains_among, filter_among, map_among, map_same}
 pub use Rattle.pfair_replica.specs.Replica.{Agree, IsReplica, Replica, Untorn, numbers_below, said}
-pub use Rattle.pfair_table.proofs.Members.{label, named_from, named_world}
-pub use Rattle.pfair_table.proofs.NextIndexes.{IsCounted, counted_on, counted_world, long_history, world_counted}
+pub use Rattle.pfair_table.proofs.TableLaws.{label, named_from, named_world, IsCounted, counted_on, counted_world, long_history, world_counted}
 pub use Rattle.pfair_table.proofs.RunsOn.{any_among, begun_over, left_begun, long_early, members_paired, names_of, names_same, slot_more, slot_on, world_at}
 pub use Rattle.pfair_table.specs.NextRun.{HasBegun, IsBegun, IsWeighedStory, both_stories, last_places, last_table, left_over}
 pub use Rattle.pfair_table.specs.Table.{Origin, Settings, Story, Table, chosen, counted, counted_one, decisions, eligible, history, index_of, is_eligible, machine, members_before, names_task, next_index, pick, quanta, slot_after, slot_of, table, table_of, with_decisions, world}

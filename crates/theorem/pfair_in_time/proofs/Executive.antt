@@ -1,16 +1,92 @@
--- The executive keeps the premises of a run.
-use Rattle.std.proofs.Common.{◌≡◌, ℕ, zero, suc, ◌+◌, ◌%◌, ◌<◌, ◌≤◌, true, false, Option, Some, None, length, arith, ap, refl, sym, ◌∙◌, subst, inl, inr, ◌⊎◌, not, map, filter, nat_le}
-use Rattle.pfair_in_time.proofs.Common.{Contains, true≢false, cases_lt, cases_eq, cases_order, and_parts, and_from, not-true, not_from_false, le-leb, length-map, Share, IsWeight, units_of, release_of, deadline_of, b_bit_of, group_deadline_of, b_bit_at_most_one, Key, Among, among_contains, contains_among, filter_among, map_among, Member, theta, is_departing, eligible_from, next_key, Settings, eligible, is_eligible, Story, world, IsSound, theta_rises, any_among, eligible_no_later, same_Some}
-use Rattle.pfair_order.specs.Order.{GoesBefore}
-use Rattle.pfair_order.proofs.NamesApart.{once_from_names}
-use Rattle.pfair_optimal.specs.Schedule.{Task, Subtask, Schedule, is_among, same_task, release, deadline, b_bit, group_deadline, busy_bound, is_row, has_run, IsNext, GoesFirst, IsRunBelow}
-use Rattle.pfair_optimal.proofs.Past.{task_exact, ran_by, ran_more}
-use Rattle.pfair_in_time.proofs.Worlds.{any_from_among, runs, keys_at, keys_apart, runs_chosen, chosen_runs, here, HaveWeights}
-use Rattle.pfair_in_time.proofs.Lines.{line_of, back_to, on_to, IsGone}
-use Rattle.pfair_in_time.proofs.AsRun.{test_among, task_of, subtask_of, is_task, last_of, or_else, weight_in, offset_in, is_running, row_of, as_run, row_member, member_row, rows_apart, IsFinal, final, next_counted, all_before_ran, none_after_ran, find_task}
-use Rattle.pfair_in_time.proofs.Room.{room_world, sum_same}
-use Rattle.pfair_in_time.proofs.Claims.{bound_le_claim, past_first}
+-- The executive keeps the premises of a run, so no admitted task misses.
+use Rattle.std.proofs.Common.{◌≡◌, ℕ, suc, ◌+◌, ◌-◌, ◌*◌, ◌<◌, ◌≤◌, List, length, arith, ap, inl, inr, get_or, if◌then◌else◌, zero, [], ◌∷◌, refl, subst, sym, map, None, sum_by, ◌%◌, true, false, Option, Some, ◌∙◌, ◌⊎◌, not, filter, nat_le, cond}
+use Rattle.pfair_in_time.proofs.Common.{Contains, cases_lt, cases_eq, lt-ltb, le-ltb, slice_get_within, slice_get-get_or, Share, IsWeight, deadline_of, b_bit_of, group_deadline_of, deadline_rises_strictly, b_bit_at_most_one, Key, Member, theta, busy_until, theta_rises, sum_by-cons, units_of, announcements, room_boundary, Settings, machine, counted, counted_one, Story, history, world, world_counted, Among, true≢false, cases_order, and_parts, and_from, not-true, not_from_false, le-leb, length-map, release_of, among_contains, contains_among, filter_among, map_among, is_departing, eligible_from, next_key, eligible, is_eligible, IsSound, any_among, eligible_no_later, same_Some, cases_Bool, leb-true, starts_job_of, eligible_at_job, eligible_not_early}
+use Rattle.pfair_weight.specs.WindowFacts.{group_deadline_light, group_deadline_whole, group_deadline_heavy, group_deadline_not_before, group_deadline_rises, by_kind}
+use Rattle.pfair_order.specs.Order.{pd2_cmp, GoesBefore, rank, first_by_rank, EachOnce}
+use Rattle.pfair_order.proofs.KeyLaws.{keys_total, goes_before}
+use Rattle.pfair_order.proofs.RankLemmas.{place_of, at_place, less_by_rank, first_within}
+use Rattle.pfair_order.proofs.InOrder.{by_rank_first, once_from_names}
+use Rattle.pfair_optimal.specs.Schedule.{busy_bound_of, Task, Subtask, Schedule, is_among, same_task, release, deadline, b_bit, group_deadline, busy_bound, is_row, has_run, IsNext, GoesFirst, IsRunBelow}
+use Rattle.pfair_admission.specs.Laws.{HaveRoom}
+use Rattle.pfair_optimal.proofs.Past.{task_exact, ran_by, ran_more, ran_at}
+use Rattle.pfair_in_time.proofs.Worlds.{any_from_among, runs, keys_at, keys_apart, runs_chosen, chosen_runs, here, HaveWeights, same_member, on_next, index_after}
+use Rattle.pfair_in_time.proofs.AsRun.{line_of, back_to, on_to, IsGone, test_among, task_of, subtask_of, is_task, last_of, or_else, weight_in, offset_in, is_running, row_of, as_run, row_member, member_row, rows_apart, IsFinal, final, next_counted, all_before_ran, none_after_ran, find_task}
 use Rattle.std.proofs.lemmas.Bool.{false_from_ne_true}
+use Rattle.pfair_optimal.proofs.Counting.{beginning_none_misses, beginning_in_time}
+
+-- How long a claim is held, and who goes before whom.
+
+-- a later offset puts the group deadline of a heavy weight off
+group_moves : (w : Share) (i from to : ℕ) → IsWeight w.cost w.period → from ≤ to → group_deadline_of w i from ≤ group_deadline_of w i to
+group_moves w i from to h le = grind (arith, by_kind, group_deadline_light, group_deadline_heavy, group_deadline_whole)
+
+-- the claim of a later subtask is held past the busy bound of an earlier one
+pub bound_le_claim : (m : Member) (i j : ℕ) → IsWeight m.weight.cost m.weight.period → i ≤ j → busy_bound_of m.weight i (theta m i) ≤ busy_until m j
+bound_le_claim m i j h le =
+    let moved = theta_rises m i j le in
+    let small = b_bit_at_most_one m.weight i in
+    elim (cases_lt (2 * m.weight.cost) m.weight.period) [
+      | inl light ↦
+          let none = group_deadline_light m.weight i (theta m i) light in
+          let is : busy_until m j ≡ deadline_of m.weight j (theta m j) + b_bit_of m.weight j = ap (λ b. if b then deadline_of m.weight j (theta m j) + b_bit_of m.weight j else group_deadline_of m.weight j (theta m j) + 1) (lt-ltb (2 * m.weight.cost) m.weight.period light) in
+          elim (cases_eq i j) [
+            | inl e ↦ (let same : deadline_of m.weight i (theta m i) + b_bit_of m.weight i ≡ deadline_of m.weight j (theta m j) + b_bit_of m.weight j = ap (λ (k : ℕ). deadline_of m.weight k (theta m k) + b_bit_of m.weight k) e in omega arith)
+            | inr other ↦ (let up = deadline_rises_strictly m.weight i j 0 h (omega (arith, other)) in omega arith)
+          ]
+      | inr heavy ↦
+          let is : busy_until m j ≡ group_deadline_of m.weight j (theta m j) + 1 = ap (λ b. if b then deadline_of m.weight j (theta m j) + b_bit_of m.weight j else group_deadline_of m.weight j (theta m j) + 1) (le-ltb (2 * m.weight.cost) m.weight.period heavy) in
+          let up = group_deadline_rises m.weight i j (theta m i) h le in
+          grind (arith, group_moves, group_deadline_not_before)
+    ]
+
+-- if a key isn't among the first, these are as many as there may be, and each goes before it
+pub record IsPast (m : ℕ) (first : List Key) (k : Key) : Type 0 where
+  pub full : length first ≡ m
+  pub before : (g : Key) → Contains first g → GoesBefore g k
+
+pub past_first : (m : ℕ) (keys : List Key) (k : Key) → EachOnce pd2_cmp keys → Contains keys k → (Contains (first_by_rank pd2_cmp m keys) k → ⊥) → IsPast m (first_by_rank pd2_cmp m keys) k
+past_first m keys k once inside out =
+    let first = by_rank_first keys_total m keys once in
+    let past : m ≤ rank pd2_cmp keys k = elim (cases_lt (rank pd2_cmp keys k) m) [
+      | inl below ↦ absurd (out (at_place (first_by_rank pd2_cmp m keys) (rank pd2_cmp keys k) k (first.complete k inside below)))
+      | inr after ↦ after
+    ] in
+    record {
+      full = (let most = first_within keys_total m keys (first_by_rank pd2_cmp m keys) first in elim (cases_eq m 0) [
+        | inl none ↦ omega arith
+        | inr some ↦ (let enough = reaches (m - 1) (omega (arith, some)) (omega (arith, some, past)) in omega arith)
+      ]);
+      before = λ g h. (let at = place_of (first_by_rank pd2_cmp m keys) g h in let own = first.at_rank at.0 g at.1 in let same = own.1 in let low = own.2 in goes_before g k (less_by_rank keys_total keys g k (omega arith)));
+    }
+  where
+    -- there is a key of each lower rank
+    reaches : (i : ℕ) → i < m → i ≤ rank pd2_cmp keys k → i < length (first_by_rank pd2_cmp m keys)
+    reaches i low to =
+        let all = first_by_rank pd2_cmp (suc (rank pd2_cmp keys k)) keys in
+        let more = by_rank_first keys_total (suc (rank pd2_cmp keys k)) keys once in
+        let long = slice_get_within (first_by_rank pd2_cmp (suc (rank pd2_cmp keys k)) keys) (rank pd2_cmp keys k) k (more.complete k inside (omega arith)) in
+        let at = slice_get-get_or (first_by_rank pd2_cmp (suc (rank pd2_cmp keys k)) keys) i k (omega arith) in
+        let own = more.at_rank i (get_or (first_by_rank pd2_cmp (suc (rank pd2_cmp keys k)) keys) i k) at in
+        let first = by_rank_first keys_total m keys once in
+        let there = first.complete (get_or (first_by_rank pd2_cmp (suc (rank pd2_cmp keys k)) keys) i k) own.0 (let r = own.1 in omega arith) in
+        grind (arith, slice_get_within)
+
+-- The weights of the members have room in every slot.
+
+pub sum_same : {A : Type 0} (f : A → ℕ) (h : Member → A) (g : Member → ℕ) (ms : List Member)
+    → ((m : Member) → Among ms m → f (h m) ≡ g m) → sum_by f (map h ms) ≡ sum_by g ms
+sum_same f h g [] same = refl
+sum_same f h g (m ∷ ms) same = grind (arith, sum_same f h g ms, sum_by-cons)
+
+pub room_world : (s : Settings) (x : Story) (t : ℕ) → HaveRoom (machine s) (world None s x t)
+room_world s x zero = room_boundary (machine s) 0 [] (announcements (x 0)) (omega arith)
+room_world s x (suc t) =
+    let tables = (history None s x (suc t)).tables in
+    subst (HaveRoom (machine s)) (sym (world_counted s x t))
+    (room_boundary (machine s) (suc t) (counted tables (world None s x t)) (announcements (x (suc t)))
+    (let before = room_world s x t in let same = sum_same (λ (m : Member). units_of m.weight s.frame) (counted_one tables) (λ (m : Member). units_of m.weight s.frame) (world None s x t) (λ m h. refl) in omega arith))
+
+-- The executive keeps the premises of a run.
 
 -- ---- who goes before whom
 
@@ -189,3 +265,64 @@ module _ (s : Settings) (x : Story) (frame : 0 < s.frame) (weights : HaveWeights
         omega arith);
     chosen = chosen_first;
   }
+
+-- No admitted task misses.
+
+-- who may run in a slot, and isn't early or starts a job, is released by then
+pub open_from : (t : ℕ) (m : Member) → is_eligible t m ≡ true
+    → (m.early ≡ false) ⊎ (starts_job_of m.weight m.next ≡ true) → release_of m.weight m.next (theta m m.next) ≤ t
+open_from t m able when = grind (arith, leb-true, and_parts, eligible_not_early, eligible_at_job)
+
+-- up to the end of slot t a member is the last one of its task
+last_now : (s : Settings) (x : Story) (t : ℕ) (m : Member) → Among (world None s x t) m → last_of s x (suc t) (task_of m) ≡ Some m
+last_now s x t m h = grind (arith, find_task, same_member)
+
+-- so its deadlines in the run are its own
+own_deadline : (s : Settings) (x : Story) (t : ℕ) (m : Member) (i : ℕ) → Among (world None s x t) m → deadline (as_run s x (suc t)) (record { task = task_of m; index = i }) ≡ deadline_of m.weight i (theta m i)
+own_deadline s x t m i h = ap (λ (o : Option Member). deadline_of (weight_in o) i (offset_in (task_of m) o i)) (last_now s x t m h)
+
+module _ (s : Settings) (x : Story) (frame : 0 < s.frame) (weights : HaveWeights x) where
+  -- the next subtask after a table comes after all that ran
+  next_after : (t : ℕ) (m : Member) → Among (world None s x t) m → IsNext (as_run s x (suc t)) (record { task = task_of m; index = index_after s x t m }) (suc t)
+  next_after t m h =
+      let more = on_next s x t m (here s x weights t m h) in
+      let counted = next_counted s x weights t m h in
+      record {
+        counted = omega arith;
+        follows = elim (cases_Bool (runs s x t m)) [
+          | inl named ↦
+              let c : cond {A = ℕ} (runs s x t m) 1 0 ≡ 1 = ap (λ b. cond {A = ℕ} b 1 0) named in
+              let index : m.next ≡ index_after s x t m - 1 = omega arith in
+              inr (subst (λ i. has_run (as_run s x (suc t)) (record { task = task_of m; index = i }) (suc t) ≡ true) index (ran_by (as_run s x (suc t)) (subtask_of m) t (suc t) (omega arith) (member_row s x (suc t) t m h named)))
+          | inr rests ↦ grind (arith, cases_eq, ran_more, all_before_ran)
+        ];
+      }
+
+  -- and has not run itself
+  not_yet : (t : ℕ) (m : Member) → Among (world None s x t) m → has_run (as_run s x (suc t)) (record { task = task_of m; index = index_after s x t m }) (suc t) ≡ false
+  not_yet t m h = elim (cases_Bool (has_run (as_run s x (suc t)) (record { task = task_of m; index = index_after s x t m }) (suc t))) [
+    | inr e ↦ e
+    | inl ran ↦ absurd (
+        let more = on_next s x t m (here s x weights t m h) in
+        let p = ran_at (as_run s x (suc t)) (record { task = task_of m; index = index_after s x t m }) (suc t) ran in
+        let within = p.1 in
+        elim (cases_lt p.0 t) [
+          | inl before ↦ none_after_ran s x weights (suc t) t m (index_after s x t m) h (omega arith) (ran_by (as_run s x (suc t)) (record { task = task_of m; index = index_after s x t m }) p.0 t before p.2)
+          | inr now ↦
+              let at : p.0 ≡ t = omega arith in
+              let q = row_member s x (suc t) t (record { task = task_of m; index = index_after s x t m }) (subst (λ u. is_row (as_run s x (suc t)) u (record { task = task_of m; index = index_after s x t m }) ≡ true) at p.2) in
+              grind (arith, same_member)
+        ])
+  ]
+
+  pub none : (t : ℕ) (m : Member) → Among (world None s x t) m → is_departing m ≡ false → suc t < deadline_of m.weight (index_after s x t m) (theta m (index_after s x t m))
+  none t m h d =
+      let late = beginning_none_misses (as_run s x (suc t)) (suc t) t (record { task = task_of m; index = index_after s x t m }) (is_run s x frame weights (suc t)) (omega arith)
+      (member_active s x frame weights (suc t) (task_of m) t m h refl d) (next_after t m h) (not_yet t m h) in
+      let own = own_deadline s x t m (index_after s x t m) h in
+      omega arith
+
+  pub in_time : (t : ℕ) (m : Member) → Among (world None s x t) m → runs s x t m ≡ true → t < deadline_of m.weight m.next (theta m m.next)
+  in_time t m h named =
+      let early = beginning_in_time (as_run s x (suc t)) (suc t) t (subtask_of m) (is_run s x frame weights (suc t)) (omega arith) (member_row s x (suc t) t m h named) in
+      grind (arith, own_deadline)

@@ -1,17 +1,8 @@
 mod AsRun
-mod Boundaries
-mod Claims
 mod Common
 mod Executive
-mod InTime
-mod Lags
-mod Lines
 mod LongRun
-mod Overload
-mod Passing
-mod Planned
 mod Repeats
-mod Room
 mod Served
 mod ThroughRuns
 mod Windows

@@ -5,10 +5,10 @@ use Rattle.std.proofs.lemmas.Bool.Decides.{nat_tests}
 use Rattle.std.proofs.lemmas.Nat.{div-add-mod'}
 use Rattle.std.proofs.lemmas.Simd.{map-map}
 use Rattle.pfair_weight.specs.WindowFacts.{group_deadline_light, group_deadline_not_before, release_repeats, deadline_repeats, b_bit_repeats, group_deadline_repeats, starts_job_repeats}
-use Rattle.pfair_order.proofs.Later.{group_later, key_later, filter_mapped, first_later}
+use Rattle.pfair_order.proofs.KeyLaws.{group_later, key_later, filter_mapped, first_later}
 use Rattle.pfair_table.specs.Table.{first_by_rank}
 use Rattle.pfair_in_time.specs.Schedules.{Arrival, SaysOnly, IsCommonMultiple, quanta_in, later_row, TablesRepeat, RepeatsByPeriods}
-use Rattle.pfair_in_time.proofs.InTime.{none}
+use Rattle.pfair_in_time.proofs.Executive.{none}
 use Rattle.pfair_in_time.proofs.Served.{says_weights, is_first, world_is, member_at}
 use Rattle.pfair_in_time.proofs.Windows.{quanta_passing, no_offset_all}
 use Rattle.pfair_in_time.proofs.Worlds.{tables_before, runs, next_more, next_new, here, HaveWeights}

@@ -1,17 +1,27 @@
 -- The slots of all runs in which a member runs are in its windows.
-use Rattle.std.proofs.Common.{◌≡◌, ℕ, zero, suc, ◌+◌, ◌-◌, ◌*◌, ◌<◌, ◌≤◌, Bool, true, false, cond, List, [], length, get_or, max, None, arith, ap, sym, ◌∙◌, subst, inl, inr, is_some}
-use Rattle.pfair_in_time.proofs.Common.{cases_lt, release_of, deadline_of, starts_job_of, Among, Replica, said, Member, theta, is_departing, theta_rises, Settings, Story, names_task, slot_of, world, table, Past, origin_after, table_through, IsRunAfter, IsServed, NoneMisses, Pick, Key, name_eq, name_itself, among_map, next_key, pick, chosen, index_of, named_from, history, counted, counted_on, slot_more, Origin, IsWeighedStory}
+use Rattle.std.proofs.Common.{◌≡◌, ℕ, zero, suc, ◌+◌, ◌-◌, ◌*◌, ◌<◌, ◌≤◌, Bool, true, false, cond, List, [], length, get_or, max, None, arith, ap, sym, ◌∙◌, subst, inl, inr, is_some, pos, neg_ℤ, ◌<ℤ◌, nat_lt, ◌∷◌, map, Some, refl, ◌⊎◌}
+use Rattle.pfair_in_time.proofs.Common.{cases_lt, release_of, deadline_of, starts_job_of, Among, Replica, said, Member, theta, is_departing, theta_rises, Settings, Story, names_task, slot_of, world, table, Past, origin_after, table_through, IsRunAfter, IsServed, NoneMisses, Pick, Key, name_eq, name_itself, among_map, next_key, pick, chosen, index_of, named_from, history, counted, counted_on, slot_more, Origin, IsWeighedStory, lt-ltb, le_refl, among_filter, among_below, numbers_below, lag_at, HasBegun, counted_one, members_before, all_among, entry_exact, entry_eq, Untorn, Agree, last_places, last_table, left_over, machine, slot_after}
 use Rattle.pfair_weight.specs.WindowFacts.{deadline_repeats, job_due, job_released, release_repeats, starts_after_jobs}
-use Rattle.pfair_lag.specs.Lag.{InWindows, MeetsDeadlines}
-use Rattle.pfair_table.proofs.Within.{said_weighed}
-use Rattle.pfair_in_time.specs.Runs.{slots_since, slots_run, KeepsDeadlines, KeepsWindows, DeadlinesAreKept, WindowsAreKept, IsInTime}
-use Rattle.pfair_in_time.proofs.Lines.{back_to}
+use Rattle.pfair_lag.specs.Lag.{InWindows, MeetsDeadlines, lag_numerator, LagsKeepWindows, LagsKeepDeadlines}
+use Rattle.pfair_table.proofs.NextRuns.{said_weighed}
+use Rattle.pfair_in_time.specs.Runs.{slots_since, slots_run, KeepsDeadlines, KeepsWindows, DeadlinesAreKept, WindowsAreKept, IsInTime, BooksShowLags, IsWithinOne, LagsStayWithinOne, DispatchersNeverMiss, DispatchersRunOn, NeverMisses, past_of}
+use Rattle.pfair_in_time.proofs.AsRun.{back_to}
 use Rattle.pfair_in_time.proofs.LongRun.{HasLater, IsLater, long_story, long_weights, runs_long, world_long, each_weight, begun_after, history_long, runs_in_long}
-use Rattle.pfair_in_time.proofs.Passing.{passing, one_more, at_place, passing_rise, fewer_before}
-use Rattle.pfair_in_time.proofs.Windows.{runs_at, IsKept, IsUndelayed, kept_at, no_offset_all, served}
+use Rattle.pfair_in_time.proofs.Windows.{passing, one_more, at_place, passing_rise, fewer_before, runs_at, IsKept, IsUndelayed, kept_at, no_offset_all, served, quanta_passing, slots_of}
 use Rattle.pfair_in_time.proofs.Worlds.{here, HaveWeights, any_from_among, chosen_member, on, tables_before}
-use Rattle.pfair_in_time.proofs.InTime.{none, in_time, open_from}
-use Rattle.pfair_table.proofs.FirstSubtasks.{found_own}
+use Rattle.pfair_in_time.proofs.Executive.{none, in_time, open_from}
+use Rattle.pfair_table.proofs.QueueKept.{found_own}
+use Rattle.std.proofs.lemmas.Simd.{map-map}
+use Rattle.pfair_admission.proofs.MemberLists.{each}
+use Rattle.pfair_output.specs.Lags.{first_book}
+use Rattle.pfair_output.proofs.WorldFacts.{HasJoined, after_all, begins_after, over_slots}
+use Rattle.pfair_order.proofs.RankLemmas.{all_counted}
+use Rattle.pfair_lattice.specs.declared.join_map.Flat.TheVariants.{Torn}
+use Rattle.pfair_lattice.specs.Held.{join_least, below_itself}
+use Rattle.pfair_replica.specs.Replica.{replica_of}
+use Rattle.pfair_admission.specs.Carried.{carried}
+use Rattle.pfair_table.specs.Events.{begin_at, run, OneSchedule}
+use Rattle.pfair_table.proofs.Runs.{sound_run, sound_start}
 
 -- ---- a member, and the one of the long run that it is
 
@@ -212,3 +222,116 @@ deadlines_are_kept earlier s x run t m among active undelayed = deadlines_kept e
 
 pub windows_are_kept : WindowsAreKept
 windows_are_kept earlier s x run t m among active undelayed early = windows_kept earlier s x run t m among active undelayed early
+
+-- The lags of members stay within one.
+
+-- ---- in a first run
+
+module _ (s : Settings) (x : Story) (weights : HaveWeights x) (t : ℕ) (m : Member) (h : Among (world None s x t) m) where
+  -- the lag after the slot's quanta is that of the slots in which the member ran
+  same_lag : lag_numerator m.weight (slots_of s x t m) (slots_since t m) ≡ lag_at (suc t) (counted_one (tables_before s x (suc t)) m)
+  same_lag =
+      let joined = (here s x weights t m h).by_now in
+      let all = all_counted (λ slot. nat_lt slot (slots_since t m)) (slots_of s x t m)
+      (all_among (λ slot. nat_lt slot (slots_since t m) ≡ true) (slots_of s x t m)
+      (λ k among. lt-ltb k (slots_since t m) (among_below (slots_since t m) k (among_filter (runs_at s x m) (numbers_below (slots_since t m)) k among).0))) in
+      let ran = quanta_passing s x m (slots_since t m) in
+      let now : m.joined + slots_since t m ≡ suc t = omega arith in
+      grind (arith, pos)
+
+  first_within : LagsKeepWindows → LagsKeepDeadlines → 0 < s.frame → is_departing m ≡ false → IsUndelayed m → IsWithinOne (suc t) (on s x t m)
+  first_within by_windows by_deadlines frame active undelayed =
+      let weight = (here s x weights t m h).sound.weight in
+      let picks = passing_rise (runs_at s x m) (slots_since t m) in
+      let far = slots_since t m in
+      let at : (slot : ℕ) → runs_at s x m slot ≡ runs_at s x m (0 * m.weight.period + slot) = λ slot. ap (runs_at s x m) (omega arith) in
+      record {
+        below = (let kept = meets s x frame weights t 0 m h active undelayed far (omega arith) (runs_at s x m) at in
+            subst (λ n. n <ℤ pos m.weight.period) same_lag ((by_deadlines m.weight (slots_of s x t m) far weight picks).0 kept far (le_refl far)));
+        above = λ early. (let kept = within s x frame weights t 0 m h active undelayed far (omega arith) (runs_at s x m) at early in
+            subst (λ n. neg_ℤ (pos m.weight.period) <ℤ n) same_lag (((by_windows m.weight (slots_of s x t m) far weight picks).0 kept).above far (le_refl far)));
+      }
+
+-- ---- in any run
+
+pub lags_stay_within_one : LagsKeepWindows → LagsKeepDeadlines → LagsStayWithinOne
+lags_stay_within_one by_windows by_deadlines earlier s x run t m among active undelayed =
+    let o = origin_after s earlier in
+    let long = long_story s earlier (said x) in
+    let has = has_after earlier s x run t m among in
+    let later = has.later in
+    let before = among_map (on s long (slot_of o t)) (world None s long (slot_of o t)) has.long has.among in
+    let still = subst IsUndelayed before.2 (long_undelayed (suc (slot_of o t)) has.jobs has.long m later (no_offset_all m undelayed)) in
+    grind (arith, first_within, weights, le_refl, pos, neg_ℤ)
+
+-- ---- in books
+
+begun_joined : (slot : ℕ) (m : Member) → HasBegun slot m → HasJoined slot m
+begun_joined slot m b = (let joined = b.joined in let first = b.first in (omega (arith, joined), first))
+
+pub books_show_lags : BooksShowLags
+books_show_lags earlier s x run t =
+    let o = origin_after s earlier in
+    let is = begun_after s earlier run.replicas in
+    let joined = each (HasBegun (slot_of o 0)) (HasJoined (slot_of o 0)) (begun_joined (slot_of o 0)) (members_before o) is.begun in
+    let after = after_all o s (said x) is.named joined (first_book o) (begins_after o s (said x) is.named joined) t in
+    grind (arith, over_slots, map-map)
+
+-- What a dispatcher has planned is in time, in whichever run it is, and whatever events have come.
+
+-- what isn't torn agrees with itself
+agrees_alone : (x : Replica) → Untorn x → Agree x x
+agrees_alone x untorn k n torn = by (join_least entry_eq entry_exact (x.at k n) (x.at k n) (x.at k n) (below_itself (x.at k n)) (below_itself (x.at k n)) Torn torn)
+  where
+    by : (x.at k n ≡ Some Torn) ⊎ (x.at k n ≡ Some Torn) → ⊥
+    by (inl h) = untorn k n h
+    by (inr h) = untorn k n h
+
+-- a dispatcher has planned what one that is the same has planned
+pub dispatchers_never_miss : OneSchedule → DispatchersNeverMiss
+dispatchers_never_miss one earlier s capacity events frame replicas are untorn t planned =
+    let o = origin_after s earlier in
+    let c = run s (begin_at o s capacity) events in
+    let is_of = (sound_run s events (begin_at o s capacity) are (sound_start o s capacity)).is_of in
+    record {
+      table_is = (one o s capacity capacity events events are are (agrees_alone c.replica untorn) t planned planned).0;
+      served = none_misses earlier s c.replica (record { frame = frame; replica = is_of.replica; replicas = replicas }) t;
+    }
+
+-- ---- runs of other numbers of slots
+
+same_history : (o : Origin) (s : Settings) (slots : ℕ) (story : Story) (t : ℕ) → history o s story t ≡ history o (record s { slots = slots }) story t
+same_history o s slots story zero = refl
+same_history o s slots story (suc t) = ap (slot_after s (slot_of o t) (story t)) (same_history o s slots story t)
+
+same_left : (o : Origin) (s : Settings) (slots : ℕ) (story : Story) (n : ℕ) → left_over o s story n ≡ left_over o (record s { slots = slots }) story n
+same_left o s slots story n =
+    ap (λ h. record { slot = slot_of o n; machine = machine s; members = map carried h.members; table = last_table o h; places = last_places o h }) (same_history o s slots story n)
+
+same_after : (s : Settings) (slots : ℕ) (earlier : List Past) → origin_after s earlier ≡ origin_after (record s { slots = slots }) earlier
+same_after s slots [] = refl
+same_after s slots (r ∷ earlier) =
+    ap (λ o. Some (left_over o s (said r.contents) r.slots)) (same_after s slots earlier)
+    ∙ ap Some (same_left (origin_after (record s { slots = slots }) earlier) s slots (said r.contents) r.slots)
+
+-- ---- from one dispatcher to the next
+
+pub dispatchers_run_on : DispatchersRunOn
+dispatchers_run_on [] d on = (on, tt)
+dispatchers_run_on (e ∷ earlier) d (on, before) =
+    let r = dispatchers_run_on earlier e before in (
+      on.origin
+          ∙ ap (λ o. Some (left_over o e.settings (said (replica_of e.replica)) e.settings.slots)) r.0
+          ∙ same_after e.settings d.settings.slots (past_of e ∷ map past_of earlier)
+          ∙ ap (λ s. origin_after s (past_of e ∷ map past_of earlier)) (sym on.settings),
+      (on.replica, r.1),
+    )
+
+pub never_misses : NeverMisses
+never_misses earlier d hand on untorn t planned =
+    let runs = dispatchers_run_on earlier d on in
+    let x = replica_of d.replica in
+    record {
+      table_is = (hand.alike refl refl (agrees_alone x untorn) t planned planned).0;
+      served = subst (λ o. IsServed o d.settings (said x) t) (sym runs.0) (none_misses (map past_of earlier) d.settings x (record { frame = hand.settings.frame.0; replica = hand.replica; replicas = runs.1 }) t);
+    }

@@ -37,14 +37,14 @@ pub fn dispatchers_never_miss()
 /// Premises: what the calls of each dispatcher ensure of it. If its run isn't the first, the
 /// dispatchers of the runs before, each of which was handed on by
 /// [`next_run`](pfair_table::Dispatcher::next_run).
-#[tactic(auto, using(crate::proofs::Planned::never_misses))]
+#[tactic(auto, using(crate::proofs::ThroughRuns::never_misses))]
 pub fn never_misses()
     ensures { NeverMisses }
 {}
 
 /// A dispatcher that `next_run` gave is in a run after those of the dispatchers before it, so that
 /// all laws of runs hold of it.
-#[tactic(auto, using(crate::proofs::Planned::dispatchers_run_on))]
+#[tactic(auto, using(crate::proofs::ThroughRuns::dispatchers_run_on))]
 pub fn dispatchers_run_on()
     ensures { DispatchersRunOn }
 {}
@@ -80,7 +80,7 @@ pub fn lags_stay_within_one()
 /// quanta that it had before, and is notified of the run's slots, has after each of them the members
 /// that stay, each with its lag. By `runs_go_on` of `pfair_table` these are the lags that they have in
 /// the one long run.
-#[tactic(auto, using(crate::proofs::Lags::books_show_lags))]
+#[tactic(auto, using(crate::proofs::ThroughRuns::books_show_lags))]
 pub fn books_show_lags()
     ensures { BooksShowLags }
 {}
@@ -119,7 +119,7 @@ pub fn repeats_by_periods()
 /// Each member after a boundary was a member before it or joined at it, and each member before it is
 /// still one or is freed. A member's offsets never fall, and those of subtasks that ran, or whose
 /// release is before the boundary, stay.
-#[tactic(auto, using(crate::proofs::Boundaries::boundaries_keep_members))]
+#[tactic(auto, using(crate::proofs::Worlds::boundaries_keep_members))]
 pub fn boundaries_keep_members()
     ensures { BoundariesKeepMembers }
 {}

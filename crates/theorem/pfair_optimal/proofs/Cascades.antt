@@ -1,8 +1,7 @@
 -- The formula of the group deadline is the least time at which a cascade ends.
 use Rattle.pfair_optimal.proofs.Common.{cases_lt, cases_eq, cases_order, Share, IsWeight, IsHeavy, lt_of_mul, div_ceil_of_multiple, one_less, release_of, deadline_of, b_bit_of, group_deadline_of, cascade_end, ◌≡◌, ℕ, ◌+◌, ◌-◌, ◌*◌, ◌<◌, ◌≤◌, arith, ap, sym, inl, inr, div_ceil, release_rises, deadline_rises_strictly, windows_overlap, b_bit_at_most_one, group_deadline_heavy}
 use Rattle.pfair_optimal.specs.Laws.{EndsCascade, gap, three_slots, GroupDeadlinesAreLeast}
-use Rattle.pfair_optimal.proofs.Ends.{opening, closing, next_opening, pinned}
-use Rattle.pfair_optimal.proofs.BusyBounds.{index_le_closing, group_deadline_tight, group_deadline_ends}
+use Rattle.pfair_optimal.proofs.BusyBounds.{opening, closing, next_opening, pinned, index_le_closing, group_deadline_tight, group_deadline_ends}
 
 -- ---- with b-bit 0
 

@@ -1,9 +1,7 @@
 -- What runs in holes: cascades of tight windows, which end at the next full slot.
 use Rattle.pfair_optimal.proofs.Common.{false_from_ne_true, true_from_ne_false, true≢false, cases_lt, cases_eq, cases_Bool, Task, Subtask, same_task, same_subtask, next_of, previous_of, Schedule, release, deadline, b_bit, busy_bound, is_row, has_run, IsRun, IsFirstMiss, ◌≡◌, ℕ, zero, suc, ◌+◌, ◌-◌, ◌<◌, ◌≤◌, Bool, true, false, arith, ap, refl, sym, ◌∙◌, subst, inl, inr, ⊎_elim, ◌⊎◌, list_any, ⊎_map}
 use Rattle.pfair_optimal.proofs.BusyBounds.{busy_after}
-use Rattle.pfair_optimal.proofs.Lists.{any_from, any_some}
-use Rattle.pfair_optimal.proofs.Past.{task_exact, subtask_exact, previous_next, next_previous, ran_at, ran_by, ran_more, next_after}
-use Rattle.pfair_optimal.proofs.RunWindows.{release_two_before, next_release, next_release_late, b_bit_small, next_deadline, first_bound}
+use Rattle.pfair_optimal.proofs.Past.{any_from, any_some, task_exact, subtask_exact, previous_next, next_previous, ran_at, ran_by, ran_more, next_after, release_two_before, next_release, next_release_late, b_bit_small, next_deadline, first_bound}
 use Rattle.pfair_optimal.proofs.Reasons.{picks, reasons, is_full, In, in_time, picks_rows, reason_pick, full_from, full_some, hole_pick, pick_hole, reason_index, reason_follows, reason_ran, full_rows}
 
 -- a row of the task is picked in the slot

@@ -2,7 +2,7 @@
 pub use Rattle.pfair_board.specs.RunFaults.{IsGood, IsFullDesk, IsRunOf, Holds, IsFirstFault, SomeEndsIn}
 pub use Rattle.pfair_board.specs.Works.{has_first, has_kept, IsWorkerFault, AreWorks, HasLearned, IsAtWork, IsWorkOf, IsWorkplaceOf}
 pub use Rattle.pfair_board.specs.declared.threads.Worked.{Worked}
-pub use Rattle.pfair_desk.proofs.Rows.{each_snoc}
+pub use Rattle.pfair_desk.proofs.Following.{each_snoc}
 pub use Rattle.pfair_desk.specs.Desks.{BoardFrame, DeskState, DeskView, GrownDesk, IsDeskOf}
 pub use Rattle.pfair_entry.specs.Entry.{Logged}
 pub use Rattle.pfair_replica.specs.Replica.{Below, ReplicaRows, held, replica_of}

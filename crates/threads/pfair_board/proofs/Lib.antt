@@ -1,5 +1,2 @@
 mod Common
-mod FirstFaults
-mod Following
-pub mod Rows
-mod Working
+pub mod Working

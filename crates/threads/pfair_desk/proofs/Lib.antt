@@ -1,7 +1,4 @@
 mod Common
-mod Following
-mod Gains
-mod NoteLists
+pub mod Following
 mod NotedLemmas
 mod Peeks
-pub mod Rows

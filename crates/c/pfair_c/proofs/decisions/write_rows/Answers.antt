@@ -1,5 +1,5 @@
 use Rattle.pfair_c.proofs.Common.{add-one, decision_row}
-use Rattle.pfair_c.proofs.Written.{one-more}
+use Rattle.pfair_c.proofs.SlotRows.{one-more}
 use Rattle.pfair_c.proofs.decisions.write_rows.Goals as goal
 
 pub loop-row-preserved : goal.loop-row-preserved

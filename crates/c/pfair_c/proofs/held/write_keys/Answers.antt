@@ -1,5 +1,5 @@
 use Rattle.pfair_c.proofs.Common.{add-one, key_row}
-use Rattle.pfair_c.proofs.Written.{one-more-at}
+use Rattle.pfair_c.proofs.SlotRows.{one-more-at}
 use Rattle.pfair_c.proofs.held.write_keys.Goals as goal
 
 pub loop-place-preserved : goal.loop-place-preserved

@@ -1,7 +1,6 @@
 use Rattle.pfair_c.proofs.Common.{◌+◌, ◌-◌, ◌<◌, List, length, ap, arith, rules, sym, ◌∙◌, length-map, Book, first_time, Dispatch, book_rows, lag_row, lags_at, rows_of}
 use Rattle.pfair_c.specs.declared.lags.PfairLag.{PfairLag}
-use Rattle.pfair_c.proofs.LagFacts.{as-many-more, book_time, booked_first, next_booked, one-more-slot, pushed}
-use Rattle.pfair_c.proofs.SlotRows.{counted-within}
+use Rattle.pfair_c.proofs.SlotRows.{as-many-more, book_time, booked_first, next_booked, one-more-slot, pushed, counted-within}
 use Rattle.pfair_c.proofs.lags.collect_lags.Goals as goal
 
 pub book_slots-requires-clause-to : goal.book_slots-requires-clause-to

@@ -1,5 +1,5 @@
 use Rattle.pfair_c.proofs.Common.{◌<◌, length, arith, rules, lag_row}
-use Rattle.pfair_c.proofs.LagFacts.{one-appended}
+use Rattle.pfair_c.proofs.SlotRows.{one-appended}
 use Rattle.pfair_c.proofs.lags.push_lags.Goals as goal
 use Rattle.pfair_c.proofs.lags.push_lags.Goals.{in-Some+in_ok-push, in_default}
 

@@ -1,5 +1,5 @@
 use Rattle.pfair_c.proofs.Common.{◌<◌, length, arith, member_row}
-use Rattle.pfair_c.proofs.Written.{one-found-more}
+use Rattle.pfair_c.proofs.SlotRows.{one-found-more}
 use Rattle.pfair_c.proofs.members.write_members.Goals as goal
 
 pub loop-place-preserved : goal.loop-place-preserved

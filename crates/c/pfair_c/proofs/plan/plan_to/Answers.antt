@@ -1,5 +1,5 @@
 use Rattle.pfair_c.proofs.Common.{rules}
-use Rattle.pfair_c.proofs.Onward.{one-more-plan}
+use Rattle.pfair_c.proofs.SlotRows.{one-more-plan}
 use Rattle.pfair_c.proofs.plan.plan_to.Goals as goal
 
 pub slots-preserved : goal.slots-preserved

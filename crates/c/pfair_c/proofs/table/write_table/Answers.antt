@@ -1,5 +1,5 @@
 use Rattle.pfair_c.proofs.Common.{add-one, pick_row}
-use Rattle.pfair_c.proofs.Written.{one-more}
+use Rattle.pfair_c.proofs.SlotRows.{one-more}
 use Rattle.pfair_c.proofs.table.write_table.Goals as goal
 
 pub loop-place-preserved : goal.loop-place-preserved

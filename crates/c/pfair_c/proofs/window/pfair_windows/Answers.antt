@@ -1,5 +1,5 @@
 use Rattle.pfair_c.proofs.Common.{arith, add-one, refl}
-use Rattle.pfair_c.proofs.Written.{one-window-more}
+use Rattle.pfair_c.proofs.SlotRows.{one-window-more}
 use Rattle.pfair_c.proofs.window.pfair_windows.Goals as goal
 
 pub loop-place-preserved : goal.loop-place-preserved

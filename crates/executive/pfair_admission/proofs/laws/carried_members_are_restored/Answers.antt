@@ -1,4 +1,4 @@
-use Rattle.pfair_admission.proofs.RestoredRuns.{in_turn, left_carried}
+use Rattle.pfair_admission.proofs.Restoring.{in_turn, left_carried}
 use Rattle.pfair_admission.proofs.laws.carried_members_are_restored.Goals as goal
 
 pub returns : goal.returns

@@ -1,6 +1,5 @@
 use Rattle.pfair_admission.proofs.Common.{Member, jobs_done, subtasks_done, carried_delays, ℕ, ◌+◌, ◌-◌, ◌≤◌, arith, sym, starts_job_repeats}
-use Rattle.pfair_admission.proofs.CarriedAgain.{done_low, next_ran}
-use Rattle.pfair_admission.proofs.Lowered.{b_bit_same, busy_until_same, carried_lowered, deadline_same, freeing_slot_same, group_deadline_same, next_key_same, release_same}
+use Rattle.pfair_admission.proofs.Carrying.{done_low, next_ran, b_bit_same, busy_until_same, carried_lowered, deadline_same, freeing_slot_same, group_deadline_same, next_key_same, release_same}
 use Rattle.pfair_admission.proofs.laws.carrying_keeps_windows.Goals as goal
 
 near : (m : Member) (j : ℕ) → m.next ≤ j + subtasks_done m + 1 → m.next - subtasks_done m ≤ j + 1

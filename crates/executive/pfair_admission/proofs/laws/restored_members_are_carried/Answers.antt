@@ -1,4 +1,4 @@
-use Rattle.pfair_admission.proofs.RestoredRuns.{all_able, all_again, in_frame_more, left_more, named_more, room_more}
+use Rattle.pfair_admission.proofs.Restoring.{all_able, all_again, in_frame_more, left_more, named_more, room_more}
 use Rattle.pfair_admission.proofs.laws.restored_members_are_carried.Goals as goal
 
 pub returns : goal.returns

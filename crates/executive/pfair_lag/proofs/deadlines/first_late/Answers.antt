@@ -1,5 +1,5 @@
 use Rattle.pfair_lag.proofs.Common.{arith}
-use Rattle.pfair_lag.proofs.MissLemmas.{all_served}
+use Rattle.pfair_lag.proofs.Counts.{all_served}
 use Rattle.pfair_lag.proofs.deadlines.first_late.Goals as goal
 
 pub returns-clause-found : goal.returns-clause-found

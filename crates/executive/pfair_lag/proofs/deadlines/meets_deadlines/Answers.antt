@@ -1,6 +1,5 @@
 use Rattle.pfair_lag.proofs.Common.{MeetsDeadlines, IsTrue, ◌↔◌}
-use Rattle.pfair_lag.proofs.Agree.{lag_from_deadlines, deadlines_from_lag}
-use Rattle.pfair_lag.proofs.MissLemmas.{none_found, late_miss_deadlines}
+use Rattle.pfair_lag.proofs.Counts.{lag_from_deadlines, deadlines_from_lag, none_found, late_miss_deadlines}
 use Rattle.pfair_lag.proofs.deadlines.meets_deadlines.Goals as goal
 use Rattle.pfair_lag.proofs.deadlines.meets_deadlines.Goals.{After-is_none}
 

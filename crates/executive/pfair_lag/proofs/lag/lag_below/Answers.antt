@@ -1,6 +1,5 @@
 use Rattle.pfair_lag.proofs.Common.{common_steps, LagBelowOne, quanta_before, ◌≡◌, ◌+◌, ◌*◌, ◌<◌, ℕ, arith, ap, sym, refl}
-use Rattle.pfair_lag.proofs.Counts.{quanta_zero}
-use Rattle.pfair_lag.proofs.Agree.{lag_below_one, of_lag_below_one, lag_from_deadlines, deadlines_from_lag}
+use Rattle.pfair_lag.proofs.Counts.{quanta_zero, lag_below_one, of_lag_below_one, lag_from_deadlines, deadlines_from_lag}
 use Rattle.pfair_lag.proofs.lag.lag_below.Goals as goal
 use Rattle.pfair_lag.proofs.lag.lag_below.Goals.{Then-period-given, After-loop-time}
 

@@ -1,5 +1,5 @@
 use Rattle.pfair_lag.proofs.Common.{quanta_before, ◌≡◌, ◌<◌, ℕ}
-use Rattle.pfair_lag.proofs.Agree.{LagAt}
+use Rattle.pfair_lag.proofs.Counts.{LagAt}
 use Rattle.pfair_lag.proofs.lag.lag_within.Given as goal
 
 abbrev pub invariant-loop-time : goal.invariant-loop-time

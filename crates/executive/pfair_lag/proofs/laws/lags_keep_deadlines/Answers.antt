@@ -1,4 +1,4 @@
-use Rattle.pfair_lag.proofs.Agree.{lag_from_deadlines, deadlines_from_lag}
+use Rattle.pfair_lag.proofs.Counts.{lag_from_deadlines, deadlines_from_lag}
 use Rattle.pfair_lag.proofs.laws.lags_keep_deadlines.Goals as goal
 
 pub returns : goal.returns

@@ -1,4 +1,4 @@
-use Rattle.pfair_lag.proofs.Agree.{lag_within, in_windows}
+use Rattle.pfair_lag.proofs.Counts.{lag_within, in_windows}
 use Rattle.pfair_lag.proofs.laws.lags_keep_windows.Goals as goal
 
 pub returns : goal.returns

@@ -1,6 +1,5 @@
 use Rattle.pfair_lag.proofs.Common.{InWindows, IsTrue, ◌↔◌}
-use Rattle.pfair_lag.proofs.Agree.{lag_within, in_windows}
-use Rattle.pfair_lag.proofs.MissLemmas.{none_found, misses_are_out}
+use Rattle.pfair_lag.proofs.Counts.{lag_within, in_windows, none_found, misses_are_out}
 use Rattle.pfair_lag.proofs.windows.in_windows.Goals as goal
 use Rattle.pfair_lag.proofs.windows.in_windows.Goals.{After-is_none}
 

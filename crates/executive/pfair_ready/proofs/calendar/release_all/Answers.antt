@@ -1,6 +1,5 @@
 use Rattle.pfair_ready.proofs.Common.{Date, heap_items, ◌+◌, ◌∙◌, List, ap, slice_index_or}
-use Rattle.pfair_ready.proofs.CalendarLemmas.{IsFrom, from_next}
-use Rattle.pfair_ready.proofs.DateLemmas.{moves_more}
+use Rattle.pfair_ready.proofs.CalendarLemmas.{IsFrom, from_next, moves_more}
 use Rattle.pfair_ready.proofs.calendar.release_all.Goals as goal
 
 pub loop-date-preserved : goal.loop-date-preserved

@@ -1,5 +1,5 @@
 use Rattle.pfair_table.proofs.Common.{slice_get-get_or, ap, sym, ◌∙◌, Some}
-use Rattle.pfair_table.proofs.Bucketed.{one_more, no_rows_yet}
+use Rattle.pfair_table.proofs.Filling.{one_more, no_rows_yet}
 use Rattle.pfair_table.proofs.places.buckets_of.Goals as goal
 
 pub loop-row-init : goal.loop-row-init

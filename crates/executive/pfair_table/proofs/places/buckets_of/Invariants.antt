@@ -1,4 +1,4 @@
-use Rattle.pfair_table.proofs.Bucketed.{AreBucketsBelow}
+use Rattle.pfair_table.proofs.Filling.{AreBucketsBelow}
 use Rattle.pfair_table.proofs.places.buckets_of.Given as goal
 
 abbrev pub invariant-loop-row : goal.invariant-loop-row

@@ -1,5 +1,5 @@
 use Rattle.pfair_table.proofs.Common.{slice_get-get_or, name_exact, Pick, ℕ, ◌-◌, ◌<◌, ◌∙◌, sym, ap, arith, length, get_or, Some, ◌≢◌, slice_index}
-use Rattle.pfair_table.proofs.Bucketed.{none_by_bucket, place_by_row}
+use Rattle.pfair_table.proofs.Filling.{none_by_bucket, place_by_row}
 use Rattle.pfair_table.proofs.places.place_by_bucket.Goals as goal
 
 pub returns-then-end-eq0 : goal.returns-then-end-eq0

@@ -1,5 +1,5 @@
 use Rattle.pfair_table.proofs.Common.{◌∙◌, sym, refl, [], Vec, Global}
-use Rattle.pfair_table.proofs.PlacesOn.{last_is}
+use Rattle.pfair_table.proofs.Alike.{last_is}
 use Rattle.pfair_table.proofs.planned.last_of.Goals as goal
 
 pub returns-in-Some : goal.returns-in-Some

@@ -1,5 +1,5 @@
 use Rattle.pfair_table.proofs.Common.{Key, without, pick, IsQueueWithout, keys_of, ◌≡◌, ◌∙◌, sym, ap, subst, map, List, IfOk, Seated}
-use Rattle.pfair_table.proofs.FirstSubtasks.{first_of_queue, first_apart, first_may_run, queue_without}
+use Rattle.pfair_table.proofs.QueueKept.{first_of_queue, first_apart, first_may_run, queue_without}
 use Rattle.pfair_table.proofs.slot.give_quanta.Goals as goal
 
 pub run_each-table-requires-clause-apart : goal.run_each-table-requires-clause-apart

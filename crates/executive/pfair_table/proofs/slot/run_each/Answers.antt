@@ -1,5 +1,5 @@
 use Rattle.pfair_table.proofs.Common.{option_map, none-some, same_Some, ran, quantum_of, seatless, MayRun, ◌≡◌, ◌∙◌, sym, ap, Option, is_some, if◌then◌else◌, Quantum}
-use Rattle.pfair_table.proofs.GivingQuanta.{key_inside, key_item, key_among, may_run, runs_next, notified_on, run_turn}
+use Rattle.pfair_table.proofs.QueueKept.{key_inside, key_item, key_among, may_run, runs_next, notified_on, run_turn}
 use Rattle.pfair_table.proofs.slot.run_each.Goals as goal
 
 pub ran_on-requires : goal.ran_on-requires

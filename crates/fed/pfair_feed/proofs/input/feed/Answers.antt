@@ -1,7 +1,6 @@
 use Rattle.pfair_feed.proofs.Common.{HasFailed, IsFedLine, ◌≡◌, ap, Ok, Err, rules, true, is_refusal, Memory}
-use Rattle.pfair_feed.proofs.Lines.{if_err}
+use Rattle.pfair_feed.proofs.Lines.{if_err, failed_at, refused_line, repeat_wants_none}
 use Rattle.pfair_feed.proofs.Going.{own_err}
-use Rattle.pfair_feed.proofs.Reading.{failed_at, refused_line, repeat_wants_none}
 use Rattle.pfair_feed.proofs.input.feed.Goals as goal
 
 pub returns-in_err-take-clause-refused : goal.returns-in_err-take-clause-refused

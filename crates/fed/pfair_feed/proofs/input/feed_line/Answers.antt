@@ -1,6 +1,5 @@
 use Rattle.pfair_feed.proofs.Common.{Keeps-refl, refl, sym, ◌∙◌, arith}
-use Rattle.pfair_feed.proofs.Lines.{long_line}
-use Rattle.pfair_feed.proofs.Reading.{fed_none}
+use Rattle.pfair_feed.proofs.Lines.{long_line, fed_none}
 use Rattle.pfair_feed.proofs.input.feed_line.Goals as goal
 use Rattle.pfair_feed.proofs.input.feed_line.Goals.{then-line-gt-LONGEST_ROW, else-line-gt-LONGEST_ROW+in-Err}
 

@@ -1,4 +1,4 @@
-use Rattle.pfair_feed.proofs.OneWay.{lines_are_one}
+use Rattle.pfair_feed.proofs.ScriptRows.{lines_are_one}
 use Rattle.pfair_feed.proofs.laws.lines_are_one.Goals as goal
 
 pub returns : goal.returns

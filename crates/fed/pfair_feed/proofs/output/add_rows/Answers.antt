@@ -1,5 +1,5 @@
 use Rattle.pfair_feed.proofs.Common.{IsBookOf, lines_text, text_so_far, rows_in, Output, ◌++◌, ◌∙◌, sym, ap, arith}
-use Rattle.pfair_feed.proofs.Books.{book_first, book_whole, rows_on}
+use Rattle.pfair_feed.proofs.Going.{book_first, book_whole, rows_on}
 use Rattle.pfair_feed.proofs.output.add_rows.Goals as goal
 use Rattle.pfair_feed.proofs.output.add_rows.Goals.{in-Some, in-None+in_ok-known-in-None}
 

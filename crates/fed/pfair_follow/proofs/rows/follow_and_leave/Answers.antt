@@ -3,8 +3,7 @@ use Rattle.std.proofs.Common.{◌≡◌, true, false, refl, inl}
 use Rattle.pfair_feed.proofs.Lines.{if_err}
 use Rattle.pfair_follow.specs.declared.fault.FollowFault.TheVariants.{Program}
 use Rattle.pfair_follow.specs.Runs.{is_refused, IsEndOfLeaving}
-use Rattle.pfair_follow.proofs.Ends.{caught_up, ended}
-use Rattle.pfair_follow.proofs.States.{has_left, has_left_none, no_refusal}
+use Rattle.pfair_follow.proofs.Ends.{caught_up, ended, has_left, has_left_none, no_refusal}
 use Rattle.pfair_follow.proofs.rows.follow_and_leave.Goals as goal
 
 pub feed_rows-requires : goal.feed_rows-requires

@@ -1,8 +1,7 @@
 -- What the follower comes to is that of what it holds.
 use Rattle.std.proofs.Common.{false, refl}
 use Rattle.pfair_file.specs.declared.program_fault.ProgramFault.TheVariants.{Stalled}
-use Rattle.pfair_follow.proofs.Ends.{all_settled, caught_up, ended, err_as, if_err_then, on_both, on_ok_then, taken_all}
-use Rattle.pfair_follow.proofs.Scripts.{stalls, writes_its_script}
+use Rattle.pfair_follow.proofs.Ends.{all_settled, caught_up, ended, err_as, if_err_then, on_both, on_ok_then, taken_all, stalls, writes_its_script}
 use Rattle.pfair_follow.proofs.rows.follow_rows.Goals as goal
 
 pub feed_rows-requires : goal.feed_rows-requires

@@ -1,6 +1,6 @@
 -- What the next run begins with is what this one left.
 use Rattle.std.proofs.Common.{refl, inl, inr}
-use Rattle.pfair_follow.proofs.States.{left_there, no_memory}
+use Rattle.pfair_follow.proofs.Ends.{left_there, no_memory}
 use Rattle.pfair_follow.proofs.state.left_text.Goals as goal
 
 pub returns-in-Ok-clause-text : goal.returns-in-Ok-clause-text

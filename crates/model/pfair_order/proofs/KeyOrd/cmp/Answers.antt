@@ -1,5 +1,5 @@
 use Rattle.pfair_order.proofs.Common.{◌∙◌, sym, arith, common_steps}
-use Rattle.pfair_order.proofs.OrderLemmas.{goes_before, compares_less, same_key, compares_equal}
+use Rattle.pfair_order.proofs.KeyLaws.{goes_before, compares_less, same_key, compares_equal}
 use Rattle.pfair_order.proofs.KeyOrd.cmp.Goals as goal
 
 pub returns-clause-value : goal.returns-clause-value

@@ -1,4 +1,4 @@
-use Rattle.pfair_order.proofs.OrderLemmas.{goes_before, compares_less, same_key, compares_equal}
+use Rattle.pfair_order.proofs.KeyLaws.{goes_before, compares_less, same_key, compares_equal}
 use Rattle.pfair_order.proofs.laws.comparison_is_the_order.Goals as goal
 
 pub returns-clause-before : goal.returns-clause-before

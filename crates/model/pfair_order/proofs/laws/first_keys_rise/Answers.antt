@@ -1,6 +1,5 @@
 use Rattle.pfair_order.proofs.Common.{pd2_cmp, first_by_rank}
-use Rattle.pfair_order.proofs.OrderLemmas.{goes_before}
-use Rattle.pfair_order.proofs.KeyLaws.{keys_total}
+use Rattle.pfair_order.proofs.KeyLaws.{goes_before, keys_total}
 use Rattle.pfair_order.proofs.RankLemmas.{first_pairs}
 use Rattle.pfair_order.proofs.InOrder.{by_rank_first}
 use Rattle.pfair_order.proofs.laws.first_keys_rise.Goals as goal

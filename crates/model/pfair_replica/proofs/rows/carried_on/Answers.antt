@@ -1,5 +1,5 @@
 use Rattle.pfair_replica.proofs.Common.{arith}
-use Rattle.pfair_replica.proofs.Beginnings.{part_full, part_stops}
+use Rattle.pfair_replica.proofs.Following.{part_full, part_stops}
 use Rattle.pfair_replica.proofs.rows.carried_on.Goals as goal
 
 pub returns-in_default : goal.returns-in_default

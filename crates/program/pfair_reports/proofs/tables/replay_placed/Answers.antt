@@ -3,7 +3,7 @@ use Rattle.pfair_file.proofs.CommandFacts.{ends_cut, ends_well}
 use Rattle.pfair_table.specs.Script.{replica_of_logs}
 use Rattle.pfair_table.specs.Table.{plan}
 use Rattle.pfair_board.specs.Works.{has_kept}
-use Rattle.pfair_board.proofs.Rows.{kept_fit}
+use Rattle.pfair_board.proofs.Working.{kept_fit}
 use Rattle.pfair_reports.specs.Runs.{placed_replay_of_run}
 use Rattle.pfair_reports.proofs.RunFacts.{output_of_plan, places_made}
 use Rattle.pfair_reports.proofs.tables.replay_placed.Goals as goal

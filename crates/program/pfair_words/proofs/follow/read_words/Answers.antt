@@ -1,7 +1,7 @@
 -- What the parser makes of the words, at the line of `pfair_follow`.
 use Rattle.pfair_words.proofs.Common.{texts, ap, refl, Ok}
 use Rattle.pfair_words.specs.FollowAsked.{IsAnswerTo, IsText, line}
-use Rattle.pfair_words.proofs.Answered.{refused, taken, text}
+use Rattle.pfair_words.proofs.PlainFacts.{refused, taken, text}
 use Rattle.pfair_words.proofs.follow.read_words.Goals as goal
 
 pub returns-in_err-matches : goal.returns-in_err-matches

@@ -1,7 +1,6 @@
 -- What the parser makes of the words, at the line of `pfair`.
 use Rattle.pfair_words.proofs.Common.{Text, texts, HasCount, IsPlainAnswer, line, ProgramFault, ap, refl, List, IfOk, Result, Ok, IsAnswer, IsAnswerTo, IsText, Asked}
-use Rattle.pfair_words.proofs.Answered.{refused, taken, text}
-use Rattle.pfair_words.proofs.PlainFacts.{has_count, plain_answer}
+use Rattle.pfair_words.proofs.PlainFacts.{refused, taken, text, has_count, plain_answer}
 use Rattle.pfair_words.proofs.schedule.read_words.Goals as goal
 
 together : (words : List Text) (r : Result Asked ProgramFault) → IsAnswer words r → record { parsed : IsAnswer words r; plain : IsPlainAnswer words r; count : IfOk r HasCount }

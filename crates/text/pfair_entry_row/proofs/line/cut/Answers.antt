@@ -2,7 +2,7 @@ use Rattle.std.proofs.Common.{rules, tests}
 use Rattle.pfair_entry_row.proofs.Common.{slice_split_none, fails_before_first, arith, ◌≡◌, ◌==◌, length, cond, ltb, Some, None}
 use Rattle.std.proofs.lemmas.Iterator.{YieldsList-from_slice}
 use Rattle.std.proofs.lemmas.Iterator.Search.{position_from_yields_List}
-use Rattle.pfair_entry_row.proofs.Commas.{cut_there, first_of, no_place}
+use Rattle.pfair_entry_row.proofs.RowFields.{cut_there, first_of, no_place}
 use Rattle.pfair_entry_row.proofs.line.cut.Goals as goal
 
 pub returns-in_err-at-clause-parts : goal.returns-in_err-at-clause-parts

@@ -1,6 +1,6 @@
 use Rattle.pfair_entry_row.proofs.Common.{arith, ◌∙◌, sym}
 use Rattle.std.specs.Cmp.Lexicographic.{bytes_decides}
-use Rattle.pfair_entry_row.proofs.Numbers.{no_text, not_read, read_is}
+use Rattle.pfair_entry_row.proofs.RowFields.{no_text, not_read, read_is}
 use Rattle.pfair_entry_row.proofs.line.read_number.Goals as goal
 
 pub returns-in_err-ok : goal.returns-in_err-ok

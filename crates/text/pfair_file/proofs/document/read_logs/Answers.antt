@@ -1,4 +1,4 @@
-use Rattle.pfair_file.proofs.LogFacts.{closed-all-short}
+use Rattle.pfair_file.proofs.TableFacts.{closed-all-short}
 use Rattle.pfair_file.proofs.document.read_logs.Goals as goal
 
 pub returns-clause-short : goal.returns-clause-short

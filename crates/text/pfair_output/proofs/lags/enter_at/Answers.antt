@@ -2,7 +2,7 @@ use Rattle.pfair_output.proofs.Common.{◌≤◌, ◌+◌, sym, subst, arith, Sh
 use Rattle.std.proofs.lemmas.Nat.{mul-le}
 use Rattle.pfair_admission.specs.declared.members.TheConstants.Members.{LAST_SLOT}
 use Rattle.pfair_admission.specs.Carried.{CanBeCarried}
-use Rattle.pfair_admission.proofs.Successors.{able_at}
+use Rattle.pfair_admission.proofs.Registers.{able_at}
 use Rattle.pfair_output.proofs.lags.enter_at.Goals as goal
 
 pub enter_after-requires-clause-fits : goal.enter_after-requires-clause-fits

@@ -1,6 +1,6 @@
 use Rattle.pfair_output.proofs.Common.{option_map, empty_book, all_entered, Carried, Origin, ◌<◌, ◌≡◌, ◌∙◌, List, Some, length, take, ap, arith, Member}
 use Rattle.std.proofs.Math.Seq.{take-length}
-use Rattle.pfair_output.proofs.BookFacts.{begun_with, entered_next}
+use Rattle.pfair_output.proofs.WorldFacts.{begun_with, entered_next}
 use Rattle.pfair_output.proofs.lags.first_book.Goals as goal
 
 pub loop-place-preserved : goal.loop-place-preserved

@@ -1,6 +1,6 @@
 use Rattle.std.proofs.Common.{Option}
 use Rattle.pfair_output.proofs.Common.{slice_get_read, line, text_so_far, placed_row, ℕ, ◌≡◌, ◌<◌, ◌∙◌, ◌++◌, ap, arith, length, Some, slice_get, refl}
-use Rattle.pfair_output.proofs.PlacedFacts.{row_more}
+use Rattle.pfair_output.proofs.SlotFacts.{row_more}
 use Rattle.pfair_output.proofs.replay.add_table.Goals as goal
 
 pub loop-row-preserved : goal.loop-row-preserved

@@ -1,6 +1,6 @@
 use Rattle.pfair_output.proofs.Common.{lines_text, text_so_far, replay_header, table_rows, slots_from, ◌∙◌, sym, ap, arith, [], ◌∷◌}
 use Rattle.std.proofs.lemmas.Result.{on_ok_weaker}
-use Rattle.pfair_output.proofs.RunFacts.{slots_more, text_more}
+use Rattle.pfair_output.proofs.WorldFacts.{slots_more, text_more}
 use Rattle.pfair_output.proofs.replay.add_table_rows.Goals as goal
 
 pub returns-clause-more : goal.returns-clause-more

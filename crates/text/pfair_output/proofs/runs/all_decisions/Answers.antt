@@ -1,5 +1,5 @@
 use Rattle.pfair_output.proofs.Common.{replica_of, Replica, said, Settings, decisions, line, lines_text, text_so_far, decided_rows, decisions_header, ◌≡◌, ◌++◌, ◌∙◌, ap, arith, None}
-use Rattle.pfair_output.proofs.RunFacts.{decisions_more}
+use Rattle.pfair_output.proofs.WorldFacts.{decisions_more}
 use Rattle.pfair_output.proofs.runs.all_decisions.Goals as goal
 
 pub slots-preserved : goal.slots-preserved

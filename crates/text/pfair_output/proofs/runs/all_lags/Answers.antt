@@ -1,6 +1,5 @@
 use Rattle.pfair_output.proofs.Common.{Book, replica_of, Replica, said, Settings, table, decisions, line, text_so_far, lags_header, slot_booked, ◌≡◌, ◌∙◌, ap, arith, None}
-use Rattle.pfair_output.proofs.RunFacts.{book_more, lags_more}
-use Rattle.pfair_output.proofs.WorldFacts.{after_first}
+use Rattle.pfair_output.proofs.WorldFacts.{book_more, lags_more, after_first}
 use Rattle.pfair_output.proofs.runs.all_lags.Goals as goal
 
 pub book_slot-requires : goal.book_slot-requires

@@ -1,5 +1,5 @@
 use Rattle.pfair_output.proofs.Common.{frontier, Settings, decisions_text, ◌∙◌, ap, arith, decided_below}
-use Rattle.pfair_output.proofs.RunFacts.{all_slots}
+use Rattle.pfair_output.proofs.WorldFacts.{all_slots}
 use Rattle.pfair_output.proofs.runs.decisions_of_script.Goals as goal
 
 pub returns-clause-text : goal.returns-clause-text

@@ -1,5 +1,5 @@
 use Rattle.pfair_output.proofs.Common.{flat_map, frontier, numbers_below, Settings, lines_text, lag_rows, lags_header, ◌∙◌, ◌∷◌, ap, arith}
-use Rattle.pfair_output.proofs.RunFacts.{all_slots}
+use Rattle.pfair_output.proofs.WorldFacts.{all_slots}
 use Rattle.pfair_output.proofs.runs.lags_of_script.Goals as goal
 
 pub returns-clause-text : goal.returns-clause-text

@@ -1,5 +1,5 @@
 use Rattle.pfair_state.proofs.Common.{length-append, slice_get_within, as_late, Late, rules, arith, ◌≡◌, ◌+◌, [], ◌∷◌, None, Some, ap, sym, ◌∙◌, length, slice_get, common_steps}
-use Rattle.pfair_state.proofs.DelaysRead.{all_named, all_read, delay_read, other_name}
+use Rattle.pfair_state.proofs.MembersRead.{all_named, all_read, delay_read, other_name}
 use Rattle.pfair_state.proofs.read.delays_behind.Goals.{in-Some-Late+then-ne, in_default, in_default-2}
 use Rattle.pfair_state.proofs.read.delays_behind.Goals as goal
 

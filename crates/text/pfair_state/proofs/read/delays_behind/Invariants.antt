@@ -1,5 +1,5 @@
 use Rattle.pfair_state.proofs.Common.{◌+◌, ◌-◌, ◌≤◌, length}
-use Rattle.pfair_state.proofs.DelaysRead.{AreReadSoFar}
+use Rattle.pfair_state.proofs.MembersRead.{AreReadSoFar}
 use Rattle.pfair_state.proofs.read.delays_behind.Given as goal
 
 abbrev pub invariant-loop-late : goal.invariant-loop-late

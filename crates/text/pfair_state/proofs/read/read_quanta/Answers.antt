@@ -1,6 +1,6 @@
 use Rattle.std.proofs.Common.{cond}
 use Rattle.pfair_state.proofs.Common.{slice_get_within, with_row, as_quantum, Ran, ◌≡◌, arith, rules, None, Some, false, true, ap, sym, ◌∙◌}
-use Rattle.pfair_state.proofs.QuantaRead.{added, all_added, can}
+use Rattle.pfair_state.proofs.MembersRead.{added, all_added, can}
 use Rattle.pfair_state.proofs.read.read_quanta.Goals as goal
 
 pub returns-then-not-branch : goal.returns-then-not-branch

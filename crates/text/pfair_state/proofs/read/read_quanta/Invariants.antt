@@ -1,5 +1,5 @@
 use Rattle.pfair_state.proofs.Common.{◌-◌, ◌≤◌, length}
-use Rattle.pfair_state.proofs.QuantaRead.{AreAddedSoFar}
+use Rattle.pfair_state.proofs.MembersRead.{AreAddedSoFar}
 use Rattle.pfair_state.proofs.read.read_quanta.Given as goal
 
 abbrev pub invariant-loop-pick : goal.invariant-loop-pick

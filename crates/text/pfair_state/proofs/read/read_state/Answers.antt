@@ -1,7 +1,6 @@
 use Rattle.pfair_state.proofs.Common.{text_so_far, state_text, Carried, lines_text, fields_of, said_of, ℕ, map, ◌≡◌, ◌++◌, ◌∙◌, rules, sym, ap, List, []}
-use Rattle.pfair_state.proofs.DelaysRead.{other_name}
-use Rattle.pfair_state.proofs.RowsSaid.{rows_say}
-use Rattle.pfair_state.proofs.StateRead.{memory}
+use Rattle.pfair_state.proofs.MembersRead.{other_name}
+use Rattle.pfair_state.proofs.StateRead.{rows_say, memory}
 use Rattle.pfair_state.proofs.read.read_state.Goals as goal
 
 -- a state's text is that of the rows that say it

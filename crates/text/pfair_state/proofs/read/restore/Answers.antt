@@ -1,5 +1,5 @@
 use Rattle.pfair_admission.specs.Carried.{member_in}
-use Rattle.pfair_state.proofs.Carried.{left_on}
+use Rattle.pfair_state.proofs.MembersRead.{left_on}
 use Rattle.pfair_state.proofs.read.restore.Goals as goal
 
 pub returns-clause-left : goal.returns-clause-left

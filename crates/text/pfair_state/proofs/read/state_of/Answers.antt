@@ -1,5 +1,5 @@
 use Rattle.pfair_state.proofs.Common.{slice_get_within, Roster, AreLeftAt, Carried, End, ◌≡◌, ◌<◌, arith, rules, ap, None, Some, sym, subst, ◌∙◌, length}
-use Rattle.pfair_state.proofs.Carried.{none_left}
+use Rattle.pfair_state.proofs.MembersRead.{none_left}
 use Rattle.pfair_state.proofs.StateRead.{as_end, by_members, by_quanta, ends, memory, whole}
 use Rattle.pfair_state.proofs.read.state_of.Goals.{in_default-row_at-via-in-Some+in_default, in_default-row_at-via-in_default, then-count-rows+else-rows-end, else-count-rows}
 use Rattle.pfair_state.proofs.read.state_of.Goals as goal

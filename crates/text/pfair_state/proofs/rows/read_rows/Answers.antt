@@ -1,5 +1,5 @@
 use Rattle.pfair_state.proofs.Common.{Row, List, ap, arith, length, rules, sym, subst}
-use Rattle.pfair_state.proofs.RowsRead.{IsReadSoFar, all_read, begun, none_read, row_read}
+use Rattle.pfair_state.proofs.RowsSpelled.{IsReadSoFar, all_read, begun, none_read, row_read}
 use Rattle.pfair_state.proofs.rows.read_rows.Goals as goal
 
 pub loop-line-init : goal.loop-line-init

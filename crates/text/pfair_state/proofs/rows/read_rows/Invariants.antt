@@ -1,5 +1,5 @@
 use Rattle.pfair_state.proofs.Common.{length}
-use Rattle.pfair_state.proofs.RowsRead.{IsReadSoFar}
+use Rattle.pfair_state.proofs.RowsSpelled.{IsReadSoFar}
 use Rattle.pfair_state.proofs.rows.read_rows.Given as goal
 
 abbrev pub invariant-loop-line : goal.invariant-loop-line

@@ -1,4 +1,4 @@
-use Rattle.pfair_in_time.proofs.Planned.{dispatchers_never_miss}
+use Rattle.pfair_in_time.proofs.ThroughRuns.{dispatchers_never_miss}
 use Rattle.pfair_in_time.proofs.laws.dispatchers_never_miss.Goals as goal
 
 pub returns : goal.returns

@@ -1,4 +1,4 @@
-use Rattle.pfair_in_time.proofs.Lags.{lags_stay_within_one}
+use Rattle.pfair_in_time.proofs.ThroughRuns.{lags_stay_within_one}
 use Rattle.pfair_in_time.proofs.laws.lags_stay_within_one.Goals as goal
 
 pub returns : goal.returns

@@ -1,4 +1,4 @@
-use Rattle.pfair_in_time.proofs.Overload.{none_serves_more}
+use Rattle.pfair_in_time.proofs.LongRun.{none_serves_more}
 use Rattle.pfair_in_time.proofs.laws.none_serves_more.Goals as goal
 
 pub returns : goal.returns

@@ -1,4 +1,4 @@
-use Rattle.pfair_optimal.proofs.Beginnings.{beginning_none_misses, beginning_in_time}
+use Rattle.pfair_optimal.proofs.Counting.{beginning_none_misses, beginning_in_time}
 use Rattle.pfair_optimal.proofs.laws.beginnings_never_miss.Goals as goal
 
 pub returns : goal.returns

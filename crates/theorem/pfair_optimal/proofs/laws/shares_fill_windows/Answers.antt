@@ -1,5 +1,5 @@
 use Rattle.pfair_optimal.proofs.Common.{◌∙◌}
-use Rattle.pfair_optimal.proofs.Fluids.{share_le_cost, share_in_window, fluid_whole, total_is_fluid}
+use Rattle.pfair_optimal.proofs.BusyBounds.{share_le_cost, share_in_window, fluid_whole, total_is_fluid}
 use Rattle.pfair_optimal.proofs.laws.shares_fill_windows.Goals as goal
 
 pub returns : goal.returns

@@ -1,4 +1,4 @@
-use Rattle.pfair_optimal.proofs.Fluids.{shares_fit, shares_meet, no_three_shares}
+use Rattle.pfair_optimal.proofs.BusyBounds.{shares_fit, shares_meet, no_three_shares}
 use Rattle.pfair_optimal.proofs.laws.shares_fit_slots.Goals as goal
 
 pub returns : goal.returns

@@ -1,5 +1,5 @@
 use Rattle.pfair_board.proofs.Common.{plan, replica_of_logs, has_first, subst, arith, None}
-use Rattle.pfair_board.proofs.Rows.{first_is, kept_plan, not_failed}
+use Rattle.pfair_board.proofs.Working.{first_is, kept_plan, not_failed}
 use Rattle.pfair_board.proofs.dispatchers.run_dispatchers_into.Goals as goal
 
 pub unreachable-requires : goal.unreachable-requires

@@ -1,6 +1,5 @@
 use Rattle.pfair_board.proofs.Common.{plan, replica_of, capacity_of, replica_of_logs, IsFirstFault, ◌≡◌, ◌∙◌, sym, subst, None, IfOk, length}
-use Rattle.pfair_board.proofs.FirstFaults.{first_of, run_fault}
-use Rattle.pfair_board.proofs.Rows.{same_replica}
+use Rattle.pfair_board.proofs.Working.{first_of, run_fault, same_replica}
 use Rattle.pfair_board.proofs.dispatchers.run_on.Goals as goal
 
 pub returns-in-Some-clause-fault : goal.returns-in-Some-clause-fault

@@ -1,4 +1,4 @@
-use Rattle.pfair_board.proofs.Following as following
+use Rattle.pfair_board.proofs.Working as following
 use Rattle.pfair_board.proofs.laws.desks_follow_the_cells.Goals as goal
 
 pub returns-clause-tables : goal.returns-clause-tables

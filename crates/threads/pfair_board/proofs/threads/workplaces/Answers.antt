@@ -1,5 +1,5 @@
 use Rattle.pfair_board.proofs.Common.{into_iter_items, DeskState, IsWorkplaceOf, each_snoc, ◌≡◌, ◌+◌, ◌∷◌, [], rules, arith, ap, subst, add-one, length, slice_get, Some, vec_len, common_steps}
-use Rattle.pfair_board.proofs.Rows.{none_in_empty}
+use Rattle.pfair_board.proofs.Working.{none_in_empty}
 use Rattle.pfair_board.proofs.threads.workplaces.Goals as goal
 
 pub loop-desk-init : goal.loop-desk-init

@@ -1,5 +1,5 @@
 use Rattle.pfair_admission.proofs.Common.{sum_by, LAST_SLOT, Member, carried_delays, delays_from, ◌≡◌, ◌≤◌, ◌+◌, ◌-◌, ◌*◌, ap, subst, ◌∙◌, arith, IfOk}
-use Rattle.pfair_admission.proofs.Coming.{carried_offset}
+use Rattle.pfair_admission.proofs.Carrying.{carried_offset}
 use Rattle.pfair_admission.proofs.incarnation.Incarnation.carried.Goals as goal
 use Rattle.pfair_admission.proofs.incarnation.Incarnation.carried.Goals.{After-next-2}
 

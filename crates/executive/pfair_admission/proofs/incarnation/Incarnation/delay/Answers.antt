@@ -1,5 +1,5 @@
 use Rattle.pfair_admission.proofs.Common.{arith, nat_tests}
-use Rattle.pfair_admission.proofs.Delays.{theta_rises}
+use Rattle.pfair_admission.proofs.Carrying.{theta_rises}
 use Rattle.pfair_admission.proofs.incarnation.Incarnation.delay.Goals as goal
 use Rattle.pfair_admission.proofs.incarnation.Incarnation.delay.Goals.{then-release-slot, else-release-slot}
 

@@ -1,6 +1,6 @@
 use Rattle.pfair_admission.proofs.Common.{◌||◌, ◌==◌, unwrap_or, nat_cmp, Some, rules, Position, MAX_OFFSET, last_offset, member_of, IsIncarnation, ◌≡◌, ◌≤◌, ◌+◌, ◌++◌, ◌∷◌, [], refl, sym, ap, subst, arith, Inside}
 use Rattle.std.specs.BTreeMap as map
-use Rattle.pfair_admission.proofs.Delays.{theta_fits, own_fits, noted, now_put_off, later_put_off}
+use Rattle.pfair_admission.proofs.Carrying.{theta_fits, own_fits, noted, now_put_off, later_put_off}
 use Rattle.pfair_admission.proofs.incarnation.Incarnation.put_off.Goals as goal
 use Rattle.pfair_admission.proofs.incarnation.Incarnation.put_off.Goals.{then-index-next+in_ok-insert, else-index-next}
 

@@ -1,5 +1,5 @@
 use Rattle.pfair_admission.proofs.Common.{arith}
-use Rattle.pfair_admission.proofs.Delays.{stepped_fits, has_run}
+use Rattle.pfair_admission.proofs.Carrying.{stepped_fits, has_run}
 use Rattle.pfair_admission.proofs.incarnation.Incarnation.run_on.Goals as goal
 
 pub delay-requires : goal.delay-requires

@@ -1,6 +1,6 @@
 use Rattle.std.proofs.Common.{nat_le}
 use Rattle.pfair_admission.proofs.Common.{sum_by, MAX_OFFSET, ◌≤◌, ◌+◌, ap, arith}
-use Rattle.pfair_admission.proofs.Sums.{sum_filter}
+use Rattle.pfair_admission.proofs.MemberLists.{sum_filter}
 use Rattle.pfair_admission.proofs.incarnation.Incarnation.theta.Goals as goal
 use Rattle.pfair_admission.proofs.incarnation.Incarnation.theta.Goals.{After-delay_up_to}
 

@@ -1,7 +1,6 @@
 use Rattle.pfair_admission.proofs.Common.{lookup, insert_entry, insert_entry-new, name_eq, Member, listed, Numbered, ◌≡◌, List, ◌++◌, ◌∷◌, [], Result, Ok, Err, OnOk, Some, cond, length, length-append, ap, ◌∙◌, arith, nat_eq}
 use Rattle.pfair_admission.proofs.Deciding.{stood}
-use Rattle.pfair_admission.proofs.Kept.{ledger_joined, values_pushed}
-use Rattle.pfair_admission.proofs.Registers.{fresh}
+use Rattle.pfair_admission.proofs.Registers.{ledger_joined, values_pushed, fresh}
 use Rattle.pfair_admission.proofs.ledger.Ledger.add.Goals as goal
 use Rattle.pfair_admission.proofs.ledger.Ledger.add.Goals.{After-claim_of}
 

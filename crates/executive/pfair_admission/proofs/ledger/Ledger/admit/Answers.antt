@@ -1,9 +1,8 @@
 use Rattle.pfair_admission.proofs.Common.{CanJoin, Member, Membership, Admitted, arrival, newcomer, member_named, present, is_there, listed, refl, whole, None, ◌≡◌, ◌++◌, ◌∷◌, [], sym, ap, ◌∙◌, arith}
-use Rattle.pfair_admission.proofs.Deciding.{arrived, not_arrived, stood}
-use Rattle.pfair_admission.proofs.Kept.{can_join}
+use Rattle.pfair_admission.proofs.Deciding.{arrived, not_arrived, stood, taken}
+use Rattle.pfair_admission.proofs.Registers.{can_join}
 use Rattle.pfair_admission.proofs.MemberLists.{none_freed_present}
 use Rattle.pfair_admission.proofs.Restoring.{arrival_taken}
-use Rattle.pfair_admission.proofs.Written.{taken}
 use Rattle.pfair_admission.proofs.ledger.Ledger.admit.Goals as goal
 use Rattle.pfair_admission.proofs.ledger.Ledger.admit.Goals.{After-arrival_by_weight-decision}
 

@@ -1,5 +1,5 @@
 use Rattle.pfair_admission.proofs.Common.{listed, true, arith, ◌≡◌, ◌∙◌, ap, map, carried, CanJoin}
-use Rattle.pfair_admission.proofs.Successors.{able_at, all_listed, carried_joins, carried_more}
+use Rattle.pfair_admission.proofs.Registers.{able_at, all_listed, carried_joins, carried_more}
 use Rattle.pfair_admission.proofs.ledger.Ledger.carried.Goals as goal
 use Rattle.pfair_admission.proofs.ledger.Ledger.carried.Goals.{In_ok-carried}
 

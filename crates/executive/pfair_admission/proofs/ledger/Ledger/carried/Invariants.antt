@@ -1,4 +1,4 @@
-use Rattle.pfair_admission.proofs.Successors.{AreCarried}
+use Rattle.pfair_admission.proofs.Registers.{AreCarried}
 use Rattle.pfair_admission.proofs.ledger.Ledger.carried.Given as goal
 
 abbrev pub invariant-loop-place : goal.invariant-loop-place

@@ -1,8 +1,6 @@
 use Rattle.pfair_admission.proofs.Common.{whole, Late, values_of, set_value_at, is_freed, late_release, member_named, present, is_there, listed, rules, ◌≡◌, IfOk, sym, ap, ◌∙◌, arith, not}
-use Rattle.pfair_admission.proofs.Changes.{delayed_if_ok, is_written, late_like, stays_on_err, IsWritten}
-use Rattle.pfair_admission.proofs.Deciding.{if_decided, late_decided, late_same, none_decided, room_of_named, stood}
-use Rattle.pfair_admission.proofs.Kept.{ledger_written}
-use Rattle.pfair_admission.proofs.Written.{is_there_now, within, IsThere}
+use Rattle.pfair_admission.proofs.Deciding.{delayed_if_ok, is_written, late_like, stays_on_err, IsWritten, if_decided, late_decided, late_same, none_decided, room_of_named, stood, is_there_now, within, IsThere}
+use Rattle.pfair_admission.proofs.Registers.{ledger_written}
 use Rattle.pfair_admission.proofs.ledger.Ledger.delay.Goals as goal
 use Rattle.pfair_admission.proofs.ledger.Ledger.delay.Goals.{After-delay}
 

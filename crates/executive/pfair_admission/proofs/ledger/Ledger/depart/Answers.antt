@@ -1,9 +1,7 @@
 use Rattle.pfair_admission.proofs.Common.{whole, is_freed, not, refl, Bool, true, false, values_of, set_value_at, with_value_at, Share, units_of, Depart, Decision, departure, effect, member_named, present, earlier_of, is_there, listed, IsLedger, ◌≡◌, ℕ, ◌+◌, ◌-◌, ◌≤◌, cond, sym, ap, ◌∙◌, arith}
-use Rattle.pfair_admission.proofs.Changes.{departed, departed_like, is_written}
-use Rattle.pfair_admission.proofs.Deciding.{none_decided, stood}
-use Rattle.pfair_admission.proofs.Kept.{ledger_changed}
+use Rattle.pfair_admission.proofs.Deciding.{departed, departed_like, is_written, none_decided, stood, claimed_written, is_there_now, within, IsThere}
+use Rattle.pfair_admission.proofs.Registers.{ledger_changed}
 use Rattle.pfair_admission.proofs.MemberLists.{first_earlier, not_before_own}
-use Rattle.pfair_admission.proofs.Written.{claimed_written, is_there_now, within, IsThere}
 use Rattle.pfair_admission.proofs.ledger.Ledger.depart.Goals as goal
 use Rattle.pfair_admission.proofs.ledger.Ledger.depart.Goals.{After-claim_of, After-depart-decision, After-has_come}
 

@@ -1,5 +1,5 @@
 use Rattle.pfair_admission.proofs.Common.{same_Some, Member, is_freed, is_there, listed, ◌≡◌, ℕ, Bool, true, false, cond, Some, None, sym, ap, ◌∙◌, not}
-use Rattle.pfair_admission.proofs.Written.{only_named, within}
+use Rattle.pfair_admission.proofs.Deciding.{only_named, within}
 use Rattle.pfair_admission.proofs.ledger.Ledger.place_of.Goals as goal
 
 pub index-requires : goal.index-requires

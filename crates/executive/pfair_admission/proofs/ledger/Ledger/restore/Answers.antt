@@ -1,6 +1,6 @@
 use Rattle.pfair_admission.proofs.Common.{arrival, claimed, Member, CanJoin, Refusal, Refused, Admitted, listed, whole, member_in, ◌≡◌, true, List, ◌++◌, ◌∷◌, [], refl, sym, ap, ◌∙◌}
-use Rattle.pfair_admission.proofs.Kept.{can_join}
-use Rattle.pfair_admission.proofs.Written.{filter_all}
+use Rattle.pfair_admission.proofs.Registers.{can_join}
+use Rattle.pfair_admission.proofs.Deciding.{filter_all}
 use Rattle.pfair_admission.proofs.Restoring.{admitted_else, arrival_taken, is_left, left_at, name_found, name_free}
 use Rattle.pfair_admission.proofs.ledger.Ledger.restore.Goals as goal
 use Rattle.pfair_admission.proofs.ledger.Ledger.restore.Goals.{After-arrival_by_weight, In_ok-restored}

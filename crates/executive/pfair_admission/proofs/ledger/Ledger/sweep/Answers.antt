@@ -1,9 +1,7 @@
 use Rattle.pfair_admission.proofs.Common.{NoneFreedBefore, Share, units_of, values_of, claimed, present, NoneFreed, is_there, listed, Numbered, ◌≡◌, sym, ap, subst, ◌∙◌, arith}
-use Rattle.pfair_admission.proofs.Deciding.{product_fits, stood}
+use Rattle.pfair_admission.proofs.Deciding.{product_fits, stood, filter_again, filter_all}
 use Rattle.pfair_admission.proofs.MemberLists.{first_more, claimed_more, claimed_part, none_freed_before, none_freed_present, present_all}
-use Rattle.pfair_admission.proofs.Registers.{register_all, register_kept, values_kept}
-use Rattle.pfair_admission.proofs.Successors.{all_listed}
-use Rattle.pfair_admission.proofs.Written.{filter_again, filter_all}
+use Rattle.pfair_admission.proofs.Registers.{register_all, register_kept, values_kept, all_listed}
 use Rattle.pfair_admission.proofs.ledger.Ledger.sweep.Goals as goal
 use Rattle.pfair_admission.proofs.ledger.Ledger.sweep.Goals.{After-claim_of-claim, After-keep_present, Then-not-has_come}
 

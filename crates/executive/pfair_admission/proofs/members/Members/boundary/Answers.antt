@@ -1,9 +1,8 @@
 use Rattle.pfair_admission.proofs.Common.{MAX_HEARD, announcements, EachBounded, Roster, NoneFreed, Membership, decisions_on, is_there, listed, membership, ◌≡◌, ◌+◌, ◌-◌, length, sym, ap, subst, ◌∙◌, arith, IfOk}
 use Rattle.pfair_admission.proofs.Boundaries.{begun, bounded_later, bounded_present, decided_err, decided_ok, with_heard}
-use Rattle.pfair_admission.proofs.Deciding.{stood}
-use Rattle.pfair_admission.proofs.Kept.{kept_less, unswept_rest}
+use Rattle.pfair_admission.proofs.Deciding.{stood, filter_again}
+use Rattle.pfair_admission.proofs.Registers.{kept_less, unswept_rest}
 use Rattle.pfair_admission.proofs.MemberLists.{none_freed_present, present_all}
-use Rattle.pfair_admission.proofs.Written.{filter_again}
 use Rattle.pfair_admission.proofs.members.Members.boundary.Goals as goal
 use Rattle.pfair_admission.proofs.members.Members.boundary.Goals.{After-sweep}
 

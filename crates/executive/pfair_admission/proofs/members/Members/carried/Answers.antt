@@ -1,5 +1,5 @@
 use Rattle.pfair_admission.proofs.Common.{AllByRecursion, CanBeCarried, listed, Roster, EachBounded, subst, sym, ap, arith}
-use Rattle.pfair_admission.proofs.Successors.{bounded_carried}
+use Rattle.pfair_admission.proofs.Registers.{bounded_carried}
 use Rattle.pfair_admission.proofs.members.Members.carried.Goals as goal
 
 pub invariant_of-result : goal.invariant_of-result

@@ -1,5 +1,5 @@
 use Rattle.pfair_admission.proofs.Common.{option_copied, Member, member_named, listed, Roster, List, true, refl, sym, ap, ◌∙◌}
-use Rattle.pfair_admission.proofs.Written.{filter_all, is_there_now, within}
+use Rattle.pfair_admission.proofs.Deciding.{filter_all, is_there_now, within}
 use Rattle.pfair_admission.proofs.members.Members.get.Goals as goal
 
 pub returns-in_err-place : goal.returns-in_err-place

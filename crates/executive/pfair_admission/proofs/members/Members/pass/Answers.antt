@@ -1,7 +1,7 @@
 use Rattle.pfair_admission.proofs.Common.{EachBounded, Roster, Membership, listed, membership, ◌≡◌, Some, sym, ap, subst, ◌∙◌, arith}
 use Rattle.pfair_admission.proofs.Boundaries.{bounded_present}
 use Rattle.pfair_admission.proofs.Deciding.{stood}
-use Rattle.pfair_admission.proofs.Kept.{unswept_all}
+use Rattle.pfair_admission.proofs.Registers.{unswept_all}
 use Rattle.pfair_admission.proofs.MemberLists.{present_all}
 use Rattle.pfair_admission.proofs.members.Members.pass.Goals as goal
 use Rattle.pfair_admission.proofs.members.Members.pass.Goals.{After-sweep}

@@ -1,9 +1,8 @@
 use Rattle.std.proofs.Common.{is_some}
 use Rattle.pfair_admission.proofs.Common.{option_map, values_of, set_value_at, Member, member_named, quantum_of, ran, running, seatless, listed, Roster, ◌≡◌, List, Option, true, refl, sym, ap, ◌∙◌, arith, if◌then◌else◌}
 use Rattle.pfair_admission.proofs.Boundaries.{bounded_run}
-use Rattle.pfair_admission.proofs.Changes.{ran_like, ran_listed, roster_ran}
-use Rattle.pfair_admission.proofs.Kept.{ledger_written}
-use Rattle.pfair_admission.proofs.Written.{filter_all, is_there_now, length_written, within, IsThere}
+use Rattle.pfair_admission.proofs.Deciding.{ran_like, ran_listed, roster_ran, filter_all, is_there_now, length_written, within, IsThere}
+use Rattle.pfair_admission.proofs.Registers.{ledger_written}
 use Rattle.pfair_admission.proofs.members.Members.ran_on.Goals as goal
 use Rattle.pfair_admission.proofs.members.Members.ran_on.Goals.{After-run_on}
 

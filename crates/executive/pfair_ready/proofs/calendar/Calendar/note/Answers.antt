@@ -1,6 +1,5 @@
 use Rattle.pfair_ready.proofs.Common.{slice_get_read, Contains-append_left, Contains-append_right, Calendar, Date, IsHeap, Reverse, heap_items, in_bucket, later_cmp, ◌≡◌, ◌∷◌, [], inl, inr, refl, sym, ap, subst, ◌∙◌, List, length, arith, Contains, with_item}
-use Rattle.pfair_ready.proofs.HeapLemmas.{pushed_more, pushed_top}
-use Rattle.pfair_ready.proofs.CalendarLemmas.{near_there, keeps_far, keeps_near}
+use Rattle.pfair_ready.proofs.CalendarLemmas.{pushed_more, pushed_top, near_there, keeps_far, keeps_near}
 use Rattle.pfair_ready.proofs.calendar.Calendar.note.Goals as goal
 
 pub returns-in_err-push-in-Some-clause-keeps : goal.returns-in_err-push-in-Some-clause-keeps

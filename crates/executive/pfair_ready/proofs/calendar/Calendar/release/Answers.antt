@@ -1,6 +1,5 @@
 use Rattle.pfair_ready.proofs.Common.{Calendar, Date, IsNoted, Reverse, heap_items, inl, inr, ap}
-use Rattle.pfair_ready.proofs.DateLemmas.{moves_kept, moves_more, popped_order}
-use Rattle.pfair_ready.proofs.HeapLemmas.{popped, top_or_stays}
+use Rattle.pfair_ready.proofs.CalendarLemmas.{moves_kept, moves_more, popped_order, popped, top_or_stays}
 use Rattle.pfair_ready.proofs.calendar.Calendar.release.Goals as goal
 
 pub loop-date-preserved : goal.loop-date-preserved

@@ -1,7 +1,6 @@
 use Rattle.pfair_ready.proofs.Common.{length-map, Key, pd2_cmp, first_by_rank, IsCovered, Content, Queue, heap_items, released, List, map, min, ◌∙◌, ◌≡◌, ◌≤◌, ◌<◌, length, sym, subst, refl, arith, vec_capacity}
-use Rattle.pfair_ready.proofs.CoverLemmas.{covered_moved}
+use Rattle.pfair_ready.proofs.CalendarLemmas.{covered_moved, top_number}
 use Rattle.pfair_ready.proofs.Taking.{IsTaking, one_more, room_for, taking_none, taking_dead, taking_live, first_taken}
-use Rattle.pfair_ready.proofs.TurnLemmas.{top_number}
 use Rattle.pfair_ready.proofs.heap.HeapReady.select.Given.{Over}
 use Rattle.pfair_ready.proofs.heap.HeapReady.select.Goals as goal
 use Rattle.pfair_ready.proofs.heap.HeapReady.select.Goals.{After-release, else-turns-test, then-turns-test+in_default}

@@ -2,7 +2,7 @@ use Rattle.std.proofs.Common.{OnOk, Result, true≢false}
 use Rattle.pfair_ready.proofs.Common.{Content, Queue, HasTurn, IsCovered, heap_items, ◌≡◌, ◌≤◌, ◌⊎◌, inl, inr, refl, sym, ap, ◌∙◌, false, not, cond, ℕ, Option, Ok, Err, is_some}
 use Rattle.std.specs.Result.{is_err}
 use Rattle.std.specs.FinMap as finmap
-use Rattle.pfair_ready.proofs.CoverLemmas.{HasDate, covered_kept, covered_more, put_back}
+use Rattle.pfair_ready.proofs.CalendarLemmas.{HasDate, covered_kept, covered_more, put_back}
 use Rattle.pfair_ready.proofs.heap.HeapReadyReady.insert_seated.Goals as goal
 use Rattle.pfair_ready.proofs.heap.HeapReadyReady.insert_seated.Goals.{Joined-release-self, else-release-self, then-release-self}
 

@@ -1,5 +1,5 @@
 use Rattle.pfair_ready.proofs.Common.{heap_items, arith, common_steps}
-use Rattle.pfair_ready.proofs.CoverLemmas.{covered_none}
+use Rattle.pfair_ready.proofs.CalendarLemmas.{covered_none}
 use Rattle.pfair_ready.proofs.heap.HeapReadyReady.new.Goals as goal
 
 pub invariant_of-result : goal.invariant_of-result

@@ -1,5 +1,5 @@
 use Rattle.pfair_ready.proofs.Common.{heap_items}
-use Rattle.pfair_ready.proofs.CoverLemmas.{covered_less}
+use Rattle.pfair_ready.proofs.CalendarLemmas.{covered_less}
 use Rattle.pfair_ready.proofs.heap.HeapReadyReady.remove.Goals as goal
 
 pub invariant_of-self : goal.invariant_of-self

@@ -1,5 +1,5 @@
 use Rattle.pfair_ready.proofs.Common.{heap_items}
-use Rattle.pfair_ready.proofs.CoverLemmas.{covered_kept}
+use Rattle.pfair_ready.proofs.CalendarLemmas.{covered_kept}
 use Rattle.pfair_ready.proofs.heap.HeapReadyReady.reserve.Goals as goal
 
 pub invariant_of-self-2 : goal.invariant_of-self-2

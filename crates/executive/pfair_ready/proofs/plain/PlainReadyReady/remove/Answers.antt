@@ -1,7 +1,7 @@
 use Rattle.std.proofs.Common.{filter}
 use Rattle.pfair_ready.proofs.Common.{apart_filter, name_eq, queue_of, rules, ◌≡◌, not, sym, ap, ◌∙◌, filter_same, PlainEntry}
 use Rattle.std.specs.FinMap as finmap
-use Rattle.pfair_ready.proofs.PlainListLemmas.{name_of, contained, queue_of_filter, retain_but}
+use Rattle.pfair_ready.proofs.WaitingLemmas.{name_of, contained, queue_of_filter, retain_but}
 use Rattle.pfair_ready.proofs.plain.PlainReadyReady.remove.Goals as goal
 
 kept : (c : goal.After-retain) → c.retain.new.self.items ≡ filter (λ (w : PlainEntry). not (name_eq w.key.name c.args.name.now)) c.self.inside.waiting.items

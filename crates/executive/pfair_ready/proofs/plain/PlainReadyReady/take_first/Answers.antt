@@ -1,5 +1,5 @@
 use Rattle.pfair_ready.proofs.Common.{apart_filter, name_eq, list_any, Key, pd2_cmp, first_by_rank, released, without, queue_of, ◌≡◌, not, List, ap, subst, ◌∙◌, IsKLeast, by_cmp}
-use Rattle.pfair_ready.proofs.PlainListLemmas.{name_of, queue_of_filter, first_from_least, released_of}
+use Rattle.pfair_ready.proofs.WaitingLemmas.{name_of, queue_of_filter, first_from_least, released_of}
 use Rattle.pfair_ready.proofs.plain.PlainReadyReady.take_first.Goals as goal
 
 pub invariant_of-self-2 : goal.invariant_of-self-2

@@ -1,6 +1,6 @@
 use Rattle.pfair_table.proofs.Common.{Dispatch, sym, subst, IfErr}
 use Rattle.pfair_replica.specs.Faults.{IsMergeFaultOf}
-use Rattle.pfair_table.proofs.Steps.{kept_above}
+use Rattle.pfair_table.proofs.Keeping.{kept_above}
 use Rattle.pfair_table.proofs.ReadOn.{readings_above}
 use Rattle.pfair_table.proofs.dispatcher.Dispatcher.absorb.Goals as goal
 

@@ -1,6 +1,5 @@
 use Rattle.pfair_table.proofs.Common.{AllByRecursion, carried, CanBeCarried, said, replica_of, IsFinished, end_of, members_left, table_before, places_before, places_in, last_or, Dispatch, Carried, History, Table, machine, history, ◌∙◌, sym, ap, subst, arith, List, map, last_places, last_table}
-use Rattle.pfair_table.proofs.NextRuns.{carried_on, left_tables}
-use Rattle.pfair_table.proofs.States.{state_of}
+use Rattle.pfair_table.proofs.NextRuns.{carried_on, left_tables, state_of}
 use Rattle.pfair_table.proofs.dispatcher.Dispatcher.left.Goals as goal
 
 pub invariant_of-result : goal.invariant_of-result

@@ -1,5 +1,5 @@
 use Rattle.pfair_table.proofs.Common.{AllByRecursion, IsFit, Dispatch, subst}
-use Rattle.pfair_table.proofs.PlacesOn.{fit_plan}
+use Rattle.pfair_table.proofs.Alike.{fit_plan}
 use Rattle.pfair_table.proofs.dispatcher.Dispatcher.places.Goals as goal
 
 pub returns-clause-fit : goal.returns-clause-fit

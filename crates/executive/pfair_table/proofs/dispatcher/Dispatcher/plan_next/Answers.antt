@@ -1,9 +1,8 @@
 use Rattle.pfair_table.proofs.Common.{AllByRecursion, length-append, replica_of, numbers_below, untorn_by_test, is_plannable, with_next_slot, with_next, PlannedSlots, IsNext, Dispatch, Decided, IsInStep, IsKept, IsPlanOf, IsWholePlan, IsOrigin, IsFit, course_of, said, Replica, Settings, Origin, Table, table, decisions, history, last_or, table_before, places_before, places_in, places_after, each, ℕ, ◌≡◌, ◌<◌, ◌≤◌, ◌++◌, ◌∷◌, ◌+◌, [], ◌∙◌, sym, ap, subst, arith, false, length, List, map, if◌then◌else◌}
 use Rattle.pfair_table.proofs.Keeping.{is_of_held, plan_now, step_now, kept_next, whole_plan, next_planned, next_none, course_next, course_same}
-use Rattle.pfair_table.proofs.Members.{named_before}
-use Rattle.pfair_table.proofs.PlacesOn.{fit_before, fit_plan, last_fit, last_places, next_are}
+use Rattle.pfair_table.proofs.TableLaws.{named_before, ordered_from}
+use Rattle.pfair_table.proofs.Alike.{fit_before, fit_plan, last_fit, last_places, next_are}
 use Rattle.pfair_table.proofs.PlacesKept.{places_before_are}
-use Rattle.pfair_table.proofs.TableLaws.{ordered_from}
 use Rattle.pfair_table.proofs.dispatcher.Dispatcher.plan_next.Goals as goal
 
 fit_wider : (m : ℕ) (rows : Table) → m ≤ 64 → IsFit m rows → IsFit 64 rows

@@ -1,5 +1,5 @@
 use Rattle.pfair_table.proofs.Common.{sym}
-use Rattle.pfair_table.proofs.Steps.{kept_above}
+use Rattle.pfair_table.proofs.Keeping.{kept_above}
 use Rattle.pfair_table.proofs.ReadOn.{readings_above}
 use Rattle.pfair_table.proofs.dispatcher.Dispatcher.take.Goals as goal
 

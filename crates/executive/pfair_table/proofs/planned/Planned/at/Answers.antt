@@ -1,6 +1,6 @@
 use Rattle.pfair_table.proofs.Common.{slice_get_past, slice_get_read, option_map, places_in, PlannedSlots, tables_to, decided_to, ℕ, ◌+◌, ◌-◌, ◌≡◌, ◌∙◌, sym, ap, arith, refl, length, drop, map, slice_get, List, Option, Some, None, Bor, PlannedSlot}
 use Rattle.std.specs.Slice.{IsItemAt}
-use Rattle.pfair_table.proofs.Kept.{get_kept}
+use Rattle.pfair_table.proofs.Keeping.{get_kept}
 use Rattle.pfair_table.proofs.planned.Planned.at.Goals as goal
 
 -- what is lent of a list, if there is one, is the element there

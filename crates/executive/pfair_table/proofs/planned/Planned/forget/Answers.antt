@@ -1,5 +1,5 @@
 use Rattle.pfair_table.proofs.Common.{AreKept, ◌+◌, sym, subst, arith, List, PlannedSlot}
-use Rattle.pfair_table.proofs.Kept.{kept_without}
+use Rattle.pfair_table.proofs.Keeping.{kept_without}
 use Rattle.pfair_table.proofs.planned.Planned.forget.Goals as goal
 
 pub invariant_of-self : goal.invariant_of-self

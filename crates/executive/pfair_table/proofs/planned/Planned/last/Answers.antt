@@ -1,6 +1,6 @@
 use Rattle.pfair_table.proofs.Common.{slice_get_read, places_in, table_before, places_before, PlannedSlots, last_or, ◌-◌, ◌≡◌, refl, sym, ap, ◌∙◌, arith, length, Some, slice_get}
-use Rattle.pfair_table.proofs.Kept.{last_table_is, last_places_are}
-use Rattle.pfair_table.proofs.PlacesOn.{last_is}
+use Rattle.pfair_table.proofs.Keeping.{last_table_is, last_places_are}
+use Rattle.pfair_table.proofs.Alike.{last_is}
 use Rattle.pfair_table.proofs.planned.Planned.last.Goals.{After-deref-in-Some}
 use Rattle.pfair_table.proofs.planned.Planned.last.Goals as goal
 

@@ -1,5 +1,5 @@
 use Rattle.pfair_table.proofs.Common.{ReplicaRows, PlannedSlots, AreKept, IsNext, tables_to, decided_to, with_next, ◌+◌, ◌≡◌, ◌<◌, ◌∙◌, sym, ap, subst, arith, length, List, PlannedSlot}
-use Rattle.pfair_table.proofs.Kept.{kept_more, seen_more, tables_long}
+use Rattle.pfair_table.proofs.Keeping.{kept_more, seen_more, tables_long}
 use Rattle.pfair_table.proofs.planned.Planned.push.Goals as goal
 
 pub invariant_of-self-2 : goal.invariant_of-self-2

@@ -1,10 +1,9 @@
 use Rattle.pfair_table.proofs.Common.{AllByRecursion, NamesApart, MAX_INDEX, Said, replica_of, Replica, announcements, member_named, Member, Roster, apart_boundary, queued, is_said, IsSteady, heard_before, all_ran, List, Ok, false, ◌≤◌, ◌<◌, ◌≡◌, ◌+◌, ◌∙◌, sym, ap, subst, arith, suc, length}
 use Rattle.pfair_table.specs.Planning.{rows_at}
-use Rattle.pfair_table.proofs.NextIndexes.{each_boundary}
+use Rattle.pfair_table.proofs.TableLaws.{each_boundary, few_before, in_time, steady_next}
 use Rattle.pfair_table.proofs.QueueKept.{queue_after_boundary}
-use Rattle.pfair_table.proofs.Slots.{few_before, in_time, steady_next}
-use Rattle.pfair_table.proofs.Steps.{step_after, heard_fits}
-use Rattle.pfair_table.proofs.Within.{AreWithinLimits, said_within}
+use Rattle.pfair_table.proofs.Keeping.{step_after, heard_fits}
+use Rattle.pfair_table.proofs.NextRuns.{AreWithinLimits, said_within}
 use Rattle.pfair_table.proofs.planner.Planner.plan.Goals as goal
 
 pub slot_of-at-requires : goal.slot_of-at-requires

@@ -1,6 +1,5 @@
 use Rattle.pfair_table.proofs.Common.{none-some, Replica, empty_replica, ReplicaRows, replica_of, IsKept, AreReadingsOf, Settings, refl, sym, subst, arith, Bool, false, [], None}
-use Rattle.pfair_table.proofs.Keeping.{start_kept}
-use Rattle.pfair_table.proofs.Steps.{kept_above}
+use Rattle.pfair_table.proofs.Keeping.{start_kept, kept_above}
 use Rattle.pfair_table.proofs.slot_planner.SlotPlanner.new.Goals as goal
 
 pub invariant_of-result : goal.invariant_of-result

@@ -1,6 +1,6 @@
 use Rattle.pfair_table.proofs.Common.{Dispatch, ◌∙◌, sym, ap, arith, length, None}
-use Rattle.pfair_table.proofs.Kept.{tables_long}
-use Rattle.pfair_table.proofs.SlotPlanned.{within}
+use Rattle.pfair_table.proofs.Keeping.{tables_long}
+use Rattle.pfair_table.proofs.Alike.{within}
 use Rattle.pfair_table.proofs.slot_planner.SlotPlanner.next_slot.Goals as goal
 
 pub returns-clause-value : goal.returns-clause-value

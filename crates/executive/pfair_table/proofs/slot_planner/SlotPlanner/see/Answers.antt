@@ -1,5 +1,5 @@
 use Rattle.pfair_table.proofs.Common.{ReplicaRows, SameShape, replica_of, Below, AreReadingsOf, Dispatch, IsKept, tables_to, decided_to, sym, ap, subst, None}
-use Rattle.pfair_table.proofs.Steps.{kept_above}
+use Rattle.pfair_table.proofs.Keeping.{kept_above}
 use Rattle.pfair_table.proofs.ReadOn.{readings_above}
 use Rattle.pfair_table.proofs.slot_planner.SlotPlanner.see.Goals as goal
 

@@ -1,5 +1,5 @@
 use Rattle.pfair_table.proofs.Common.{IsState, is_used, names_task, Carried, Table, ◌∙◌, ap, sym, subst, arith, List, ℕ}
-use Rattle.pfair_table.proofs.States.{row_fits}
+use Rattle.pfair_table.proofs.NextRuns.{row_fits}
 use Rattle.pfair_table.proofs.state.State.add_row.Goals as goal
 
 pub invariant_of-self-in_default : goal.invariant_of-self-in_default

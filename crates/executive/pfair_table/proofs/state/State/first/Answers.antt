@@ -1,5 +1,5 @@
 use Rattle.pfair_table.proofs.Common.{Roster, AreLeftAt, sym, subst}
-use Rattle.pfair_table.proofs.States.{none_left}
+use Rattle.pfair_table.proofs.NextRuns.{none_left}
 use Rattle.pfair_table.proofs.state.State.first.Goals as goal
 
 pub new-requires-clause-members : goal.new-requires-clause-members

@@ -1,5 +1,5 @@
 use Rattle.pfair_table.proofs.Common.{ArePlacesOf, IsFit, Table, arith, sym, subst, List, ℕ}
-use Rattle.pfair_table.proofs.States.{no_rows}
+use Rattle.pfair_table.proofs.NextRuns.{no_rows}
 use Rattle.pfair_table.proofs.state.State.new.Goals as goal
 
 pub invariant_of-result : goal.invariant_of-result

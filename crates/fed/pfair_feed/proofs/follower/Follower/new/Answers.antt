@@ -1,5 +1,5 @@
 use Rattle.pfair_feed.proofs.Common.{Course, IsWholePlan, Follow, ◌∙◌, ap, length, None, subst, sym}
-use Rattle.pfair_feed.proofs.Planned.{whole_start}
+use Rattle.pfair_feed.proofs.Going.{whole_start}
 use Rattle.pfair_feed.proofs.follower.Follower.new.Goals as goal
 
 pub returns-clause-nothing : goal.returns-clause-nothing

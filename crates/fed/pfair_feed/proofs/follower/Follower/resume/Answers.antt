@@ -1,6 +1,6 @@
 use Rattle.pfair_feed.proofs.Common.{IsWholePlan, Follow, Some, subst, sym}
 use Rattle.pfair_table.specs.Places.{settings_from}
-use Rattle.pfair_feed.proofs.Planned.{whole_start}
+use Rattle.pfair_feed.proofs.Going.{whole_start}
 use Rattle.pfair_feed.proofs.follower.Follower.resume.Goals as goal
 
 pub returns-clause-whole : goal.returns-clause-whole

@@ -1,6 +1,5 @@
 use Rattle.pfair_feed.proofs.Common.{TakesPrefix, lines_text, Follow, news, rows_in, ℕ, List, Err, ◌≡◌, ◌∙◌, sym, ap, subst, WriteFailed}
-use Rattle.pfair_feed.proofs.Going.{own_err}
-use Rattle.pfair_feed.proofs.Books.{book_after_plans}
+use Rattle.pfair_feed.proofs.Going.{own_err, book_after_plans}
 use Rattle.pfair_feed.proofs.follower.Follower.take.Goals as goal
 
 pub invariant_of-self-in_err-plan_all : goal.invariant_of-self-in_err-plan_all

@@ -2,7 +2,7 @@ use Rattle.std.proofs.Common.{rules, sym, ◌∙◌, ap, refl, subst, Some, IsSo
 use Rattle.std.proofs.lemmas.Result.{on_ok_weaker, on_err_weaker}
 use Rattle.pfair_lattice.specs.Laws.{exact_cmp}
 use Rattle.pfair_lattice.specs.Entries.{get}
-use Rattle.pfair_lattice.proofs.AtKey.{joins_put, partly_put, partly_unchanged, absent, present, present_partly}
+use Rattle.pfair_lattice.proofs.SoFar.{joins_put, partly_put, partly_unchanged, absent, present, present_partly}
 use Rattle.pfair_lattice.proofs.join_map.JoinMap.put.Goals as goal
 
 pub returns-in-Some-clause-joined : goal.returns-in-Some-clause-joined

@@ -1,5 +1,5 @@
 use Rattle.pfair_replica.proofs.Common.{common_steps, held, replica_of, IsLeastMissing, missing, numbers_to, ◌≡◌, ◌<◌, ◌+◌, sym, ap, subst, arith, true, None, rules, is_none, find}
-use Rattle.pfair_replica.proofs.Listing.{find_none, find_first, missing_is_least}
+use Rattle.pfair_replica.proofs.TornKeys.{find_none, find_first, missing_is_least}
 use Rattle.pfair_replica.proofs.replica.Replica.missing.Goals as goal
 
 pub returns-then-is_none-clause-value : goal.returns-then-is_none-clause-value

@@ -1,7 +1,7 @@
 use Rattle.pfair_replica.proofs.Common.{replica_of, Replica, sound_beginning, said_behind, said_by, ◌+◌, ◌<◌, ◌++◌, refl, sym, ap, ◌∙◌, arith, length, append_assoc, Some, said_at}
 use Rattle.pfair_replica.proofs.Merging.{on_err_here}
-use Rattle.pfair_replica.proofs.SoundEntries.{entry_there, entry_is}
-use Rattle.pfair_replica.proofs.SaidBehind.{all_noted, noted_next, some_behind}
+use Rattle.pfair_replica.proofs.Marks.{entry_there, entry_is}
+use Rattle.pfair_replica.proofs.SaidListed.{all_noted, noted_next, some_behind}
 use Rattle.pfair_replica.proofs.replica.Replica.note_said.Goals as goal
 use Rattle.pfair_replica.proofs.replica.Replica.note_said.Goals.{in_default-via-in-Some+in_default, in_default-via-in_default}
 

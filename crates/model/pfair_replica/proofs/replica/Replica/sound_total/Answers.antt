@@ -1,5 +1,5 @@
 use Rattle.pfair_replica.proofs.Common.{replica_of, ◌∙◌}
-use Rattle.pfair_replica.proofs.AllBeginnings.{total_is}
+use Rattle.pfair_replica.proofs.Following.{total_is}
 use Rattle.pfair_replica.proofs.replica.Replica.sound_total.Goals as goal
 
 pub returns : goal.returns

@@ -1,5 +1,5 @@
 use Rattle.pfair_replica.proofs.Common.{length-replicate, arith, replicate}
-use Rattle.pfair_replica.proofs.AllBeginnings.{least_of_none, total_of_none}
+use Rattle.pfair_replica.proofs.Following.{least_of_none, total_of_none}
 use Rattle.pfair_replica.proofs.rows.Counters.new.Goals as goal
 
 pub invariant_of-result : goal.invariant_of-result

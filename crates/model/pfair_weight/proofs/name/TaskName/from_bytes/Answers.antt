@@ -1,5 +1,5 @@
 use Rattle.pfair_weight.proofs.Common.{arith, ◌≤◌, length, ◌∙◌, sym}
-use Rattle.pfair_weight.proofs.Padding.{is_name, name_stored, is_padded}
+use Rattle.pfair_weight.proofs.Length.{is_name, name_stored, is_padded}
 use Rattle.pfair_weight.proofs.name.TaskName.from_bytes.Goals as goal
 
 pub invariant_of-result : goal.invariant_of-result

@@ -1,5 +1,5 @@
 use Rattle.pfair_weight.proofs.Common.{common_steps, div_ceil, div_ceil_rises, mul-le, le_refl, MAX_CLOSE, arith, ◌≡◌, ◌+◌, ◌-◌, ◌*◌, ◌<◌, ◌≤◌, ap, Close}
-use Rattle.pfair_weight.proofs.Cascades.{grown, end_fits, more_of, more_between, ceiling_is}
+use Rattle.pfair_weight.proofs.Steppers.{grown, end_fits, more_of, more_between, ceiling_is}
 use Rattle.pfair_weight.proofs.stepper.Cascade.advance.Goals as goal
 use Rattle.pfair_weight.proofs.stepper.Cascade.advance.Goals.{After-ceiling}
 

@@ -1,5 +1,5 @@
 use Rattle.pfair_weight.proofs.Common.{common_steps, rounded_twice, arith}
-use Rattle.pfair_weight.proofs.Cascades.{ceiling_is}
+use Rattle.pfair_weight.proofs.Steppers.{ceiling_is}
 use Rattle.pfair_weight.proofs.stepper.Cascade.end.Goals as goal
 
 pub returns-clause-within : goal.returns-clause-within

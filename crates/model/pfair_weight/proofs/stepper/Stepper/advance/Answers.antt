@@ -1,7 +1,6 @@
 use Rattle.pfair_weight.proofs.Common.{common_steps, div_ceil, MAX_INDEX, div_ceil_rises, arith, ◌≡◌, ◌+◌, ◌*◌, ◌<◌, ◌≤◌, ap}
 use Rattle.pfair_weight.specs.Window.{Position}
-use Rattle.pfair_weight.proofs.Cascades.{ceiling_is}
-use Rattle.pfair_weight.proofs.Steppers.{group_kept, group_moves, next_stepped}
+use Rattle.pfair_weight.proofs.Steppers.{ceiling_is, group_kept, group_moves, next_stepped}
 use Rattle.pfair_weight.proofs.stepper.Stepper.advance.Goals as goal
 use Rattle.pfair_weight.proofs.stepper.Stepper.advance.Goals.{After-ceiling, in-Heavy, in_default}
 

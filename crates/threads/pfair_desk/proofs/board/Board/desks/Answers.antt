@@ -1,5 +1,5 @@
 use Rattle.pfair_desk.proofs.Common.{cell_name, BoardFrame, fresh_desk, state_of, ◌≡◌, ◌∙◌, ap, arith, map, sym, common_steps}
-use Rattle.pfair_desk.proofs.Rows.{each_snoc}
+use Rattle.pfair_desk.proofs.Following.{each_snoc}
 use Rattle.pfair_desk.proofs.board.Board.desks.Goals as goal
 
 -- one more fresh desk

@@ -1,5 +1,5 @@
 use Rattle.pfair_desk.proofs.Common.{arith}
-use Rattle.pfair_desk.proofs.NoteLists.{names_push, blank_push}
+use Rattle.pfair_desk.proofs.NotedLemmas.{names_push, blank_push}
 use Rattle.pfair_desk.proofs.board.Notes.of.Goals as goal
 
 pub loop-cell-preserved : goal.loop-cell-preserved

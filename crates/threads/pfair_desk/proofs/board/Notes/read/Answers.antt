@@ -1,5 +1,5 @@
 use Rattle.pfair_desk.proofs.Common.{arith}
-use Rattle.pfair_desk.proofs.NoteLists.{view_learned, view_same, unknown_at}
+use Rattle.pfair_desk.proofs.NotedLemmas.{view_learned, view_same, unknown_at}
 use Rattle.pfair_desk.proofs.board.Notes.read.Goals as goal
 
 pub returns-clause-none : goal.returns-clause-none

@@ -1,5 +1,5 @@
 use Rattle.pfair_desk.proofs.Common.{knowing, rules, ◌≡◌, sym, ◌∙◌, ap, None, slice_index_or}
-use Rattle.pfair_desk.proofs.NoteLists.{view_learned, view_same, unknown_at}
+use Rattle.pfair_desk.proofs.NotedLemmas.{view_learned, view_same, unknown_at}
 use Rattle.pfair_desk.proofs.board.Notes.set.Goals as goal
 
 pub returns-in_err-standing-clause-err : goal.returns-in_err-standing-clause-err

@@ -1,7 +1,6 @@
 use Rattle.pfair_desk.proofs.Common.{get_or_past, length-map, KnowMore, slice_set, ⊎_elim, arith}
 use Rattle.std.proofs.lemmas.Bool.{cases_lt}
-use Rattle.pfair_desk.proofs.NotedLemmas.{more_refl, more_trans}
-use Rattle.pfair_desk.proofs.NoteLists.{says, more_shared, shared_at, alike_at, seen_at}
+use Rattle.pfair_desk.proofs.NotedLemmas.{more_refl, more_trans, says, more_shared, shared_at, alike_at, seen_at}
 use Rattle.pfair_desk.proofs.board.Notes.share.Goals as goal
 
 pub loop-place-init : goal.loop-place-init

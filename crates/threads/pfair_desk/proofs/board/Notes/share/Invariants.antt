@@ -1,5 +1,5 @@
 use Rattle.pfair_desk.proofs.Common.{Logged, KnowMore, ◌≡◌, ◌<◌, ℕ, None, Some, slice_index_or}
-use Rattle.pfair_desk.proofs.NoteLists.{says}
+use Rattle.pfair_desk.proofs.NotedLemmas.{says}
 use Rattle.pfair_desk.proofs.board.Notes.share.Given as goal
 
 -- what the other list knows of the cells so far is known

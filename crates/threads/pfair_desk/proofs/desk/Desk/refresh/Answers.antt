@@ -1,5 +1,5 @@
 use Rattle.pfair_desk.proofs.Common.{arith}
-use Rattle.pfair_desk.proofs.Gains.{row_alike, rows_alike, same_trans, no_gap_on}
+use Rattle.pfair_desk.proofs.Following.{row_alike, rows_alike, same_trans, no_gap_on}
 use Rattle.pfair_desk.proofs.desk.Desk.refresh.Goals as goal
 
 -- want of memory in a row

@@ -1,5 +1,5 @@
 use Rattle.pfair_desk.proofs.Common.{One, held, replica_of, DeskView, state_of, learned, gained_in_row, ◌≡◌, ◌+◌, ◌-◌, ap, sym, ◌∙◌, arith, refl, Ok, Some, true, false, is_none, is_some, cond}
-use Rattle.pfair_desk.proofs.Gains.{row_full, row_same, row_step, same_trans, same_learned, none_of, look_other, is_some_some, beginning_held}
+use Rattle.pfair_desk.proofs.Following.{row_full, row_same, row_step, same_trans, same_learned, none_of, look_other, is_some_some, beginning_held}
 use Rattle.pfair_desk.proofs.desk.Desk.refresh_row.Goals as goal
 
 pub loop-number-init : goal.loop-number-init
