@@ -1,6 +1,8 @@
 -- The numbers of members and the names that lead to them, and what the ledger keeps of them.
 use Rattle.std.proofs.Common.{filter, is_some, position, ◌^◌}
-use Rattle.pfair_admission.proofs.Common.{AllByRecursion, IsDistinct, keys_of, values_of, lookup, all_by_recursion_push, nat_tests, same_Some, none-some, slice_get-get_or, insert_entry, set_value_at, NameValue, name_eq, Member, is_named, member_named, NoneFreed, has_number, is_there, IsFound, IsNamedIn, IsNumberOf, IsOnly, IsRegister, Numbered, ◌≡◌, ℕ, zero, suc, ◌+◌, ◌<◌, Bool, true, false, cond, List, [], ◌∷◌, ◌++◌, Option, IfSome, Some, None, refl, sym, ap, subst, ◌∙◌, arith, nat_eq, not, slice_get, whole, CanJoin, common_steps, sum_by_push, with_value_at, filter-append, units_of, Admitted, arrival, claimed, earlier_of, IsNotBefore, NoneFreedBefore, listed, IsLedger, IsUnswept, Ledger, Membership, length-append, map-append, LONGEST_DELAY, LAST_SLOT, last_offset, carried, CanBeCarried, EachBounded, ◌*◌, ◌≤◌, length, map, take}
+use Rattle.pfair_admission.specs.Ledger.{roster_of}
+use Rattle.pfair_admission.specs.declared.members.Members.TheInside.{Inside}
+use Rattle.pfair_admission.proofs.Common.{Roster, AllByRecursion, IsDistinct, keys_of, values_of, lookup, all_by_recursion_push, nat_tests, same_Some, none-some, slice_get-get_or, insert_entry, set_value_at, NameValue, name_eq, Member, is_named, member_named, NoneFreed, has_number, is_there, IsFound, IsNamedIn, IsNumberOf, IsOnly, IsRegister, Numbered, ◌≡◌, ℕ, zero, suc, ◌+◌, ◌<◌, Bool, true, false, cond, List, [], ◌∷◌, ◌++◌, Option, IfSome, Some, None, refl, sym, ap, subst, ◌∙◌, arith, nat_eq, not, slice_get, whole, CanJoin, common_steps, sum_by_push, with_value_at, filter-append, units_of, Admitted, arrival, claimed, earlier_of, IsNotBefore, NoneFreedBefore, listed, IsLedger, IsUnswept, Ledger, Membership, length-append, map-append, LONGEST_DELAY, LAST_SLOT, last_offset, carried, CanBeCarried, EachBounded, ◌*◌, ◌≤◌, length, map, take}
 use Rattle.std.specs.Cmp.Lexicographic.{bytes_decides}
 use Rattle.std.proofs.lemmas.List.Quantifiers.{position-Some}
 use Rattle.pfair_admission.proofs.MemberLists.{each, each_kept, both, claimed_present, first_earlier, not_before_own, present_all, claimed_carried, claimed_part, take_one, each_map}
@@ -306,11 +308,12 @@ unswept_rest t a k = grind (arith, claimed_present)
 -- The members of a next run, numbered anew.
 
 -- the first members are carried
-pub record AreCarried (a : Ledger) (place : ℕ) (next : Ledger) : Type 0 where
-  pub members : listed next ≡ map carried (take place (listed a))
-  pub processors : next.processors ≡ a.processors
-  pub frame : next.frame ≡ a.frame
+pub record AreCarried (r : Roster) (place : ℕ) (next : Ledger) : Type 0 where
+  pub members : listed next ≡ map carried (take place r.members)
+  pub processors : next.processors ≡ r.machine.processors
+  pub frame : next.frame ≡ r.machine.frame
   pub admitted : next.admitted ≡ place
+  pub numbers : next.admitted ≡ length (listed next)
   pub kept : IsLedger (λ _. true) next
 
 -- ---- no name stands twice
@@ -340,8 +343,9 @@ unnamed admitted es names place m r here = grind (arith, others_named, map, carr
 
 -- ---- one more is carried
 
-pub carried_joins : (a next : Ledger) (place : ℕ) (m n : Member) → IsLedger (λ _. true) a → slice_get (listed a) place ≡ Some m → n ≡ carried m → place + 1 < 2 ^ 64 → AreCarried a place next → CanJoin (λ _. true) next n
-carried_joins a next place m n k here is few s =
+pub carried_joins : (i : Inside) (next : Ledger) (place : ℕ) (m n : Member) → IsLedger (λ _. true) i.ledger → slice_get (listed i.ledger) place ≡ Some m → n ≡ carried m → place + 1 < 2 ^ 64 → AreCarried (roster_of i) place next → CanJoin (λ _. true) next n
+carried_joins i next place m n k here is few s =
+    let a = i.ledger in
     rw is (record {
       kept = s.kept;
       numbers = omega (arith, few, s.admitted);
@@ -350,10 +354,10 @@ carried_joins a next place m n k here is few s =
       room = grind (arith, claimed_part, filter_all, claimed_carried);
     })
 
-pub carried_more : (a next after : Ledger) (place : ℕ) (m n : Member) → slice_get (listed a) place ≡ Some m → n ≡ carried m → AreCarried a place next → whole after ≡ record (whole next) { members = listed next ++ n ∷ [] }
-    → after.admitted + length (listed next) ≡ next.admitted + length (listed after) → IsLedger (λ _. true) after → AreCarried a (place + 1) after
-carried_more a next after place m n here is s all numbers kept =
-    let ms : List Member = listed a in
+pub carried_more : (r : Roster) (next after : Ledger) (place : ℕ) (m n : Member) → slice_get r.members place ≡ Some m → n ≡ carried m → AreCarried r place next → whole after ≡ record (whole next) { members = listed next ++ n ∷ [] }
+    → after.admitted + length (listed next) ≡ next.admitted + length (listed after) → IsLedger (λ _. true) after → AreCarried r (place + 1) after
+carried_more r next after place m n here is s all numbers kept =
+    let ms : List Member = r.members in
     let members = ap (λ (x : Membership). x.members) all in
     let longer = ap (λ (l : List Member). length l) members in
     record {
@@ -363,6 +367,7 @@ carried_more a next after place m n here is s all numbers kept =
       processors = ap (λ (x : Membership). x.machine.processors) all ∙ s.processors;
       frame = ap (λ (x : Membership). x.machine.frame) all ∙ s.frame;
       admitted = omega (arith, longer, length-append (listed next) (n ∷ []), numbers, s.admitted);
+      numbers = omega (arith, numbers, s.numbers);
       kept = kept;
     }
 
@@ -374,6 +379,10 @@ able_at ms place m at able = at_each CanBeCarried ms place m able at
 -- all are listed
 pub all_listed : (es : Numbered) (n : ℕ) → n ≡ length es → take n (values_of es) ≡ values_of es
 all_listed es n is = grind (arith, common_steps)
+
+-- all are carried
+pub all_carried : (i : Inside) (r : Roster) (place : ℕ) (next : Ledger) → roster_of i ≡ r → place ≡ length i.ledger.members.entries → AreCarried r place next → listed next ≡ map carried r.members
+all_carried i r place next view end s = grind (arith, common_steps)
 
 -- with no announcement counted the offsets are within the last slot of a boundary
 pub bounded_carried : (ms : List Member) → AllByRecursion CanBeCarried ms → EachBounded 0 (map carried ms)

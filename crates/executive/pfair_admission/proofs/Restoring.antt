@@ -1,6 +1,6 @@
 -- What a run can leave, and whether it is restored.
 use Rattle.std.proofs.Common.{is_some, nat_le}
-use Rattle.pfair_admission.proofs.Common.{common_steps, list_all, values_of, all_by_recursion_push, nat_tests, sum_by-cons, Delay, Member, IsWeight, Share, Decision, Admitted, Refused, IsFound, Numbered, EachBounded, Membership, arrival, is_freed, member_named, Machine, as_one, carried, coming_delays, delays_from, jobs_done, passed_delays, subtasks_done, IsNotBefore, is_left_at, is_summed_up, CanBeRestored, IsLeftAt, ◌≡◌, ℕ, ◌+◌, ◌-◌, ◌*◌, ◌<◌, ◌≤◌, Bool, true, false, List, [], ◌∷◌, ◌++◌, length, length-append, map, Option, Some, None, Result, Ok, Err, OnOk, OnErr, refl, sym, ap, subst, ◌∙◌, arith, div-eq_of_lt, Refusal, NameTaken, AllByRecursion, sum_by-append, sum_by_push, NamesApart, units_of, claimed, CanBeCarried, ◌%◌, cond, nat_list_eq_equiv, apart_head, apart_push, apart_tail, AreInFrame, HaveRoom}
+use Rattle.pfair_admission.proofs.Common.{common_steps, list_all, values_of, all_by_recursion_push, nat_tests, sum_by-cons, Delay, Member, IsWeight, Share, Decision, Admitted, Refused, IsFound, Numbered, EachBounded, Membership, arrival, is_freed, member_named, Machine, as_one, carried, coming_delays, delays_from, jobs_done, passed_delays, subtasks_done, IsNotBefore, is_left_at, is_summed_up, CanBeRestored, IsLeftAt, ◌≡◌, ℕ, ◌+◌, ◌-◌, ◌*◌, ◌<◌, ◌≤◌, Bool, true, false, List, [], ◌∷◌, ◌++◌, length, length-append, map, Option, Some, None, refl, sym, ap, ◌∙◌, arith, div-eq_of_lt, Refusal, NameTaken, AllByRecursion, sum_by-append, sum_by_push, NamesApart, units_of, claimed, CanBeCarried, ◌%◌, cond, nat_list_eq_equiv, apart_head, apart_push, apart_tail, AreInFrame, HaveRoom}
 use Rattle.pfair_admission.proofs.Carrying.{done_low, lowered_by_none, next_low, able_again, carried_again}
 use Rattle.pfair_admission.proofs.Deciding.{filter_all, only_named, admitted_new, admitted_room}
 use Rattle.pfair_entry.specs.Entry.{name_eq}
@@ -96,14 +96,11 @@ admitted_else machine ms name w d is other = grind arith
 pub length_values : (es : Numbered) → length (values_of es) ≡ length es
 length_values es = grind (arith, common_steps)
 
-pub length_restored : {A E : Type 0} (r : Result A E) (old new : Membership) (m : Member) → OnOk r (new ≡ record old { members = old.members ++ m ∷ [] }) → OnErr r (new ≡ old) → length new.members ≤ length old.members + 1
-length_restored (Ok x) old new m is same = let more = ap (λ (s : Membership). length s.members) is in omega (arith, more, length-append old.members (m ∷ []))
-length_restored (Err e) old new m is same = let more = ap (λ (s : Membership). length s.members) same in omega (arith, more)
+pub length_joined : (old new : Membership) (m : Member) → new ≡ record old { members = old.members ++ m ∷ [] } → length new.members ≡ length old.members + 1
+length_joined old new m is = let more = ap (λ (s : Membership). length s.members) is in omega (arith, more, length-append old.members (m ∷ []))
 
-pub bounded_restored : {A E : Type 0} (r : Result A E) (heard t : ℕ) (machine : Machine) (old new : Membership) (m : Member) → OnOk r (CanBeRestored machine t old.members m) → OnOk r (new ≡ record old { members = old.members ++ m ∷ [] })
-    → OnErr r (new ≡ old) → EachBounded heard old.members → EachBounded heard new.members
-bounded_restored (Ok x) heard t machine old new m fit is same h = grind (arith, all_by_recursion_push)
-bounded_restored (Err e) heard t machine old new m fit is same h = subst (λ (s : Membership). EachBounded heard s.members) (sym same) h
+pub bounded_joined : (heard t : ℕ) (machine : Machine) (old new : Membership) (m : Member) → CanBeRestored machine t old.members m → new ≡ record old { members = old.members ++ m ∷ [] } → EachBounded heard old.members → EachBounded heard new.members
+bounded_joined heard t machine old new m fit is h = grind (arith, all_by_recursion_push)
 
 -- The members that a run begins with, restored one behind the other.
 

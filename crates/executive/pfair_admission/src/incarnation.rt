@@ -2,7 +2,7 @@
 ghost use Rattle.std.specs.Prelude.{◌≡◌, ◌≤◌, ◌<◌, ◌+◌, ◌-◌, ◌*◌, ◌↔◌, IsTrue, Some, IfOk, OnOk, OnErr, nat_lt};
 ghost use Rattle.pfair_weight.specs.Window.{release_of};
 ghost use Rattle.pfair_admission.specs.Member.{IsMember, last_offset, theta, is_departing, lag_at, eligible_from, next_key, busy_until, freeing_slot};
-ghost use Rattle.pfair_admission.specs.Admission.{newcomer, with_delay, is_freed, departure, late_release, running, quantum_of, seatless, after_departure, after_late_release, after_quantum};
+ghost use Rattle.pfair_admission.specs.Admission.{with_delay, is_freed, departure, late_release, running, quantum_of, seatless, after_departure, after_late_release, after_quantum};
 ghost use Rattle.pfair_admission.specs.Carried.{carried, jobs_done, CanBeCarried, member_in};
 ghost use Rattle.std.specs.Option.{option_map};
 
@@ -52,24 +52,6 @@ impl Model for Incarnation {
 }
 
 impl Incarnation {
-    /// A task that joins at `slot` and has not run.
-    pub(crate) fn new(alloc: Global, name: TaskName, weight: Weight, early: bool, slot: u64) -> Self
-        requires { slot ≤ MAX_OFFSET }
-        ensures { result ≡ newcomer slot name weight early }
-    {
-        Incarnation {
-            name,
-            weight,
-            early,
-            joined: slot,
-            delays: Vec::new(alloc),
-            stepper: Stepper::new(weight, slot),
-            is_put_off: false,
-            coming: BTreeMap::new(alloc),
-            freed_at: None,
-        }
-    }
-
     /// Returns the task's name.
     pub fn name(&self) -> &TaskName
         ensures value { result.now ≡ self.now.name }
@@ -281,15 +263,16 @@ impl Incarnation {
         self.weight.cost() <= Entry::LAST_INDEX && leaves_room(&self.delays, joined)
     }
 
-    /// The member of a next run, with its indexes lowered by whole jobs.
-    pub(crate) fn carried(&self, alloc: Global) -> Result<Incarnation, AllocError>
+    /// Its state in a next run, with its indexes lowered by whole jobs.
+    pub(crate) fn carried(&self, alloc: Global) -> Result<MemberState, AllocError>
         requires { CanBeCarried self.now }
-        ensures { IfOk result (λ m. m ≡ carried self.now) }
+        ensures state { IfOk result (λ s. member_in s ≡ carried self.now) }
+        ensures member { IfOk result (λ s. IsMember (member_in s)) }
     {
         let jobs = self.jobs_done();
         let subtasks = jobs * self.weight.cost();
         let delays = carried_delays(alloc, &self.delays, self.next(), subtasks)?;
-        let state = MemberState {
+        Ok(MemberState {
             name: self.name,
             weight: self.weight,
             early: self.early,
@@ -297,8 +280,7 @@ impl Incarnation {
             next: self.next() - subtasks,
             freed_at: self.freed_at,
             delays,
-        };
-        Incarnation::restored(alloc, state)
+        })
     }
 
     /// The member in that state.
@@ -306,15 +288,17 @@ impl Incarnation {
         requires { IsMember (member_in state) }
         ensures { IfOk result (λ m. m ≡ member_in state) }
     {
-        let mut member = Incarnation::new(
-            alloc,
-            state.name,
-            state.weight,
-            state.early,
-            state.joined,
-        );
-        member.stepper = Stepper::at(state.weight, state.next, state.joined);
-        member.freed_at = state.freed_at;
+        let mut member = Incarnation {
+            name: state.name,
+            weight: state.weight,
+            early: state.early,
+            joined: state.joined,
+            delays: Vec::new(alloc),
+            stepper: Stepper::at(state.weight, state.next, state.joined),
+            is_put_off: false,
+            coming: BTreeMap::new(alloc),
+            freed_at: state.freed_at,
+        };
         for delay in &state.delays {
             member.put_off(delay.index, delay.by)?;
         }

@@ -5,7 +5,7 @@ ghost use Rattle.indexmap.specs.IndexMap.{values, IsUnique};
 ghost use Rattle.pfair_weight.specs.Window.{units_of};
 ghost use Rattle.pfair_entry.specs.Entry.{IsWithinLimits};
 ghost use Rattle.pfair_entry.specs.declared.entry.Announcement.TheVariants.{Arrive, Depart, Late};
-ghost use Rattle.pfair_admission.specs.Member.{Member};
+ghost use Rattle.pfair_admission.specs.Member.{IsMember, Member};
 ghost use Rattle.pfair_admission.specs.Admission.{member_named, arrival, announcements, claimed, present, earlier_of, NoneFreed, NoneFreedBefore, EachHasRoom};
 ghost use Rattle.pfair_admission.specs.Carried.{carried, CanBeCarried, member_in, CanBeRestored, IsRestoreFault};
 ghost use Rattle.pfair_admission.specs.Ledger.{after, after_all, decisions_on, has_number, is_there, listed, membership, decision_on, whole, CanDecide, CanJoin, HasDecided, HasRegister, IsArrivalByWeight, IsDecided, IsFound, IsLedger, IsPlace, IsUnswept};
@@ -42,6 +42,26 @@ pub(crate) struct Ledger {
 }
 
 impl Ledger {
+    /// Creates a ledger without members. Allocates nothing.
+    pub(crate) fn new(alloc: Global, processors: u8, frame: u64) -> Self
+        requires few_processors { processors ≤ Members.MAX_PROCESSORS }
+        requires short_frame { frame ≤ Members.MAX_FRAME }
+        ensures machine { (result.processors ≡ processors) × (result.frame ≡ frame) }
+        ensures members { (listed result ≡ []) × (result.admitted ≡ 0) }
+        ensures kept { IsLedger (λ _. true) result }
+    {
+        Ledger {
+            alloc,
+            processors,
+            frame,
+            members: IndexMap::new(alloc),
+            names: IndexMap::new(alloc),
+            admitted: 0,
+            claim: 0,
+            first_freeing: None,
+        }
+    }
+
     /// Returns where the latest member of that name is in the order of admission.
     pub(crate) fn find(&self, name: &TaskName) -> Option<usize>
         ensures { (counts : Member → Bool) → HasRegister counts self.now → IsFound counts name.now (listed self.now) result }
@@ -77,8 +97,17 @@ impl Ledger {
         if !has_come(self.first_freeing, slot) {
             return;
         }
-        keep_present(&mut self.members, slot);
-        keep_names(&mut self.names, &self.members);
+        self.members.retain(
+            |_number: &u64, member: &mut Incarnation| -> bool
+                ensures { (result ≡ is_there slot member.old) × (member.new ≡ member.old) }
+            { !has_come(member.freed_at(), slot) },
+        );
+        let members = &self.members;
+        self.names.retain(
+            |_name: &TaskName, number: &mut u64| -> bool
+                ensures { (result ≡ has_number number.old members.entry.now.entries) × (number.new ≡ number.old) }
+            { members.contains_key(&*number) },
+        );
         let mut claim = 0;
         let mut first = None;
         for place in 0..self.members.len() {
@@ -152,23 +181,33 @@ impl Ledger {
         }
         let decision = self.arrival_by_weight(weight);
         if let Decision::Admitted = decision {
-            self.add(Incarnation::new(self.alloc, name, weight, early, slot))?;
+            self.add(MemberState {
+                name,
+                weight,
+                early,
+                joined: slot,
+                next: 1,
+                freed_at: None,
+                delays: Vec::new(self.alloc),
+            })?;
         }
         Ok(decision)
     }
 
-    // Adds a member behind the others.
-    fn add(&mut self, member: Incarnation) -> Result<(), AllocError>
-        requires { (counts : Member → Bool) × CanJoin counts self.old member }
-        ensures members { OnOk result (whole self.new ≡ record (whole self.old) { members = listed self.old ++ member ∷ [] }) }
+    /// Adds a member in that state behind the others.
+    pub(crate) fn add(&mut self, state: MemberState) -> Result<(), AllocError>
+        requires member { IsMember (member_in state) }
+        requires room { (counts : Member → Bool) × CanJoin counts self.old (member_in state) }
+        ensures members { OnOk result (whole self.new ≡ record (whole self.old) { members = listed self.old ++ member_in state ∷ [] }) }
         ensures err { OnErr result (whole self.new ≡ whole self.old) }
-        ensures kept { (counts : Member → Bool) → CanJoin counts self.old member → IsLedger counts self.new }
+        ensures kept { (counts : Member → Bool) → CanJoin counts self.old (member_in state) → IsLedger counts self.new }
         ensures numbers { self.new.admitted + length (listed self.old) ≡ self.old.admitted + length (listed self.new) }
         ensures admitted { self.new.admitted ≤ self.old.admitted + 1 }
     {
         self.members.reserve(1)?;
         self.names.reserve(1)?;
-        let (name, weight, freed_at) = (*member.name(), member.weight(), member.freed_at());
+        let (name, weight, freed_at) = (state.name, state.weight, state.freed_at);
+        let member = Incarnation::restored(self.alloc, state)?;
         self.members.insert(self.admitted, member).unwrap();
         self.names.insert(name, self.admitted).unwrap();
         self.admitted += 1;
@@ -177,8 +216,8 @@ impl Ledger {
         Ok(())
     }
 
-    // What is decided on an arrival whose name is free.
-    fn arrival_by_weight(&self, weight: Weight) -> Decision
+    /// What is decided on an arrival whose name is free.
+    pub(crate) fn arrival_by_weight(&self, weight: Weight) -> Decision
         requires few_processors { self.now.processors ≤ Members.MAX_PROCESSORS }
         requires short_frame { self.now.frame ≤ Members.MAX_FRAME }
         requires room { self.now.claim ≤ self.now.processors * self.now.frame }
@@ -244,79 +283,6 @@ impl Ledger {
         }
         Some(place)
     }
-
-    /// Adds a member as a run that ended before `slot` left it, unless that is refused.
-    pub(crate) fn restore(&mut self, slot: u64, state: MemberState) -> Result<(), RestoreFault>
-        requires kept { IsLedger (λ _. true) self.old }
-        requires numbers { self.old.admitted + 1 < 2 ^ 64 }
-        ensures fit { OnOk result (CanBeRestored (whole self.old).machine slot (listed self.old) (member_in state)) }
-        ensures members { OnOk result (whole self.new ≡ record (whole self.old) { members = listed self.old ++ member_in state ∷ [] }) }
-        ensures fault { IfErr result (IsRestoreFault (whole self.old).machine slot (listed self.old) (member_in state)) }
-        ensures err { OnErr result (whole self.new ≡ whole self.old) }
-        ensures kept { IsLedger (λ _. true) self.new }
-        ensures numbers { self.new.admitted + length (listed self.old) ≡ self.old.admitted + length (listed self.new) }
-    {
-        if self.find(&state.name).is_some() {
-            return Err(RestoreFault::NotAdmitted(Refusal::NameTaken));
-        }
-        if let Decision::Refused(refusal) = self.arrival_by_weight(state.weight) {
-            return Err(RestoreFault::NotAdmitted(refusal));
-        }
-        if !state.is_left_at(slot) {
-            return Err(RestoreFault::NotLeft);
-        }
-        self.add(Incarnation::restored(self.alloc, state)?)?;
-        Ok(())
-    }
-
-    /// Creates the ledger of a next run, whose members are these, carried.
-    pub(crate) fn carried(&self) -> Result<Ledger, AllocError>
-        requires kept { IsLedger (λ _. true) self.now }
-        requires able { AllByRecursion CanBeCarried (listed self.now) }
-        ensures members { IfOk result (λ next. listed next ≡ map carried (listed self.now)) }
-        ensures machine { IfOk result (λ next. (next.processors ≡ self.now.processors) × (next.frame ≡ self.now.frame)) }
-        ensures admitted { IfOk result (λ next. (next.admitted ≡ length (listed next)) × (next.admitted ≤ 2 ^ 63)) }
-        ensures kept { IfOk result (λ next. IsLedger (λ _. true) next) }
-    {
-        let tasks = self.members.len();
-        let mut next = Ledger {
-            alloc: self.alloc,
-            processors: self.processors,
-            frame: self.frame,
-            members: IndexMap::new(self.alloc),
-            names: IndexMap::new(self.alloc),
-            admitted: 0,
-            claim: 0,
-            first_freeing: None,
-        };
-        next.members.reserve(tasks)?;
-        next.names.reserve(tasks)?;
-        for place in 0..tasks {
-            next.add(self.members[place].carried(self.alloc)?)?;
-        }
-        Ok(next)
-    }
-}
-
-fn keep_present(members: &mut IndexMap<u64, Incarnation>, slot: u64)
-    ensures entries { members.new.entries ≡ filter (λ e. is_there slot e.1) members.old.entries }
-    ensures unique { IsUnique nat_eq members.new }
-{
-    members.retain(
-        |_number: &u64, member: &mut Incarnation| -> bool
-            ensures { (result ≡ is_there slot member.old) × (member.new ≡ member.old) }
-        { !has_come(member.freed_at(), slot) },
-    );
-}
-
-fn keep_names(names: &mut IndexMap<TaskName, u64>, members: &IndexMap<u64, Incarnation>)
-    ensures { names.new.entries ≡ filter (λ e. has_number e.1 members.now.entries) names.old.entries }
-{
-    names.retain(
-        |_name: &TaskName, number: &mut u64| -> bool
-            ensures { (result ≡ has_number number.old members.entry.now.entries) × (number.new ≡ number.old) }
-        { members.contains_key(&*number) },
-    );
 }
 
 // Returns the units of a weight whose period divides the frame.

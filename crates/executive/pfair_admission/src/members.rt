@@ -6,11 +6,10 @@ ghost use Rattle.pfair_entry.specs.Entry.{IsWithinLimits};
 ghost use Rattle.pfair_admission.specs.Admission.{member_named, boundary, boundary_decisions, announcements, decision, running, ran, quantum_of, seatless, after_boundary, IsCutShort};
 ghost use Rattle.pfair_admission.specs.Carried.{carried, CanBeCarried, IsFirstLeft, member_in, CanBeRestored, IsRestoreFault};
 
-use crate::decision::Decision;
+use crate::decision::{Decision, Refusal};
 use crate::incarnation::Incarnation;
 use crate::ledger::Ledger;
 use crate::member_state::{MemberState, RestoreFault};
-use indexmap::IndexMap;
 use pfair_entry::{Announcement, Said};
 use pfair_order::Key;
 use pfair_weight::{MAX_INDEX, TaskName, Weight};
@@ -75,16 +74,7 @@ impl Members {
         ensures { result ≡ record { machine = record { processors = processors; frame = frame }; members = []; heard = 0; last_slot = None } }
     {
         Members {
-            ledger: Ledger {
-                alloc,
-                processors,
-                frame,
-                members: IndexMap::new(alloc),
-                names: IndexMap::new(alloc),
-                admitted: 0,
-                claim: 0,
-                first_freeing: None,
-            },
+            ledger: Ledger::new(alloc, processors, frame),
             heard: 0,
             last_slot: None,
         }
@@ -121,8 +111,15 @@ impl Members {
         requires able { AllByRecursion CanBeCarried self.now.members }
         ensures { IfOk result (λ next. next ≡ record { machine = self.now.machine; members = map carried self.now.members; heard = 0; last_slot = None }) }
     {
+        let tasks = self.ledger.members.len();
+        let mut ledger = Ledger::new(self.ledger.alloc, self.ledger.processors, self.ledger.frame);
+        ledger.members.reserve(tasks)?;
+        ledger.names.reserve(tasks)?;
+        for place in 0..tasks {
+            ledger.add(self.ledger.members[place].carried(self.ledger.alloc)?)?;
+        }
         Ok(Members {
-            ledger: self.ledger.carried()?,
+            ledger,
             heard: 0,
             last_slot: None,
         })
@@ -145,7 +142,17 @@ impl Members {
     {
         // each member has a number
         prove!(self.ledger.members.len() < 1 << 63);
-        self.ledger.restore(slot, state)
+        if self.ledger.find(&state.name).is_some() {
+            return Err(RestoreFault::NotAdmitted(Refusal::NameTaken));
+        }
+        if let Decision::Refused(refusal) = self.ledger.arrival_by_weight(state.weight) {
+            return Err(RestoreFault::NotAdmitted(refusal));
+        }
+        if !state.is_left_at(slot) {
+            return Err(RestoreFault::NotLeft);
+        }
+        self.ledger.add(state)?;
+        Ok(())
     }
 
     /// Drops the members that are freed by `slot`, decides the announcements one by one in their

@@ -1,4 +1,4 @@
-use Rattle.pfair_admission.proofs.Common.{sum_by, LAST_SLOT, Member, carried_delays, delays_from, ◌≡◌, ◌≤◌, ◌+◌, ◌-◌, ◌*◌, ap, subst, ◌∙◌, arith, IfOk}
+use Rattle.pfair_admission.proofs.Common.{sum_by, LAST_SLOT, Member, carried_delays, delays_from, ◌≡◌, ◌≤◌, ◌+◌, ◌-◌, ◌*◌, ap, ◌∙◌, arith}
 use Rattle.pfair_admission.proofs.Carrying.{carried_offset}
 use Rattle.pfair_admission.proofs.incarnation.Incarnation.carried.Goals as goal
 use Rattle.pfair_admission.proofs.incarnation.Incarnation.carried.Goals.{After-next-2}
@@ -25,26 +25,25 @@ low c =
     let same : c.jobs_done-jobs.result * c.cost.result ≡ c.jobs_done-jobs.result * c.args.self.now.weight.cost = ap (λ n. c.jobs_done-jobs.result * n) cost in
     omega (arith, same, c.jobs_done-jobs.ensures.subtasks, c.next.ensures.value)
 
-pub restored-requires : goal.restored-requires
-restored-requires c =
-    let at = (goal.at.restored-requires c).After-next-2 in
+pub returns-clause-member : goal.returns-clause-member
+returns-clause-member c =
+    let at = (goal.at.returns-clause-member c).After-next-2 in
     record {
       first = (let room = low at in omega (arith, room, c.next.ensures.value, c.next-2.ensures.value, c.next.ensures.member.first));
       last = omega (arith, c.next-2.ensures.value, c.next-2.ensures.member.last);
       offset = omega (arith, offset at);
     }
 
-pub returns : goal.returns
-returns c =
-    let at = (goal.at.returns c).After-next-2 in
+pub returns-clause-state : goal.returns-clause-state
+returns-clause-state c =
+    let at = (goal.at.returns-clause-state c).After-next-2 in
     let is = c.self.view_is in
     let jobs = c.jobs_done-jobs.ensures.value in
     let cost = c.cost.ensures.value ∙ ap (λ (x : Member). x.weight.cost) is in
     let period = c.period.ensures.value ∙ ap (λ (x : Member). x.weight.period) is in
     let next = c.next-2.ensures.value in
     let late = delays at in
-    subst (λ (x : Member). IfOk c.restored.result (λ m. m ≡ x))
-    (λ i. record {
+    λ i. record {
       name = (is i).name;
       weight = (is i).weight;
       early = (is i).early;
@@ -52,4 +51,4 @@ returns c =
       delays = late i;
       next = next i - jobs i * cost i;
       freed_at = (is i).freed_at;
-    }) c.restored.ensures
+    }

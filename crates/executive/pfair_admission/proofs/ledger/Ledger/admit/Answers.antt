@@ -1,4 +1,4 @@
-use Rattle.pfair_admission.proofs.Common.{CanJoin, Member, Membership, Admitted, arrival, newcomer, member_named, present, is_there, listed, refl, whole, None, ◌≡◌, ◌++◌, ◌∷◌, [], sym, ap, ◌∙◌, arith}
+use Rattle.pfair_admission.proofs.Common.{CanJoin, Delay, List, Membership, Admitted, arrival, newcomer, member_named, present, is_there, listed, refl, whole, None, ◌≡◌, ◌++◌, ◌∷◌, [], sym, ap, ◌∙◌, arith}
 use Rattle.pfair_admission.proofs.Deciding.{arrived, not_arrived, stood, taken}
 use Rattle.pfair_admission.proofs.Registers.{can_join}
 use Rattle.pfair_admission.proofs.MemberLists.{none_freed_present}
@@ -21,14 +21,14 @@ beside c =
 can : (c : After-arrival_by_weight-decision) → c.arrival_by_weight-decision.result ≡ Admitted → CanJoin (is_there c.args.slot) c.args.self.now (newcomer c.args.slot c.args.name c.args.weight c.args.early)
 can c is = can_join (is_there c.args.slot) c.args.self.now (newcomer c.args.slot c.args.name c.args.weight c.args.early) c.requires.kept c.requires.numbers refl (sym is ∙ beside c)
 
-pub add-requires : goal.add-requires
-add-requires c = (is_there c.args.slot, rw c.new.ensures (can ((goal.at.add-requires c).After-arrival_by_weight-decision) c.in-Admitted.is))
+pub add-requires-clause-room : goal.add-requires-clause-room
+add-requires-clause-room c = (is_there c.args.slot, rw c.new.ensures.items (can ((goal.at.add-requires-clause-room c).After-arrival_by_weight-decision) c.in-Admitted.is))
 
 pub returns-in_ok-add-clause-decided : goal.returns-in_ok-add-clause-decided
 returns-in_ok-add-clause-decided c =
     let at = (goal.at.returns-in_ok-add-clause-decided c).After-arrival_by_weight-decision in
     let ms = listed c.args.self.now in
-    let all = c.in_ok-add.ensures.members ∙ ap (λ (m : Member). record (whole c.args.self.now) { members = ms ++ m ∷ [] }) c.new.ensures in
+    let all = c.in_ok-add.ensures.members ∙ ap (λ (ds : List Delay). record (whole c.args.self.now) { members = ms ++ record (newcomer c.args.slot c.args.name c.args.weight c.args.early) { delays = ds } ∷ [] }) c.new.ensures.items in
     record {
       decision = beside at;
       members = ap (λ (s : Membership). record s { members = present c.args.slot s.members }) all
