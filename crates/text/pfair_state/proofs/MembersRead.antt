@@ -1,5 +1,5 @@
 -- What is restored of a state, row after row: members, their late releases, quanta.
-use Rattle.pfair_state.proofs.Common.{ℕ, zero, suc, ◌+◌, ◌<◌, ◌≡◌, arith, refl, ◌∙◌, ap, List, [], ◌∷◌, ◌++◌, Some, None, length, drop, slice_get, Roster, Member, AreLeftAt, sym, subst, Result, Ok, Err, OnOk, Machine, CanBeRestored, name_eq, append-nil, length-append, Delay, as_late, late_said, Row, Late, ◌≢◌, Bool, true, map, append_assoc, not, nat_list_eq_equiv, AllByRecursion, flat_map, length-map, NamesApart, IsBehindMembers, member_of, as_member, member_said, own_said, row_of, MemberRow, ◌%◌, can_add_row, with_row, Carried, Table, names_task, as_quantum, ran_said, Ran, false, ne_eqb, Pick, ArePlacesOf, IsFit}
+use Rattle.pfair_state.proofs.Common.{ℕ, zero, suc, ◌+◌, ◌<◌, ◌≡◌, arith, refl, ◌∙◌, ap, List, [], ◌∷◌, ◌++◌, Some, None, length, drop, slice_get, Roster, Member, AreLeftAt, sym, subst, Machine, CanBeRestored, name_eq, append-nil, length-append, Delay, as_late, late_said, Row, Late, ◌≢◌, Bool, true, map, append_assoc, not, nat_list_eq_equiv, AllByRecursion, flat_map, length-map, NamesApart, IsBehindMembers, member_of, as_member, member_said, own_said, row_of, MemberRow, ◌%◌, can_add_row, with_row, Carried, Table, names_task, as_quantum, ran_said, Ran, false, ne_eqb, Pick, ArePlacesOf, IsFit}
 use Rattle.pfair_weight.proofs.NamesApart.{apart_nil, apart_head, apart_tail}
 use Rattle.pfair_admission.proofs.Restoring.{in_frame_more, left_more, named_more, room_more, in_turn}
 use Rattle.pfair_state.specs.declared.rows.LateRow.{LateRow}
@@ -9,6 +9,9 @@ use Rattle.pfair_state.specs.declared.rows.Row.TheVariants.{Member as MemberIn}
 use Rattle.std.proofs.lemmas.Bool.{and_from}
 use Rattle.std.proofs.lemmas.Bool.Decides.{nat_tests}
 use Rattle.pfair_table.specs.Places.{AllDiffer, is_used}
+use Rattle.pfair_admission.specs.Carried.{IsRestoreFault}
+use Rattle.pfair_admission.specs.declared.member_state.RestoreFault.{RestoreFault}
+use Rattle.pfair_admission.specs.declared.member_state.RestoreFault.TheVariants.{NotAdmitted, NotLeft, Memory}
 
 -- What stands at a place of a list, and behind it.
 
@@ -53,10 +56,15 @@ one_more machine slot members m restored all = record {
 }
 
 -- if it is restored
-pub left_on : {A E : Type 0} (r : Result A E) (slot : ℕ) (old new : Roster) (m : Member) → OnOk r (CanBeRestored old.machine slot old.members m) → OnOk r (new ≡ record old { members = old.members ++ m ∷ [] })
-    → AreLeftAt slot old.machine old.members → OnOk r (AreLeftAt slot new.machine new.members)
-left_on (Ok x) slot old new m restored is all = subst (λ (now : Roster). AreLeftAt slot now.machine now.members) (sym is) (one_more old.machine slot old.members m restored all)
-left_on (Err e) slot old new m restored is all = tt
+pub left_on : (slot : ℕ) (old new : Roster) (m : Member) → CanBeRestored old.machine slot old.members m → new ≡ record old { members = old.members ++ m ∷ [] }
+    → AreLeftAt slot old.machine old.members → AreLeftAt slot new.machine new.members
+left_on slot old new m restored is all = subst (λ (now : Roster). AreLeftAt slot now.machine now.members) (sym is) (one_more old.machine slot old.members m restored all)
+
+-- what can be restored is refused for no other reason
+pub out_of_memory : (machine : Machine) (slot : ℕ) (members : List Member) (m : Member) (why : RestoreFault) → IsRestoreFault machine slot members m why → CanBeRestored machine slot members m → why ≡ Memory
+out_of_memory machine slot members m (NotAdmitted refusal) fault can = absurd (let both = sym fault ∙ can.admitted in cc)
+out_of_memory machine slot members m NotLeft fault can = absurd (fault can.left)
+out_of_memory machine slot members m Memory fault can = refl
 
 -- The late releases of a task, read row after row.
 
@@ -257,7 +265,7 @@ module _ (rows : List Row) (old : Carried) where
   }
 
   module _ (from : ℕ) (now : Carried) (at : ℕ) (so_far : AreAddedSoFar from now at) where
-    pub record IsNext (table : Table) (places : List ℕ) (behind : List Row) (x : Pick × ℕ) : Type 0 where
+    pub record IsNextQuantum (table : Table) (places : List ℕ) (behind : List Row) (x : Pick × ℕ) : Type 0 where
       pub more : Table
       pub others : List ℕ
       pub table_is : table ≡ now.table ++ x.0 ∷ more
@@ -265,10 +273,10 @@ module _ (rows : List Row) (old : Carried) where
       pub long : length others ≡ length more
       pub rows_are : drop (at + 1) rows ≡ ran_said more others ++ behind
 
-    next : (x : Pick × ℕ) → slice_get rows at ≡ Some (Ran x.0 x.1) → (table : Table) (places : List ℕ) (behind : List Row) → as_quantum (slice_get behind 0) ≡ None → AreToAdd table places behind now at → IsNext table places behind x
-    next x here table places behind ends to = by_left to.left to.left_places to.table_is to.places_are to.long to.rows_are
+    next_quantum : (x : Pick × ℕ) → slice_get rows at ≡ Some (Ran x.0 x.1) → (table : Table) (places : List ℕ) (behind : List Row) → as_quantum (slice_get behind 0) ≡ None → AreToAdd table places behind now at → IsNextQuantum table places behind x
+    next_quantum x here table places behind ends to = by_left to.left to.left_places to.table_is to.places_are to.long to.rows_are
       where
-        by_left : (left : Table) (left_places : List ℕ) → table ≡ now.table ++ left → places ≡ now.places ++ left_places → length left_places ≡ length left → drop at rows ≡ ran_said left left_places ++ behind → IsNext table places behind x
+        by_left : (left : Table) (left_places : List ℕ) → table ≡ now.table ++ left → places ≡ now.places ++ left_places → length left_places ≡ length left → drop at rows ≡ ran_said left left_places ++ behind → IsNextQuantum table places behind x
         by_left [] left_places table_is places_are long is = absurd (let there = ap as_quantum (sym (next_behind rows at behind is) ∙ here) in cc)
         by_left (p ∷ more) [] table_is places_are long is = absurd (omega (arith, long))
         by_left (p ∷ more) (k ∷ others) table_is places_are long is =
@@ -280,17 +288,17 @@ module _ (rows : List Row) (old : Carried) where
 
     module _ (x : Pick × ℕ) (here : slice_get rows at ≡ Some (Ran x.0 x.1)) where
       -- the quantum at that place can be added
-      pub can : (table : Table) (places : List ℕ) (behind : List Row) → (old.table ≡ []) × (old.places ≡ []) → IsFit old.machine.processors table → ArePlacesOf old.machine.processors table places → drop from rows ≡ ran_said table places ++ behind
+      pub can_be_added : (table : Table) (places : List ℕ) (behind : List Row) → (old.table ≡ []) × (old.places ≡ []) → IsFit old.machine.processors table → ArePlacesOf old.machine.processors table places → drop from rows ≡ ran_said table places ++ behind
           → as_quantum (slice_get behind 0) ≡ None → can_add_row now x.0 x.1 ≡ true
-      can table places behind none fit are is ends =
+      can_be_added table places behind none fit are is ends =
           let to = so_far table places behind none fit are is ends in
-          let n = next x here table places behind ends to in
+          let n = next_quantum x here table places behind ends to in
           grind (arith, can_add)
 
       pub added : (after : Carried) → after ≡ with_row now x.0 x.1 → AreAddedSoFar from after (at + 1)
       added after grown table places behind none fit are is ends =
           let to = so_far table places behind none fit are is ends in
-          let n = next x here table places behind ends to in
+          let n = next_quantum x here table places behind ends to in
           let own = ap (λ (c : Carried). c.table) grown in
           let stand = ap (λ (c : Carried). c.places) grown in
           record {

@@ -1,15 +1,14 @@
 //! A state from its text.
-ghost use Rattle.std.specs.Prelude.{◌≡◌, ◌+◌, ◌≤◌, [], ◌++◌, ◌∷◌, None, drop, length, IfErr, IfOk, OnOk};
-ghost use Rattle.pfair_admission.specs.Carried.{CanBeRestored};
+ghost use Rattle.std.specs.Prelude.{◌≡◌, ◌+◌, ◌≤◌, None, drop, length, IfErr, IfOk, OnOk};
 ghost use Rattle.pfair_admission.specs.declared.member_state.RestoreFault.TheVariants.{Memory as OutOfMemory};
 ghost use Rattle.pfair_table.specs.Places.{AreLeftAt};
 ghost use Rattle.pfair_table.specs.Table.{Carried};
-ghost use Rattle.pfair_state.specs.Reading.{IfDelaysFrom, IfMembersBehindFirst, IfQuantaFrom, IsReadAs, IsWritable, member_of, said_of};
+ghost use Rattle.pfair_state.specs.Reading.{IfDelaysFrom, IfMembersBehindFirst, IfQuantaFrom, IsReadAs, IsWritable, said_of};
 ghost use Rattle.pfair_state.specs.Rows.{state_text};
 ghost use Rattle.pfair_state.specs.declared.fault.ReadFault.TheVariants.{Memory};
 
 use crate::fault::{ReadFault, Why, no_row, refused};
-use crate::rows::{MemberRow, Row, read_rows, row_at};
+use crate::rows::{Row, read_rows, row_at};
 use crate::write::add_state;
 use pfair_admission::{Delay, MemberState, Members, RestoreFault};
 use pfair_table::{Settings, State};
@@ -45,16 +44,11 @@ pub fn read_state(alloc: Global, text: &[u8]) -> Result<State, ReadFault>
 
 // In which line two texts differ first, counted from 0.
 fn first_other_line(own: &[u8], text: &[u8]) -> usize {
-    let mut lines = 0;
-    for at in 0..own.len().min(text.len()) {
-        if own[at] != text[at] {
-            break;
-        }
-        if own[at] == b'\n' {
-            lines += 1;
-        }
-    }
-    lines
+    own.iter()
+        .zip(text)
+        .take_while(|(own, read)| own == read)
+        .filter(|(own, _)| **own == b'\n')
+        .count()
 }
 
 // The state that rows are of: the first row, each member with its late releases, the quanta, and the end.
@@ -105,7 +99,16 @@ fn read_members(
     while let Some(Row::Member(member)) = row_at(rows, at) {
         let delays = delays_behind(alloc, rows, at + 1, &member.name)?;
         let behind = at + 1 + delays.len();
-        if let Err(why) = restore(members, slot, member, delays) {
+        let state = MemberState {
+            name: member.name,
+            weight: member.weight,
+            early: member.early,
+            joined: member.joined,
+            next: member.next,
+            freed_at: member.freed_at,
+            delays,
+        };
+        if let Err(why) = members.restore(slot, state) {
             return Err(not_restored(at, why));
         }
         at = behind;
@@ -135,31 +138,6 @@ fn delays_behind(
         })?;
     }
     Ok(delays)
-}
-
-// Restores the member of a row.
-fn restore(
-    members: &mut Members,
-    slot: u64,
-    row: MemberRow,
-    delays: Vec<Delay>,
-) -> Result<(), RestoreFault>
-    requires left { AreLeftAt slot members.old.machine members.old.members }
-    requires before { members.old.last_slot ≡ None }
-    ensures left { OnOk result (AreLeftAt slot members.new.machine members.new.members) }
-    ensures members { OnOk result (members.new ≡ record members.old { members = members.old.members ++ member_of row delays.items ∷ [] }) }
-    ensures back { CanBeRestored members.old.machine slot members.old.members (member_of row delays.items) → IfErr result (λ fault. fault ≡ OutOfMemory) }
-{
-    let state = MemberState {
-        name: row.name,
-        weight: row.weight,
-        early: row.early,
-        joined: row.joined,
-        next: row.next,
-        freed_at: row.freed_at,
-        delays,
-    };
-    members.restore(slot, state)
 }
 
 // What a member that isn't restored makes of the text.

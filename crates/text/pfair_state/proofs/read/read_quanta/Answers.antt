@@ -1,6 +1,6 @@
 use Rattle.std.proofs.Common.{cond}
 use Rattle.pfair_state.proofs.Common.{slice_get_within, with_row, as_quantum, Ran, ◌≡◌, arith, rules, None, Some, false, true, ap, sym, ◌∙◌}
-use Rattle.pfair_state.proofs.MembersRead.{added, all_added, can}
+use Rattle.pfair_state.proofs.MembersRead.{added, all_added, can_be_added}
 use Rattle.pfair_state.proofs.read.read_quanta.Goals as goal
 
 pub returns-then-not-branch : goal.returns-then-not-branch
@@ -8,7 +8,7 @@ returns-then-not-branch c = record {
   back = λ table places behind none fit are is ends.
       let rows = c.args.rows.now in
       let here = sym c.row_at.ensures ∙ c.in-Some-Ran.is ∙ ap Some c.in-Some-Ran.field-0-is in
-      let may = can rows c.args.state.now c.args.from c.loop-pick.state c.loop-pick.at c.loop-pick.invariant.1 (c.in-Some-Ran.pick, c.in-Some-Ran.place) here table places behind none fit are is ends in
+      let may = can_be_added rows c.args.state.now c.args.from c.loop-pick.state c.loop-pick.at c.loop-pick.invariant.1 (c.in-Some-Ran.pick, c.in-Some-Ran.place) here table places behind none fit are is ends in
       let shown = c.in_ok-add_row.ensures.able in
       let not_added = c.if-not-branch.true in
       absurd (let both : false ≡ true = sym not_added ∙ shown ∙ may in cc);
