@@ -4,8 +4,6 @@ use Rattle.pfair_table.proofs.TableLaws.{ordered_from, named_before, label, tabl
 use Rattle.pfair_table.proofs.Keeping.{tables_listed, plan_now, step_now, kept_next, whole_plan, tables_long, plan_of_held, is_of_held}
 use Rattle.pfair_table.proofs.PlacesKept.{next_places, follow_on, places_follow_tables}
 use Rattle.std.proofs.Common.{add-one}
-use Rattle.pfair_table.specs.declared.answer.PlanFault.{PlanFault}
-use Rattle.pfair_table.specs.declared.answer.PlanFault.TheVariants.{Memory}
 use Rattle.pfair_table.specs.Refinement.{IsNextPlan, after_plan, OnePlacing}
 use Rattle.pfair_table.proofs.Runs.{get_numbers, untorn_left, one_schedule}
 
@@ -65,7 +63,7 @@ fit_before (Some c) s began = began.rows
 -- ---- the slots so far
 
 -- only memory was missing
-pub memory_only : {A : Type 0} (P : PlanFault → Type 0) (r : Result A PlanFault) → IsErrAnd r (λ f. f ≡ Memory) → P Memory → IfErr r P
+pub memory_only : {A F : Type 0} {memory : F} (P : F → Type 0) (r : Result A F) → IsErrAnd r (λ f. f ≡ memory) → P memory → IfErr r P
 memory_only P (Ok x) e p = tt
 memory_only P (Err f) e p = subst P (sym e) p
 

@@ -27,7 +27,7 @@ pub use Rattle.pfair_table.specs.Events.{Course, IsEvent, begin_at, happens, is_
 pub use Rattle.pfair_table.specs.Places.{AreLeftAt, IsCarried, IsOrigin, IsSettings, IsState, can_add_row, with_row, AllDiffer, ArePlacesOf, IsFit, all_kept, filled, free_place, is_used, kept_places, place_of, places_after, places_before, places_from, places_in, table_before, AreInUse}
 pub use Rattle.pfair_table.specs.NextRun.{CanBeFollowed, IsFinished, IsNextRunFault, IsResumeFault, LeaveAlike, end_of, left_by, members_left, HasBegun, IsBegun, IsWeighedStory, last_places, last_table}
 pub use Rattle.pfair_table.specs.Planned.{AreKept, IsNext, PlannedSlots, as_places, as_tables, decided_to, last_or, tables_to, with_next}
-pub use Rattle.pfair_table.specs.Planning.{IsNotifiedOf, IsQueue, IsQueueBesides, IsQueueBut, IsQueueWithout, IsSteady, MayRun, has_key_of, is_of_some, is_said, keys_of, queued, AreReadingsOf, AreWhole, IsReadingOf, entries_read, said_by_all}
+pub use Rattle.pfair_table.specs.Planning.{IsNotifiedOf, IsQueue, IsQueueBesides, IsQueueBut, IsQueueWithout, IsSteady, MayRun, has_key_of, is_of_some, is_said, keys_of, queued, AreReadFrom, AreReadingsOf, AreSilentAfter, AreWhole, IsReadingOf, entries_read, said_by_all}
 pub use Rattle.pfair_table.specs.Table.{first_by_rank, Carried, History, Origin, Settings, Story, Table, all_ran, chosen, counted, counted_one, decisions, eligible, history, index_of, is_eligible, machine, members_at, members_before, names_task, next_index, pick, plan, plan_decisions, quanta, slot_of, table, with_decisions, world}
 pub use Rattle.pfair_table.specs.Refinement.{Dispatch, HavePlannedAlike, IsInStep, IsKept, IsNextStep, IsPlanFault, IsPlanOf, IsWholePlan, course_of, heard_before, members_after}
 pub use Rattle.pfair_table.specs.Script.{IsLoggedRun, LoggedRun, capacity_of, contents_of, entry_of, held_of, is_short, lists_of, replica_of_logs, row_of}
@@ -35,6 +35,7 @@ pub use Rattle.pfair_table.specs.declared.answer.Step.{Step}
 pub use Rattle.pfair_table.specs.declared.answer.Step.TheVariants.{Done}
 pub use Rattle.pfair_table.specs.declared.planned.PlannedSlot.{PlannedSlot}
 pub use Rattle.pfair_table.specs.declared.planner.Reading.{Reading}
+pub use Rattle.pfair_table.specs.declared.planner.Readings.{Readings}
 pub use Rattle.pfair_table.specs.declared.run.Event.{Event}
 pub use Rattle.pfair_table.specs.declared.run.Event.TheVariants.{Take, Absorb, Plan}
 pub use Rattle.pfair_table.specs.declared.slot.Decided.{Decided}

@@ -1,5 +1,5 @@
 -- What a finished run leaves can be taken over by a next run, and finished runs that agree leave the same.
-use Rattle.pfair_table.proofs.Common.{or_parts, AllByRecursion, nat_list_eq_equiv, length-append, name_eq, apart_nil, apart_push, Machine, Member, Pick, AreLeftAt, IsCarried, IsSettings, IsState, with_row, AllDiffer, ArePlacesOf, IsFit, is_used, Carried, Settings, Table, names_task, ℕ, ◌≡◌, ◌≢◌, ◌<◌, ◌∙◌, refl, arith, false, List, ◌∷◌, ◌++◌, length, [], all_by_recursion_push, Announcement, Said, IsWithinLimits, IsWeighed, announcements, all_among, among_contains, among_map, Replica, IsReplica, said, read_by_number, ◌+◌, subst, sym, Option, apart_map, boundary, is_freed, ran, with_quantum, carried, CanBeCarried, both, each, each_map, each_change, IsOrigin, Origin, Story, machine, members_before, slot_of, all_ran, history, table, world, zero, suc, ap, Some, None, map, nat_tests, IsLeftAt, HasBegun, IsBegun, IsWeighedStory, IsNextStep, ReplicaRows, replica_of, has_torn, same_said, Queue, Roster, Decided, CanBeFollowed, IsFinished, IsNextRunFault, IsResumeFault, LeaveAlike, end_of, left_by, members_left, table_before, places_before, places_in, last_or, Dispatch, IsKept, members_after, ◌≤◌, Bool, Result, IfErr, OnOk, IsErrAnd, Step, Done, LAST_SLOT}
+use Rattle.pfair_table.proofs.Common.{or_parts, AllByRecursion, nat_list_eq_equiv, length-append, name_eq, apart_nil, apart_push, Machine, Member, Pick, AreLeftAt, IsCarried, IsSettings, IsState, with_row, AllDiffer, ArePlacesOf, IsFit, is_used, Carried, Settings, Table, names_task, ℕ, ◌≡◌, ◌≢◌, ◌<◌, ◌∙◌, refl, arith, false, List, ◌∷◌, ◌++◌, length, [], all_by_recursion_push, Announcement, Said, IsWithinLimits, IsWeighed, announcements, all_among, among_contains, among_map, Replica, IsReplica, said, read_by_number, ◌+◌, subst, sym, Option, apart_map, boundary, is_freed, ran, with_quantum, carried, CanBeCarried, both, each, each_map, each_change, IsOrigin, Origin, Story, machine, members_before, slot_of, all_ran, history, table, world, zero, suc, ap, Some, None, map, nat_tests, IsLeftAt, HasBegun, IsBegun, IsWeighedStory, IsNextStep, ReplicaRows, replica_of, has_torn, same_said, Queue, Roster, Decided, CanBeFollowed, IsFinished, IsNextRunFault, IsResumeFault, LeaveAlike, left_by, members_left, table_before, places_before, places_in, last_or, Dispatch, IsKept, members_after, ◌≤◌, Bool, Result, IfErr, Step, Done, LAST_SLOT}
 use Rattle.std.proofs.Common.{IfSome}
 use Rattle.pfair_replica.proofs.SaidListed.{is_said}
 use Rattle.pfair_admission.specs.Laws.{AreInFrame, HaveRoom}
@@ -9,7 +9,6 @@ use Rattle.pfair_admission.proofs.Restoring.{left_carried}
 use Rattle.pfair_table.proofs.TableLaws.{label, named_before, named_history, same_history}
 use Rattle.pfair_table.proofs.RunsOn.{begun_over, slot_more}
 use Rattle.pfair_table.specs.declared.answer.NextRunFault.{NextRunFault}
-use Rattle.pfair_table.specs.declared.answer.NextRunFault.TheVariants.{Memory}
 use Rattle.pfair_table.proofs.Alike.{untorn_right, fit_before, fit_plan, last_fit, last_places}
 use Rattle.pfair_table.proofs.Keeping.{is_of_held, plan_now, step_now, plan_of_held}
 use Rattle.pfair_table.proofs.PlacesKept.{places_before_are}
@@ -152,32 +151,6 @@ module _ (o : Origin) (s : Settings) (began : IsOrigin o s) (story : Story) wher
             (both CanBeCarried (λ m. IsNotBefore (Some t) m.freed_at) (λ m. CanBeCarried m × IsNotBefore (Some t) m.freed_at) (λ m can stays. (can, stays)) members able (stay_over n)));
       }
 
-module _ {o : Origin} {s : Settings} {replica : Replica} {tables : List Table} {decided : List (List Decided)} {spent : Bool} {roster : Roster} {now : ℕ} {waiting : Queue} (kept : IsKept o s replica tables decided spent roster now waiting) (sound : IsReplica replica) (test : has_torn replica ≡ false) (able : spent ≡ false) (all : s.slots ≤ length tables) where
-  long : length tables ≡ s.slots
-  long = omega (arith, kept.plan.wanted, all)
-
-  -- the members are those after the last slot
-  pub left_members : roster.members ≡ members_after o s replica s.slots
-  left_members = (step_now kept sound test able).members_are ∙ ap (members_after o s replica) long
-
-  -- and the tables are those of all slots
-  pub left_tables : tables ≡ (history o s (said replica) s.slots).tables
-  left_tables = (plan_now kept sound test).tables_are ∙ ap (λ n. (history o s (said replica) n).tables) long
-
-  -- and with their jobs taken off, a next run can begin with them
-  pub carried_on : (slots : ℕ) (c : Carried) → c.slot ≡ slot_of o s.slots → c.machine ≡ machine s → c.members ≡ map carried (members_after o s replica s.slots) → AllByRecursion CanBeCarried (members_after o s replica s.slots)
-      → c.table ≡ last_or (table_before o) tables → c.places ≡ last_or (places_before o) (places_in o tables) → c.slot + slots ≤ LAST_SLOT → IsCarried (record s { slots = slots }) c
-  carried_on slots c slot_is machine_is members_are can table_is places_are within =
-      let fit = fit_plan kept.began kept.plan in
-      let left = all_left o s kept.began (said replica) (said_weighed replica sound) s.slots can in
-      record {
-        machine_is = machine_is;
-        members = subst (λ (p : ℕ × Machine × List Member). AreLeftAt p.0 p.1 p.2) (λ i. (sym slot_is i, sym machine_is i, sym members_are i)) left;
-        in_time = within;
-        rows = subst (IsFit s.processors) (sym table_is) (last_fit s.processors (table_before o) tables (fit_before o s kept.began) fit);
-        places = subst (λ (p : Table × List ℕ). ArePlacesOf s.processors p.0 p.1) (λ i. (sym table_is i, sym places_are i)) (last_places s.processors (table_before o) (places_before o) (places_before_are o s kept.began) tables fit);
-      }
-
 -- ---- a finished dispatcher, as it is seen
 
 pub finished_seen : {o : Origin} {s : Settings} {x : ReplicaRows} {tables : List Table} {decided : List (List Decided)} {forgotten : ℕ} {spent : Bool} {d : Dispatch} {n : ℕ} {step : Step}
@@ -186,21 +159,54 @@ pub finished_seen : {o : Origin} {s : Settings} {x : ReplicaRows} {tables : List
 finished_seen {s} {x} {n} seen able long is done = grind arith
 
 module _ {o : Origin} {s : Settings} {x : ReplicaRows} {tables : List Table} {decided : List (List Decided)} {forgotten : ℕ} {spent : Bool} {roster : Roster} {now : ℕ} {waiting : Queue} (kept : IsKept o s (replica_of x) tables decided spent roster now waiting) (sound : IsReplica (replica_of x)) (d : Dispatch) (seen : record { settings = s; origin = o; replica = x; tables = tables; decided = decided; forgotten = forgotten; spent = spent } ≡ d) (finished : IsFinished d) where
-  -- its members are those left
+  inside : IsFinished (record { settings = s; origin = o; replica = x; tables = tables; decided = decided; forgotten = forgotten; spent = spent })
+  inside = subst IsFinished (sym seen) finished
+
+  long : length tables ≡ s.slots
+  long = omega (arith, kept.plan.wanted, inside.all)
+
+  -- the tables are those of all slots
+  all_tables : tables ≡ (history o s (said (replica_of x)) s.slots).tables
+  all_tables = (plan_now kept sound inside.whole).tables_are ∙ ap (λ n. (history o s (said (replica_of x)) n).tables) long
+
+  -- and the members are those after the last slot
+  last_members : roster.members ≡ members_after o s (replica_of x) s.slots
+  last_members = (step_now kept sound inside.whole inside.able).members_are ∙ ap (members_after o s (replica_of x)) long
+
   pub left_seen : roster.members ≡ members_left d
-  left_seen = let inside = subst IsFinished (sym seen) finished in left_members kept sound inside.whole inside.able inside.all ∙ ap members_left seen
+  left_seen = last_members ∙ ap members_left seen
 
-  pub able_seen : AllByRecursion CanBeCarried roster.members → AllByRecursion CanBeCarried (members_left d)
-  able_seen able = subst (AllByRecursion CanBeCarried) left_seen able
+  -- So with their jobs taken off they are what is left, and a next run can begin with them.
+  module _ (c : Carried) (slot_is : c.slot ≡ slot_of o s.slots) (machine_is : c.machine ≡ roster.machine) (members_are : c.members ≡ map carried roster.members) (table_is : c.table ≡ last_or (table_before o) tables) (places_are : c.places ≡ last_or (places_before o) (places_in o tables)) where
+    on_machine : c.machine ≡ machine s
+    on_machine = machine_is ∙ (step_now kept sound inside.whole inside.able).machine_is
 
-  -- and if they can be carried, only memory can be missing
-  pub memory_seen : AllByRecursion CanBeCarried roster.members → {A : Type 0} (slots : ℕ) (r : Result A NextRunFault) → IsErrAnd r (λ e. e ≡ Memory) → end_of d + slots ≤ LAST_SLOT → IfErr r (IsNextRunFault d slots)
-  memory_seen able slots r is within = (let all = able_seen able in grind (arith, finished, within, all))
+    all_carried : c.members ≡ map carried (members_after o s (replica_of x) s.slots)
+    all_carried = members_are ∙ ap (map carried) last_members
+
+    pub left_is : c ≡ left_by d
+    left_is =
+        (λ i. record {
+          slot = slot_is i;
+          machine = on_machine i;
+          members = all_carried i;
+          table = (table_is ∙ ap (last_or (table_before o)) all_tables) i;
+          places = (places_are ∙ ap (λ (ts : List Table). last_or (places_before o) (places_in o ts)) all_tables) i;
+        }) ∙ ap left_by seen
+
+    pub left_state : IsSettings s → AllByRecursion CanBeCarried roster.members → c.slot ≤ LAST_SLOT → IsState c
+    left_state limits able early =
+        let fit = fit_plan kept.began kept.plan in
+        let left = all_left o s kept.began (said (replica_of x)) (said_weighed (replica_of x) sound) s.slots (subst (AllByRecursion CanBeCarried) last_members able) in
+        state_of s 0 c limits (record {
+          machine_is = on_machine;
+          members = subst (λ (p : ℕ × Machine × List Member). AreLeftAt p.0 p.1 p.2) (λ i. (sym slot_is i, sym on_machine i, sym all_carried i)) left;
+          in_time = omega (arith, early);
+          rows = subst (IsFit s.processors) (sym table_is) (last_fit s.processors (table_before o) tables (fit_before o s kept.began) fit);
+          places = subst (λ (p : Table × List ℕ). ArePlacesOf s.processors p.0 p.1) (λ i. (sym table_is i, sym places_are i)) (last_places s.processors (table_before o) (places_before o) (places_before_are o s kept.began) tables fit);
+        })
 
 -- ---- a run that is resumed with what is left
-
-pub followed_seen : {A : Type 0} (r : Result A NextRunFault) (d : Dispatch) (slots : ℕ) → CanBeFollowed d slots → OnOk r (CanBeFollowed d slots)
-followed_seen r d slots can = grind arith
 
 pub fault_seen : {A : Type 0} (r : Result A NextRunFault) (d : Dispatch) (c : Carried) (slots : ℕ) → c ≡ left_by d → CanBeFollowed d slots → IfErr r (IsResumeFault c slots) → IfErr r (IsNextRunFault d slots)
 fault_seen r d c slots is can fault = (let slot_is = ap (λ (e : Carried). e.slot) is in grind (arith, slot_is, can.within))

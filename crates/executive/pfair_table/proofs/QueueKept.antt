@@ -128,8 +128,10 @@ besides_at members i m notified before after at is queue anew name e =
 
 -- The loop over the keys that have a quantum.
 
--- the quanta of so many keys are given: the rows, the members, and what waits
+-- the quanta of so many keys are given: the rows, the members, and what waits; the keys have distinct names, and each may run
 pub record RunSoFar (start : Roster) (first : List Key) (i : ℕ) (roster : Roster) (table : Table) (waiting : Queue) : Type 0 where
+  pub apart : NamesApart (λ k. k.name) first
+  pub can_run : (k : Key) → Among first k → MayRun start.members k
   pub rows : table ≡ map (pick start.members) (take i first)
   pub ran_are : roster ≡ record start { members = all_ran (map (pick start.members) (take i first)) start.members }
   pub queue : IsQueueWithout (drop i first) roster.members waiting
@@ -172,12 +174,12 @@ all_ran_push : (picks : Table) (p : Pick) (members : List Member) → all_ran (p
 all_ran_push [] p members = refl
 all_ran_push (q ∷ picks) p members = all_ran_push picks p (ran q.name members)
 
-module _ {start : Roster} {first : List Key} {i : ℕ} {roster : Roster} {table : Table} {waiting : Queue} {key : Key} (apart : NamesApart (λ (k : Key). k.name) first) (so : RunSoFar start first i roster table waiting) (inside : i < length first) (item : key ≡ get_or first i key) where
+module _ {start : Roster} {first : List Key} {i : ℕ} {roster : Roster} {table : Table} {waiting : Queue} {key : Key} (so : RunSoFar start first i roster table waiting) (inside : i < length first) (item : key ≡ get_or first i key) where
   split : take i first ++ key ∷ drop (i + 1) first ≡ first
   split = ap (λ ys. take i first ++ ys) (sym (drop_item first i key inside item)) ∙ take-append-drop i first
 
   split_apart : NamesApart (λ (k : Key). k.name) (take i first ++ key ∷ drop (i + 1) first)
-  split_apart = subst (NamesApart (λ (k : Key). k.name)) (sym split) apart
+  split_apart = subst (NamesApart (λ (k : Key). k.name)) (sym split) so.apart
 
   pub key_among : Among first key
   key_among = subst (λ xs. Among xs key) split (among_right (take i first) (key ∷ drop (i + 1) first) key (inl refl))
@@ -186,51 +188,55 @@ module _ {start : Roster} {first : List Key} {i : ℕ} {roster : Roster} {table 
   not_waiting : finmap.get waiting key.name ≡ None
   not_waiting = grind (arith, drop_item, name_itself)
 
-  module _ (may : MayRun start.members key) where
-    -- its member is as it was at the start
-    still_found : member_named roster.members key.name ≡ Some may.0
-    still_found = grind (arith, found_after, rows_named, apart_before, split_apart)
+  pub may : MayRun start.members key
+  may = so.can_run key key_among
 
-    -- so it may run
-    pub may_run : ForSome (member_named roster.members key.name) (λ m. m.next < MAX_INDEX)
-    may_run x e = subst (λ (m : Member). m.next < MAX_INDEX) (same_Some may.0 x (sym still_found ∙ e)) may.3
+  -- its member is as it was at the start
+  still_found : member_named roster.members key.name ≡ Some may.0
+  still_found = grind (arith, found_after, rows_named, apart_before, split_apart)
 
-    -- and its quantum is that of its next subtask
-    pub runs_next : option_map quantum_of (running (member_named roster.members key.name)) ≡ Some (quantum_of may.0)
-    runs_next = grind (arith, still_found, may.2)
+  -- so it may run
+  pub may_run : ForSome (member_named roster.members key.name) (λ m. m.next < MAX_INDEX)
+  may_run x e = subst (λ (m : Member). m.next < MAX_INDEX) (same_Some may.0 x (sym still_found ∙ e)) may.3
 
-    -- so what waits under its name then is the subtask after that
-    pub notified_on : {after : Roster} {anew : Queue} (quantum : Quantum) {new : Bool} → seatless quantum ≡ quantum_of may.0 → after ≡ record roster { members = ran key.name roster.members }
-        → new ≡ not (finmap.contains_key waiting quantum.next_key.name) → anew ≡ (if new then finmap.insert waiting quantum.next_key.name (quantum.next_from, quantum.next_key) else waiting)
-        → IsNotifiedOf key.name after.members waiting anew
-    notified_on {after} {anew} quantum {new} is after_is fresh in_ =
-        notified_next key.name after.members (with_quantum may.0) waiting waiting anew new quantum.next_from quantum.next_key
-        (ap (λ (r : Roster). member_named r.members key.name) after_is ∙ found_changed key.name with_quantum (λ m. refl) roster.members may.0 still_found)
-        may.2 (ap (λ (q : Quantum). q.next_from) is) (ap (λ (q : Quantum). q.next_key) is)
-        (absent_removed waiting key.name not_waiting) fresh in_
+  -- and its quantum is that of its next subtask
+  pub runs_next : option_map quantum_of (running (member_named roster.members key.name)) ≡ Some (quantum_of may.0)
+  runs_next = grind (arith, still_found, may.2)
 
-    -- one turn
-    pub run_turn : {after : Roster} {rows : Table} {anew : Queue} {index : ℕ} → index ≡ may.0.next → after ≡ record roster { members = ran key.name roster.members }
-        → rows ≡ table ++ record { name = key.name; index = index } ∷ [] → IsNotifiedOf key.name after.members waiting anew → RunSoFar start first (i + 1) after rows anew
-    run_turn {after} {rows} {anew} {index} index_is after_is rows_are notified = record {
-      rows = rows_are ∙ ap (λ (xs : Table). xs ++ record { name = key.name; index = index } ∷ []) so.rows ∙ ap (λ (p : Pick). map (pick start.members) (take i first) ++ p ∷ []) picked ∙ sym pushed;
-      ran_are = after_is ∙ ap (λ (r : Roster). record r { members = ran key.name r.members }) so.ran_are ∙ ap (λ (ms : List Member). record start { members = ms }) (sym (ap (λ (ps : Table). all_ran ps start.members) pushed ∙ all_ran_push (map (pick start.members) (take i first)) (pick start.members key) start.members));
-      queue = λ name. by name (name_eq name key.name) refl (notified name);
-    }
-      where
-        picked : record { name = key.name; index = index } ≡ pick start.members key
-        picked = ap (λ (n : ℕ). record { name = key.name; index = n }) (index_is ∙ sym (ap index_of may.1))
+  -- so what waits under its name then is the subtask after that
+  pub notified_on : {after : Roster} {anew : Queue} (quantum : Quantum) {new : Bool} → seatless quantum ≡ quantum_of may.0 → after ≡ record roster { members = ran key.name roster.members }
+      → new ≡ not (finmap.contains_key waiting quantum.next_key.name) → anew ≡ (if new then finmap.insert waiting quantum.next_key.name (quantum.next_from, quantum.next_key) else waiting)
+      → IsNotifiedOf key.name after.members waiting anew
+  notified_on {after} {anew} quantum {new} is after_is fresh in_ =
+      notified_next key.name after.members (with_quantum may.0) waiting waiting anew new quantum.next_from quantum.next_key
+      (ap (λ (r : Roster). member_named r.members key.name) after_is ∙ found_changed key.name with_quantum (λ m. refl) roster.members may.0 still_found)
+      may.2 (ap (λ (q : Quantum). q.next_from) is) (ap (λ (q : Quantum). q.next_key) is)
+      (absent_removed waiting key.name not_waiting) fresh in_
 
-        pushed : map (pick start.members) (take (i + 1) first) ≡ map (pick start.members) (take i first) ++ pick start.members key ∷ []
-        pushed = ap (map (pick start.members)) (take_more first i key inside ∙ ap (λ y. take i first ++ y ∷ []) (sym item)) ∙ map-append (pick start.members) (take i first) (key ∷ [])
+  -- one turn
+  pub run_turn : {after : Roster} {rows : Table} {anew : Queue} {index : ℕ} → index ≡ may.0.next → after ≡ record roster { members = ran key.name roster.members }
+      → rows ≡ table ++ record { name = key.name; index = index } ∷ [] → IsNotifiedOf key.name after.members waiting anew → RunSoFar start first (i + 1) after rows anew
+  run_turn {after} {rows} {anew} {index} index_is after_is rows_are notified = record {
+    apart = so.apart;
+    can_run = so.can_run;
+    rows = rows_are ∙ ap (λ (xs : Table). xs ++ record { name = key.name; index = index } ∷ []) so.rows ∙ ap (λ (p : Pick). map (pick start.members) (take i first) ++ p ∷ []) picked ∙ sym pushed;
+    ran_are = after_is ∙ ap (λ (r : Roster). record r { members = ran key.name r.members }) so.ran_are ∙ ap (λ (ms : List Member). record start { members = ms }) (sym (ap (λ (ps : Table). all_ran ps start.members) pushed ∙ all_ran_push (map (pick start.members) (take i first)) (pick start.members key) start.members));
+    queue = λ name. by name (name_eq name key.name) refl (notified name);
+  }
+    where
+      picked : record { name = key.name; index = index } ≡ pick start.members key
+      picked = ap (λ (n : ℕ). record { name = key.name; index = n }) (index_is ∙ sym (ap index_of may.1))
 
-        by : (name : Name) (b : Bool) → name_eq name key.name ≡ b → finmap.get anew name ≡ (if b then queued (member_named after.members key.name) else finmap.get waiting name)
-            → finmap.get anew name ≡ (if has_key_of name (drop (i + 1) first) then None else queued (member_named after.members name))
-        by name true q is =
-            (let same = name_exact name key.name q in
-            is ∙ ap (λ n. queued (member_named after.members n)) (sym same)
-            ∙ sym (ap (λ b. if b then None else queued (member_named after.members name)) (ap (λ n. has_key_of n (drop (i + 1) first)) same ∙ apart_after (take i first) key (drop (i + 1) first) split_apart)))
-        by name false q is = grind (arith, drop_item, found_other)
+      pushed : map (pick start.members) (take (i + 1) first) ≡ map (pick start.members) (take i first) ++ pick start.members key ∷ []
+      pushed = ap (map (pick start.members)) (take_more first i key inside ∙ ap (λ y. take i first ++ y ∷ []) (sym item)) ∙ map-append (pick start.members) (take i first) (key ∷ [])
+
+      by : (name : Name) (b : Bool) → name_eq name key.name ≡ b → finmap.get anew name ≡ (if b then queued (member_named after.members key.name) else finmap.get waiting name)
+          → finmap.get anew name ≡ (if has_key_of name (drop (i + 1) first) then None else queued (member_named after.members name))
+      by name true q is =
+          (let same = name_exact name key.name q in
+          is ∙ ap (λ n. queued (member_named after.members n)) (sym same)
+          ∙ sym (ap (λ b. if b then None else queued (member_named after.members name)) (ap (λ n. has_key_of n (drop (i + 1) first)) same ∙ apart_after (take i first) key (drop (i + 1) first) split_apart)))
+      by name false q is = grind (arith, drop_item, found_other)
 
 -- The first keys of the ready structure are the first eligible subtasks of the members.
 
@@ -337,3 +343,14 @@ module _ (n : ℕ) (members : List Member) (waiting : Queue) (named : NamesApart
 
 pub queue_without : (first : List Key) (members : List Member) (waiting : Queue) → IsQueue members waiting → IsQueueWithout first members (without first waiting)
 queue_without first members waiting queue name = grind (arith, get_without)
+
+-- so a slot's quanta begin
+pub run_start : (slot m : ℕ) (start : Roster) (waiting : Queue) → NamesApart (λ (m : Member). m.name) start.members → IsQueue start.members waiting → AllByRecursion (λ m. m.next < MAX_INDEX) start.members
+    → (first : List Key) → first ≡ first_by_rank m (released slot waiting) → {table : Table} → table ≡ [] → {rest : Queue} → rest ≡ without first waiting → RunSoFar start first 0 start table rest
+run_start slot m start waiting named queue few first is none rest_is = record {
+  apart = first_apart slot start.members waiting named queue m first is;
+  can_run = first_may_run slot start.members waiting named queue m first is few;
+  rows = none;
+  ran_are = refl;
+  queue = subst (IsQueueWithout first start.members) (sym rest_is) (queue_without first start.members waiting queue);
+}

@@ -1,6 +1,6 @@
 -- Readings of sound beginnings: one entry more, and what a replica that holds more makes of them.
 use Rattle.std.proofs.Common.{append_assoc, sum_by}
-use Rattle.pfair_table.proofs.Common.{take-append-le, length-append, length-set, get_or-set_other, cases_eq, get_or_from_slice_get, slice_get-get_or, slice_get_within, take-length, take-suc, One, Torn, Logged, Replica, IsReplica, Below, Untorn, numbers_below, sound_beginning, sound_total, said_in, said_behind, said, some_at, held_within, beginnings_grow, IsReadingOf, AreReadingsOf, AreWhole, entries_read, said_by_all, ℕ, zero, suc, ◌+◌, ◌≤◌, ◌<◌, ◌≡◌, refl, sym, ap, ◌∙◌, ⊎_elim, arith, List, [], ◌∷◌, ◌++◌, length, take, drop, Some, ◌≢◌, ◌⊎◌, flat_map, slice_get, set, sum_by_push, Reading}
+use Rattle.pfair_table.proofs.Common.{take-append-le, length-append, length-set, get_or-set_other, cases_eq, get_or_from_slice_get, slice_get-get_or, slice_get_within, take-length, take-suc, One, Torn, Logged, Replica, IsReplica, Below, Untorn, numbers_below, sound_beginning, sound_total, said_in, said_behind, said, some_at, held_within, beginnings_grow, IsReadingOf, AreReadFrom, AreReadingsOf, AreSilentAfter, AreWhole, Readings, entries_read, said_by_all, ℕ, zero, suc, ◌+◌, ◌≤◌, ◌<◌, ◌≡◌, refl, sym, ap, subst, same_Some, ◌∙◌, ⊎_elim, arith, List, [], ◌∷◌, ◌++◌, length, take, drop, Some, ◌≢◌, ◌⊎◌, flat_map, slice_get, set, sum_by_push, Reading}
 use Rattle.std.proofs.lemmas.Grind.{flat_map-append, get_or-set_at}
 use Rattle.pfair_replica.specs.Counters.{said_at}
 
@@ -30,6 +30,13 @@ read_whole x k before after read count says =
 abbrev pub AreUnread : List Reading → Type 0
 AreUnread rs = (k : ℕ) (r : Reading) → slice_get rs k ≡ Some r → (r.count ≡ 0) × ((t : ℕ) → said_at r.agenda t ≡ [])
 
+-- with one more of which nothing was read
+pub unread_push : (rs : List Reading) (r : Reading) → AreUnread rs → (r.count ≡ 0) × ((t : ℕ) → said_at r.agenda t ≡ []) → AreUnread (rs ++ r ∷ [])
+unread_push [] r unread none zero q e = subst (λ (q : Reading). (q.count ≡ 0) × ((t : ℕ) → said_at q.agenda t ≡ [])) (same_Some r q e) none
+unread_push [] r unread none (suc k) q e = absurd (cc)
+unread_push (x ∷ rs) r unread none zero q e = unread zero q e
+unread_push (x ∷ rs) r unread none (suc k) q e = unread_push rs r (λ k q e. unread (suc k) q e) none k q e
+
 -- those below p are read to their ends
 abbrev pub AreWholeBelow : Replica → List Reading → ℕ → Type 0
 AreWholeBelow x rs p = (k : ℕ) (r : Reading) → k < p → slice_get rs k ≡ Some r → r.count ≡ length (sound_beginning x k)
@@ -45,6 +52,9 @@ module _ (x : Replica) (rs : List Reading) (p : ℕ) (r : Reading) (room : p < l
 
   pub readings_put : AreReadingsOf x rs → IsReadingOf p (sound_beginning x p) r → AreReadingsOf x (set rs p r)
   readings_put all read = record { one_each = length-set rs p r ∙ all.one_each; each = λ sound whole k q e. grind (arith, put_at) }
+
+  pub silent_put : {last later : ℕ} → AreSilentAfter last rs → last ≤ later → ((t : ℕ) → later < t → said_at r.agenda t ≡ []) → AreSilentAfter later (set rs p r)
+  silent_put silent more here k q t e late = grind (arith, put_at k q e, here t late, silent k q t)
 
   pub whole_put : AreWholeBelow x rs p → r.count ≡ length (sound_beginning x p) → AreWholeBelow x (set rs p r) (p + 1)
   whole_put below count k q low e = grind (arith, put_at)
@@ -97,13 +107,17 @@ untorn_below : (x y : Replica) → Below x y → Untorn y → Untorn x
 untorn_below x y below whole k n h = whole k n (held_within x y below whole k n Torn h)
 
 -- what was read of a replica was read of one that holds more
-pub readings_above : {x y : Replica} {rs : List Reading} → AreReadingsOf x rs → Below x y → y.processors ≡ x.processors → y.capacity ≡ x.capacity → AreReadingsOf y rs
+pub readings_above : {x y : Replica} {rs : Readings} → AreReadFrom x rs → Below x y → y.processors ≡ x.processors → y.capacity ≡ x.capacity → AreReadFrom y rs
 readings_above {x} {y} all below same_p same_c = record {
-  one_each = all.one_each ∙ sym same_p;
-  each = λ sound whole k r h.
-      (let read = all.each (replica_below x y below same_p same_c sound whole) (untorn_below x y below whole) k r h in
-      let grown = beginnings_grow x y sound below whole k in
-      grind (arith, length-append, take-append-le));
+  are = record {
+    one_each = all.are.one_each ∙ sym same_p;
+    each = λ sound whole k r h.
+        (let read = all.are.each (replica_below x y below same_p same_c sound whole) (untorn_below x y below whole) k r h in
+        let grown = beginnings_grow x y sound below whole k in
+        grind (arith, length-append, take-append-le));
+  };
+  counted = all.counted;
+  silent = all.silent;
 }
 
 -- ---- what all of them say

@@ -5,6 +5,7 @@ use Rattle.pfair_entry.specs.declared.entry.Said.{Said}
 use Rattle.pfair_replica.specs.Counters.{said_at}
 use Rattle.pfair_replica.specs.Replica.{Replica, IsReplica, Untorn, sound_beginning, said_in, ReplicaRows, replica_of, said}
 use Rattle.pfair_table.specs.declared.planner.Reading.{Reading}
+use Rattle.pfair_table.specs.declared.planner.Readings.{Readings}
 use Rattle.pfair_admission.specs.Admission.{boundary, boundary_decisions, announcements, Roster, member_named}
 use Rattle.pfair_admission.specs.Member.{Member, is_departing, eligible_from, next_key}
 use Rattle.pfair_admission.specs.declared.decision.Decision.{Decision}
@@ -46,17 +47,22 @@ entries_read readings = sum_by (λ (r : Reading). r.count) readings
 abbrev pub AreSilentAfter : ℕ → List Reading → Type 0
 AreSilentAfter last readings = (k : ℕ) (reading : Reading) (t : ℕ) → slice_get readings k ≡ Some reading → last < t → said_at reading.agenda t ≡ []
 
+-- readings of one replica: as many as were counted were read, and nothing for a slot after the last
+pub record AreReadFrom (x : Replica) (readings : Readings) : Type 0 where
+  pub are : AreReadingsOf x readings.by_processor.items
+  pub counted : readings.read ≤ entries_read readings.by_processor.items
+  pub silent : AreSilentAfter readings.last readings.by_processor.items
+
 -- what the readings say at a slot, one after another
 abbrev pub said_by_all : List Reading → ℕ → List Said
 said_by_all readings t = flat_map (λ (r : Reading). said_at r.agenda t) readings
 
--- A run can be planned by the contents: nothing is torn, and what was read is in them.
-pub record CanBePlanned (o : Origin) (s : Settings) (x : ReplicaRows) (readings : List Reading) : Type 0 where
+-- A run can be planned by the contents: nothing is torn.
+pub record CanBePlanned (o : Origin) (s : Settings) (x : ReplicaRows) : Type 0 where
   pub began : IsOrigin o s
   pub is_of : IsOf s (replica_of x)
   pub whole : Untorn (replica_of x)
   pub room : x.capacity ≤ LONGEST_LOG
-  pub read : AreReadingsOf (replica_of x) readings
 
 -- the table and the decisions of slot n
 pub record IsPlanOfSlot (o : Origin) (s : Settings) (x : ReplicaRows) (n : ℕ) (plan : SlotPlan) : Type 0 where

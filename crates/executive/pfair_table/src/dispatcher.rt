@@ -8,7 +8,7 @@ ghost use Rattle.pfair_table.specs.Events.{begin_at, happens};
 ghost use Rattle.std.specs.List.{AllByRecursion};
 ghost use Rattle.pfair_table.specs.Places.{IsOrigin, places_in, IsFit};
 ghost use Rattle.pfair_table.specs.Refinement.{HavePlacedAlike, AreMembersOf, course_of, members_after, IsStepOf, IsPlanFault, after_fault, IsReopenFault, IsLast, IsWholePlan, HavePlannedAlike};
-ghost use Rattle.pfair_table.specs.Planning.{AreReadingsOf};
+ghost use Rattle.pfair_table.specs.Planning.{AreReadFrom};
 ghost use Rattle.pfair_table.specs.NextRun.{LeaveAlike};
 
 use crate::answer::{PlanFault, Step};
@@ -37,9 +37,9 @@ pub struct Dispatcher<R: Ready> {
 }
 
 impl<R: Ready> Model for Dispatcher<R> {
-    ghost use Rattle.std.specs.Prelude.{◌≡◌};
+    ghost use Rattle.std.specs.Prelude.{◌≡◌, false};
     ghost use Rattle.pfair_replica.specs.Replica.{replica_of};
-    ghost use Rattle.pfair_table.specs.Planning.{AreReadingsOf};
+    ghost use Rattle.pfair_table.specs.Planning.{AreReadFrom};
     ghost use Rattle.pfair_table.specs.Refinement.{Dispatch, IsKept};
 
     ghost Value = { Dispatch };
@@ -56,7 +56,7 @@ impl<R: Ready> Model for Dispatcher<R> {
 
     ghost invariant = { λ a. IsKept a.planned.origin a.planner.settings (replica_of a.replica) a.planned.tables a.planned.decided a.planner.spent
         a.planner.members (R.now a.planner.ready) (R.held a.planner.ready)
-        × AreReadingsOf (replica_of a.replica) a.planner.readings.by_processor.items
+        × (a.planner.spent ≡ false → AreReadFrom (replica_of a.replica) a.planner.readings)
         × (a.planned.settings ≡ a.planner.settings) };
 }
 

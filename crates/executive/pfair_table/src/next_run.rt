@@ -64,9 +64,16 @@ impl<R: Ready> Dispatcher<R> {
         if let Some(name) = left.first_left_behind() {
             return Err(NextRunFault::CannotCarry { name });
         }
+        let alloc = self.planner.alloc;
         let members = left.carried()?;
-        let state = self.left(slot, members)?;
-        Dispatcher::resume(self.planner.alloc, state, slots, self.replica.capacity())
+        let (table, places) = self.planned.last();
+        let state = State {
+            slot,
+            members,
+            table: Vec::from_slice(alloc, table)?,
+            places: Vec::from_slice(alloc, places)?,
+        };
+        Dispatcher::resume(alloc, state, slots, self.replica.capacity())
     }
 
     /// Returns the state in which this run began. `None` in a first run, and only then. O(1).
@@ -109,28 +116,6 @@ impl<R: Ready> Dispatcher<R> {
             slots,
         };
         Ok(Dispatcher::begin(alloc, settings, capacity, Some(state))?)
-    }
-
-    // What this run leaves to the next one, whose members are these.
-    fn left(&self, slot: u64, members: Members) -> Result<State, AllocError>
-        requires finished { IsFinished self.now }
-        requires able { AllByRecursion CanBeCarried (members_left self.now) }
-        requires slot { slot ≡ end_of self.now }
-        requires early { slot ≤ LAST_SLOT }
-        requires carried { AreCarriedOf self.now members }
-        ensures { IfOk result (λ state. state ≡ left_by self.now) }
-    {
-        // a replica holds entries of its own logs, and a machine has a processor
-        prove!(self.replica.processors() >= 1);
-        prove!(self.planner.settings.processors() >= 1);
-        let alloc = self.planner.alloc;
-        let (table, places) = self.planned.last();
-        Ok(State {
-            slot,
-            members,
-            table: Vec::from_slice(alloc, table)?,
-            places: Vec::from_slice(alloc, places)?,
-        })
     }
 
     // A dispatcher that holds no entries and has planned nothing of a run that begins there.

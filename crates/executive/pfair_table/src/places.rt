@@ -6,7 +6,7 @@ ghost use Rattle.pfair_table.specs.Places.{all_kept, free_place, filled, places_
 ghost use Rattle.pfair_weight.specs.Name.{NamesApart};
 
 use crate::settings::Settings;
-use crate::slot::{Pick, emptied};
+use crate::slot::Pick;
 use pfair_weight::TaskName;
 use std::alloc::AllocError;
 
@@ -43,13 +43,14 @@ pub(crate) fn places_beside(
 }
 
 // The kept places; each other row gets the least free processor.
-fn fill_places(kept: &[Option<u8>], room: Vec<u8>) -> Result<Vec<u8>, AllocError>
+fn fill_places(kept: &[Option<u8>], mut places: Vec<u8>) -> Result<Vec<u8>, AllocError>
     requires below { AllByRecursion (λ k. k < Settings.MAX_PROCESSORS) (all_kept kept.now) }
     requires rows { length kept.now ≤ Settings.MAX_PROCESSORS }
     ensures { IfOk result (λ here. here.items ≡ filled (all_kept kept.now) kept.now) }
 {
     let mut in_use = use_kept(kept);
-    let mut places = emptied(room, kept.len())?;
+    places.clear();
+    places.reserve(kept.len())?;
     for kept_place in kept {
         let place = match kept_place {
             Some(place) => *place,

@@ -1,11 +1,10 @@
 //! The state between slots, beside the replica and the tables: the members, the ready structure,
 //! and how far the replica was read.
-ghost use Rattle.std.specs.Prelude.{◌≡◌, ◌≤◌, ◌<◌, ◌+◌, false, is_err, IfOk, IfErr, OnOk, length, ℕ, []};
-ghost use Rattle.pfair_replica.specs.Replica.{replica_of, Replica as Held, IsReplica, has_torn, Untorn, sound_beginning, said};
+ghost use Rattle.std.specs.Prelude.{◌≡◌, ◌≤◌, ◌<◌, ◌+◌, false, is_err, IfOk, IfErr, OnOk};
+ghost use Rattle.pfair_replica.specs.Replica.{replica_of, Replica as Held, IsReplica, has_torn, Untorn, said};
 ghost use Rattle.pfair_table.specs.Places.{IsOrigin};
-ghost use Rattle.pfair_table.specs.Planning.{AreReadingsOf, IsReadingOf, AreWhole, AreSilentAfter, entries_read, CanBePlanned, IsPlanOfSlot};
+ghost use Rattle.pfair_table.specs.Planning.{AreReadFrom, AreWhole, CanBePlanned, IsPlanOfSlot};
 ghost use Rattle.pfair_table.specs.Refinement.{IsInStep, IsNextStep, IsNoStep};
-ghost use Rattle.pfair_replica.specs.Counters.{said_at};
 
 use crate::answer::{PlanFault, Step};
 use crate::settings::Settings;
@@ -44,7 +43,7 @@ impl<R: Ready> Planner<R> {
         ensures settings { IfOk result (λ p. p.settings ≡ settings) }
         ensures able { IfOk result (λ p. p.spent ≡ false) }
         ensures step { IfOk result (λ p. (x : Held) → IsInStep origin.now settings x 0 p.members (R.now p.ready) (R.held p.ready)) }
-        ensures readings { IfOk result (λ p. (x : Held) → x.processors ≡ settings.processors → AreReadingsOf x p.readings.by_processor.items) }
+        ensures readings { IfOk result (λ p. (x : Held) → x.processors ≡ settings.processors → AreReadFrom x p.readings) }
     {
         let readings = Readings::new(alloc, settings.processors())?;
         let members = first_members(alloc, origin, settings)?;
@@ -93,14 +92,15 @@ impl<R: Ready> Planner<R> {
         slot: u64,
         room: Vec<Pick>,
     ) -> Result<SlotPlan, AllocError>
-        requires able { CanBePlanned origin.now self.old.settings replica.now self.old.readings.by_processor.items }
+        requires able { CanBePlanned origin.now self.old.settings replica.now }
+        requires readings { AreReadFrom (replica_of replica.now) self.old.readings }
         requires slot { slot < self.old.settings.slots }
         requires step { IsInStep origin.now self.old.settings (replica_of replica.now) slot
             self.old.members (R.now self.old.ready) (R.held self.old.ready) }
         ensures plan { IfOk result (IsPlanOfSlot origin.now self.old.settings replica.now slot) }
         ensures step { OnOk result (IsInStep origin.now self.old.settings (replica_of replica.now) (slot + 1)
             self.new.members (R.now self.new.ready) (R.held self.new.ready)) }
-        ensures readings { AreReadingsOf (replica_of replica.now) self.new.readings.by_processor.items }
+        ensures readings { OnOk result (AreReadFrom (replica_of replica.now) self.new.readings) }
         ensures settings { self.new.settings ≡ self.old.settings }
         ensures spent { self.new.spent ≡ is_err result }
     {
@@ -122,29 +122,27 @@ impl<R: Ready> Planner<R> {
         Ok(SlotPlan { table, decided })
     }
 
-    /// Plans so many slots of the replica anew, without keeping the tables.
+    /// Begins anew, and plans so many slots of the replica without keeping the tables.
     pub(crate) fn plan_again(
         &mut self,
         origin: &Origin,
         replica: &Replica,
         slots: u64,
     ) -> Result<(), AllocError>
-        requires able { CanBePlanned origin.now self.old.settings replica.now self.old.readings.by_processor.items }
+        requires able { CanBePlanned origin.now self.old.settings replica.now }
         requires slots { slots ≤ self.old.settings.slots }
         ensures step { OnOk result (IsInStep origin.now self.old.settings (replica_of replica.now) slots
             self.new.members (R.now self.new.ready) (R.held self.new.ready)) }
-        ensures readings { AreReadingsOf (replica_of replica.now) self.new.readings.by_processor.items }
+        ensures readings { OnOk result (AreReadFrom (replica_of replica.now) self.new.readings) }
         ensures settings { self.new.settings ≡ self.old.settings }
         ensures spent { self.new.spent ≡ is_err result }
     {
         self.spent = true;
-        self.members = first_members(self.alloc, origin, self.settings)?;
-        self.ready = ready_of(self.alloc, &self.members)?;
+        *self = Planner::new(self.alloc, self.settings, origin)?;
         let mut room = Vec::new(self.alloc);
         for slot in 0..slots {
             room = self.plan(origin, replica, slot, room)?.table;
         }
-        self.spent = false;
         Ok(())
     }
 }
@@ -156,53 +154,25 @@ pub(crate) struct Reading {
     pub agenda: Agenda,
 }
 
-impl Reading {
-    fn new(alloc: Global) -> Reading
-        ensures count { result.count ≡ 0 }
-        ensures nothing { (t : ℕ) → said_at result.agenda t ≡ [] }
-    {
-        Reading {
-            count: 0,
-            agenda: Agenda::new(alloc),
-        }
-    }
-
-    // Reads the entries of a sound beginning that weren't read yet. After a failed allocation
-    // nothing counts as read.
-    fn read_on(&mut self, alloc: Global, replica: &Replica, processor: u8) -> Result<(), AllocError>
-        requires { IsReadingOf processor (sound_beginning (replica_of replica.now) processor) self.old }
-        ensures reading { IsReadingOf processor (sound_beginning (replica_of replica.now) processor) self.new }
-        ensures whole { OnOk result (self.new.count ≡ length (sound_beginning (replica_of replica.now) processor)) }
-    {
-        if let Err(refused) = replica.note_said(processor, self.count, &mut self.agenda) {
-            *self = Reading::new(alloc);
-            return Err(refused);
-        }
-        self.count = replica.sound_count(processor);
-        Ok(())
-    }
-}
-
 /// What the sound beginnings of all processors say, as far as they were read.
 #[derive(Drop)]
 pub(crate) struct Readings {
     by_processor: Vec<Reading>,
-    // how many sound entries there were when all were read, or 0 after a failed reading
+    // how many sound entries there were when all were read
     read: u64,
     // nothing is read for a later slot
     last: u64,
     alloc: Global,
-    ghost counted: { read ≤ entries_read by_processor.items },
-    ghost silent: { AreSilentAfter last by_processor.items },
 }
 
 impl Readings {
     pub(crate) fn new(alloc: Global, processors: u8) -> Result<Readings, AllocError>
-        ensures { IfOk result (λ r. (x : Held) → x.processors ≡ processors → AreReadingsOf x r.by_processor.items) }
+        ensures { IfOk result (λ r. (x : Held) → x.processors ≡ processors → AreReadFrom x r) }
     {
         let mut by_processor = Vec::with_capacity(alloc, processors as usize)?;
         for _ in 0..processors {
-            by_processor.push(Reading::new(alloc))?;
+            let agenda = Agenda::new(alloc);
+            by_processor.push(Reading { count: 0, agenda })?;
         }
         Ok(Readings {
             by_processor,
@@ -221,8 +191,8 @@ impl Readings {
     ) -> Result<Vec<Said>, AllocError>
         requires replica { IsReplica (replica_of replica.now) }
         requires untorn { Untorn (replica_of replica.now) }
-        requires readings { AreReadingsOf (replica_of replica.now) self.old.by_processor.items }
-        ensures readings { AreReadingsOf (replica_of replica.now) self.new.by_processor.items }
+        requires readings { AreReadFrom (replica_of replica.now) self.old }
+        ensures readings { OnOk result (AreReadFrom (replica_of replica.now) self.new) }
         ensures announced { IfOk result (λ announced. announced.items ≡ said (replica_of replica.now) slot) }
     {
         self.read_on(replica)?;
@@ -243,19 +213,18 @@ impl Readings {
     fn read_on(&mut self, replica: &Replica) -> Result<(), AllocError>
         requires replica { IsReplica (replica_of replica.now) }
         requires untorn { Untorn (replica_of replica.now) }
-        requires readings { AreReadingsOf (replica_of replica.now) self.old.by_processor.items }
-        ensures readings { AreReadingsOf (replica_of replica.now) self.new.by_processor.items }
+        requires readings { AreReadFrom (replica_of replica.now) self.old }
+        ensures readings { OnOk result (AreReadFrom (replica_of replica.now) self.new) }
         ensures whole { OnOk result (AreWhole (replica_of replica.now) self.new.by_processor.items) }
     {
         if self.read == replica.sound_total() {
             return Ok(());
         }
-        self.read = 0;
         for processor in 0..replica.processors() {
-            let row = processor as usize;
-            let read = self.by_processor[row].read_on(self.alloc, replica, processor);
-            self.last = self.last.max(self.by_processor[row].agenda.last());
-            read?;
+            let reading = &mut self.by_processor[processor as usize];
+            replica.note_said(processor, reading.count, &mut reading.agenda)?;
+            reading.count = replica.sound_count(processor);
+            self.last = self.last.max(reading.agenda.last());
         }
         self.read = replica.sound_total();
         Ok(())

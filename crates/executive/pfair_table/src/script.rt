@@ -39,7 +39,7 @@ impl Script {
         ensures ok { IfOk result (λ script. (script ≡ record { settings = settings; logs = lists_of logs.items }) × IsLoggedRun script) }
         ensures back { IfErr result (λ back. (back ≡ logs) × ¬ (IsLoggedRun record { settings = settings; logs = lists_of logs.items })) }
     {
-        if fits(settings, &logs) {
+        if logs.len() == settings.processors() as usize && are_short(&logs) {
             Ok(Script { settings, logs })
         } else {
             Err(logs)
@@ -84,12 +84,6 @@ fn longest(logs: &[Vec<Entry>]) -> usize
         longest = longest.max(log.len());
     }
     longest
-}
-
-fn fits(settings: Settings, logs: &[Vec<Entry>]) -> bool
-    ensures { IsTrue result ↔ IsLoggedRun record { settings = settings; logs = lists_of logs.now } }
-{
-    logs.len() == settings.processors() as usize && are_short(logs)
 }
 
 fn are_short(logs: &[Vec<Entry>]) -> bool

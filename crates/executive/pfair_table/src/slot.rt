@@ -127,43 +127,8 @@ pub(crate) fn ready_of<R: Ready>(alloc: Global, members: &Members) -> Result<R, 
     Ok(ready)
 }
 
-// Gives each of these keys a quantum, and inserts the next subtask of its task. The table reuses
-// the memory of `room`.
-fn run_each<R: Ready>(
-    ready: &mut R,
-    members: &mut Members,
-    first: &[Seated],
-    room: Vec<Pick>,
-) -> Result<Vec<Pick>, AllocError>
-    requires apart { NamesApart (λ k. k.name) (keys_of first.now) }
-    requires running { (k : Key) → Among (keys_of first.now) k → MayRun members.old.members k }
-    requires queue { IsQueueWithout (keys_of first.now) members.old.members (R.held ready.old) }
-    ensures table { IfOk result (λ table. table.items ≡ map (pick members.old.members) (keys_of first.now)) }
-    ensures members { OnOk result (members.new ≡ record members.old {
-      members = all_ran (map (pick members.old.members) (keys_of first.now)) members.old.members;
-    }) }
-    ensures queue { OnOk result (IsQueue members.new.members (R.held ready.new)) }
-    ensures time { R.now ready.new ≡ R.now ready.old }
-{
-    let mut table = emptied(room, first.len())?;
-    for seated in first {
-        let name = seated.key.name;
-        let Some(quantum) = members.ran_on(seated.seats.member, &name) else {
-            continue;
-        };
-        table.push(Pick {
-            name,
-            index: quantum.index,
-        })?;
-        let mut seats = seated.seats;
-        seats.member = quantum.seat;
-        ready.insert_seated(seats, quantum.next_from, quantum.next_key)?;
-    }
-    Ok(table)
-}
-
-/// The quanta of a slot: the first eligible subtasks. The table uses the room of a list, and their
-/// keys that of another one, which is kept.
+/// The quanta of a slot: the first eligible subtasks. The table reuses the memory of `room`, and
+/// their keys that of `keys`.
 pub(crate) fn give_quanta<R: Ready>(
     ready: &mut R,
     members: &mut Members,
@@ -179,22 +144,26 @@ pub(crate) fn give_quanta<R: Ready>(
     ensures table { IfOk result (λ table. table.items ≡ rows_at processors slot members.old.members) }
     ensures members { IfOk result (λ table. members.new ≡ record members.old { members = all_ran table.items members.old.members }) }
     ensures queue { OnOk result (IsQueue members.new.members (R.held ready.new)) }
-    ensures time { R.now ready.new ≡ slot }
+    ensures time { OnOk result (R.now ready.new ≡ slot) }
 {
     let alloc = *keys.allocator();
     let keys_room = mem::replace(keys, Vec::new(alloc));
-    let first = ready.take_seated(slot, processors as usize, keys_room)?;
-    let table = run_each(ready, members, &first, room);
-    *keys = first;
-    table
-}
-
-/// A list without what it has, with room for so many elements. It allocates if it has less.
-pub(crate) fn emptied<T: Drop>(mut list: Vec<T>, count: usize) -> Result<Vec<T>, AllocError>
-    ensures items { IfOk result (λ first. first.items ≡ []) }
-    ensures capacity { IfOk result (λ first. count ≤ vec_capacity first) }
-{
-    list.clear();
-    list.reserve(count)?;
-    Ok(list)
+    *keys = ready.take_seated(slot, processors as usize, keys_room)?;
+    let mut table = room;
+    table.clear();
+    table.reserve(keys.len())?;
+    for seated in &*keys {
+        let name = seated.key.name;
+        let Some(quantum) = members.ran_on(seated.seats.member, &name) else {
+            continue;
+        };
+        table.push(Pick {
+            name,
+            index: quantum.index,
+        })?;
+        let mut seats = seated.seats;
+        seats.member = quantum.seat;
+        ready.insert_seated(seats, quantum.next_from, quantum.next_key)?;
+    }
+    Ok(table)
 }

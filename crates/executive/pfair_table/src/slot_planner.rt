@@ -2,7 +2,7 @@
 ghost use Rattle.std.specs.Prelude.{◌≡◌, ◌≤◌, ◌<◌, ◌+◌, [], false, IfOk, IfErr, OnOk, None, length};
 ghost use Rattle.pfair_replica.specs.Replica.{Below, has_torn, SameShape, replica_of};
 ghost use Rattle.pfair_table.specs.Script.{replica_of_logs, IsBySlot, IsScriptFaultOf};
-ghost use Rattle.pfair_table.specs.Planning.{AreReadingsOf};
+ghost use Rattle.pfair_table.specs.Planning.{AreReadFrom};
 ghost use Rattle.pfair_table.specs.Refinement.{after_fault, IsPlanFault, IsWholePlan, IsNextPlan, after_plan, seeing};
 
 use crate::answer::{PlanFault, RunFault, Step};
@@ -32,9 +32,9 @@ pub struct SlotPlanner<R: Ready> {
 }
 
 impl<R: Ready> Model for SlotPlanner<R> {
-    ghost use Rattle.std.specs.Prelude.{None};
+    ghost use Rattle.std.specs.Prelude.{◌≡◌, None, false};
     ghost use Rattle.pfair_replica.specs.Replica.{replica_of};
-    ghost use Rattle.pfair_table.specs.Planning.{AreReadingsOf};
+    ghost use Rattle.pfair_table.specs.Planning.{AreReadFrom};
     ghost use Rattle.pfair_table.specs.Refinement.{Dispatch, IsKept};
     ghost use Rattle.pfair_table.specs.Planned.{tables_to, decided_to};
 
@@ -53,7 +53,7 @@ impl<R: Ready> Model for SlotPlanner<R> {
     ghost invariant = { λ a. IsKept None a.planner.settings (replica_of a.seen.value)
         (tables_to None a.planner.settings a.of.value a.planned) (decided_to None a.planner.settings a.of.value a.planned) a.planner.spent
         a.planner.members (R.now a.planner.ready) (R.held a.planner.ready)
-        × AreReadingsOf (replica_of a.seen.value) a.planner.readings.by_processor.items };
+        × (a.planner.spent ≡ false → AreReadFrom (replica_of a.seen.value) a.planner.readings) };
 }
 
 impl<R: Ready> SlotPlanner<R> {

@@ -9,7 +9,7 @@ loop-kept_place-init c = record {
   used = all_kept c.args.kept.now;
   in_use = c.use_kept-in_use.ensures;
   fits = c.use_kept-in_use.type_inv;
-  so_far = ap (λ (ps : List ℕ). ps ++ filled (all_kept c.args.kept.now) c.args.kept.now) c.in_ok-places.ensures.items;
+  so_far = ap (λ (ps : List ℕ). ps ++ filled (all_kept c.args.kept.now) c.args.kept.now) (c.reserve.ensures.items ∙ c.clear.ensures.items);
   room = omega (arith, kept_count c.args.kept.now, c.requires.rows);
 }
 

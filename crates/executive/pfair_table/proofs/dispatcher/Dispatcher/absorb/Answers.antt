@@ -7,7 +7,7 @@ use Rattle.pfair_table.proofs.dispatcher.Dispatcher.absorb.Goals as goal
 pub invariant_of-self : goal.invariant_of-self
 invariant_of-self g c = (
   kept_above c.self.invariant.0 c.merge.ensures.grows (sym c.merge.ensures.shape.0) (sym c.merge.ensures.shape.1),
-  readings_above c.self.invariant.1 c.merge.ensures.grows (sym c.merge.ensures.shape.0) (sym c.merge.ensures.shape.1),
+  λ able. readings_above (c.self.invariant.1 able) c.merge.ensures.grows (sym c.merge.ensures.shape.0) (sym c.merge.ensures.shape.1),
   c.self.invariant.2,
 )
 

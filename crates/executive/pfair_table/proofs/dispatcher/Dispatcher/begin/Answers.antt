@@ -13,6 +13,6 @@ invariant_of-result g c =
       subst (λ (d : PlannedSlots × Settings × Bool). IsKept d.0.origin d.1 x d.0.tables d.0.decided d.2 p.members (g.R.Ready.now p.ready) (g.R.Ready.held p.ready))
           (λ i. (sym c.new-3.ensures i, sym start.settings i, sym start.able i))
           (start_kept c.requires.origin (c.in_ok-replica.ensures ∙ (λ i. empty_replica (q i) (sym cap i))) (omega (arith, cap, few)) (start.step x)),
-      start.readings x (ap (λ (r : Replica). r.processors) c.in_ok-replica.ensures ∙ q),
+      λ _. start.readings x (ap (λ (r : Replica). r.processors) c.in_ok-replica.ensures ∙ q),
       ap (λ (d : PlannedSlots). d.settings) c.new-3.ensures ∙ sym start.settings,
     )

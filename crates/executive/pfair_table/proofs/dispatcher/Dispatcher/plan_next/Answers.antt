@@ -26,7 +26,6 @@ plan-requires-clause-able g c = record {
   is_of = is_of_held c.self.invariant.0 c.next_step.ensures.replica;
   whole = untorn_by_test (replica_of c.self.inside.replica) c.next_step.ensures.replica c.in_ok-step.ensures.able.0;
   room = c.self.invariant.0.capacity;
-  read = c.self.invariant.1;
 }
 
 pub plan-requires-clause-slot : goal.plan-requires-clause-slot
@@ -104,7 +103,7 @@ invariant_of-self-2 g c =
           (ap (λ (s : Settings). a.planned.decided ++ decisions a.planned.origin s (said x) n ∷ []) c.self.invariant.2)
           (subst (λ (p : Origin × ℕ). IsInStep p.0 a.planner.settings x p.1 after.members (g.R.Ready.now after.ready) (g.R.Ready.held after.ready))
           (λ i. (origin_is i, (ap (λ k. k + 1) there.2 ∙ longer) i)) c.in_ok-plan.ensures.step)),
-      c.plan.ensures.readings,
+      λ _. c.in_ok-plan.ensures.readings,
       ap (λ (d : PlannedSlots). d.settings) planned_is ∙ c.self.invariant.2 ∙ sym c.plan.ensures.settings,
     )
 

@@ -8,7 +8,6 @@ plan_again-requires-clause-able g c = record {
   is_of = is_of_held c.self.invariant.0 c.first_torn.ensures.replica;
   whole = untorn_by_test (replica_of c.self.inside.replica) c.first_torn.ensures.replica (sym c.first_torn.ensures.some ∙ ap is_some c.in_default.is);
   room = c.self.invariant.0.capacity;
-  read = c.self.invariant.1;
 }
 
 pub invariant_of-self-2 : goal.invariant_of-self-2
@@ -18,6 +17,6 @@ invariant_of-self-2 g c =
       subst (λ (s : Settings). IsKept c.self.inside.planned.origin s (replica_of c.self.inside.replica) c.self.inside.planned.tables c.self.inside.planned.decided next.spent next.members (g.R.Ready.now next.ready) (g.R.Ready.held next.ready)) (sym c.plan_again.ensures.settings)
           (kept_anew c.self.invariant.0 c.first_torn.ensures.replica (sym c.first_torn.ensures.some ∙ ap is_some c.in_default.is)
           (subst (λ (p : Origin × ℕ). IsInStep p.0 c.self.inside.planner.settings (replica_of c.self.inside.replica) p.1 next.members (g.R.Ready.now next.ready) (g.R.Ready.held next.ready)) (λ i. (c.origin.ensures i, long i)) c.in_ok-plan_again.ensures.step)),
-      c.plan_again.ensures.readings,
+      λ _. c.in_ok-plan_again.ensures.readings,
       c.self.invariant.2 ∙ sym c.plan_again.ensures.settings,
     )

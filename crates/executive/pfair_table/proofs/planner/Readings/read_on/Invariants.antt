@@ -1,4 +1,4 @@
-use Rattle.pfair_table.proofs.Common.{replica_of, AreReadingsOf, ◌≡◌}
+use Rattle.pfair_table.proofs.Common.{replica_of, AreReadingsOf, AreSilentAfter}
 use Rattle.pfair_table.proofs.ReadOn.{AreWholeBelow}
 use Rattle.pfair_table.proofs.planner.Readings.read_on.Given as goal
 
@@ -6,5 +6,5 @@ abbrev pub invariant-loop-processor : goal.invariant-loop-processor
 invariant-loop-processor l = record {
   readings : AreReadingsOf (replica_of l.replica) l.self.by_processor.items;
   whole : AreWholeBelow (replica_of l.replica) l.self.by_processor.items l.processor;
-  none_yet : l.self.read ≡ 0;
+  silent : AreSilentAfter l.self.last l.self.by_processor.items;
 }

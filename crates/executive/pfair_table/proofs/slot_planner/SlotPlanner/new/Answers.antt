@@ -1,4 +1,4 @@
-use Rattle.pfair_table.proofs.Common.{none-some, Replica, empty_replica, ReplicaRows, replica_of, IsKept, AreReadingsOf, Settings, refl, sym, subst, arith, Bool, false, [], None}
+use Rattle.pfair_table.proofs.Common.{none-some, Replica, empty_replica, ReplicaRows, replica_of, IsKept, AreReadFrom, Settings, refl, sym, subst, arith, Bool, false, [], None}
 use Rattle.pfair_table.proofs.Keeping.{start_kept, kept_above}
 use Rattle.pfair_table.proofs.slot_planner.SlotPlanner.new.Goals as goal
 
@@ -15,5 +15,5 @@ invariant_of-result g c =
     (λ k n e h. absurd (none-some e h)) c.requires refl in (
       subst (λ (q : ReplicaRows × Settings × Bool). IsKept None q.1 (replica_of q.0) [] [] q.2 p.members (g.R.Ready.now p.ready) (g.R.Ready.held p.ready))
           (λ i. (sym c.of.ensures i, sym c.in_ok-planner.ensures.settings i, sym c.in_ok-planner.ensures.able i)) kept,
-      subst (λ (h : ReplicaRows). AreReadingsOf (replica_of h) p.readings.by_processor.items) (sym c.of.ensures) (c.in_ok-planner.ensures.readings x c.requires),
+      λ _. subst (λ (h : ReplicaRows). AreReadFrom (replica_of h) p.readings) (sym c.of.ensures) (c.in_ok-planner.ensures.readings x c.requires),
     )

@@ -1,4 +1,4 @@
-use Rattle.pfair_table.proofs.Common.{ReplicaRows, replica_of, untorn_by_test, AreReadingsOf, tables_to, decided_to, Dispatch, IsInStep, IsKept, IsPlanFault, IsWholePlan, said, Settings, table, decisions, ◌+◌, ◌∙◌, sym, ap, subst, None, refl}
+use Rattle.pfair_table.proofs.Common.{ReplicaRows, replica_of, untorn_by_test, AreReadFrom, tables_to, decided_to, Dispatch, IsInStep, IsKept, IsPlanFault, IsWholePlan, said, Settings, table, decisions, ◌+◌, ◌∙◌, sym, ap, subst, None, refl}
 use Rattle.pfair_table.specs.Refinement.{seeing}
 use Rattle.pfair_table.proofs.Keeping.{is_of_held, next_planned, next_none}
 use Rattle.pfair_table.proofs.Alike.{at_slot, memory_only, plannable, next_plan, kept_of, step_seen, kept_seen, whole_seen, seen_after}
@@ -16,6 +16,11 @@ returns-in_default-clause-settled g c = λ last.
     let none = next_none a.planner.settings (replica_of c.args.replica.now) (refl {a = a.planned}) c.in_ok-slot.field-0 c.in_ok-slot.ensures.step c.in_default.not-Planned in
     subst IsWholePlan (sym c.see.ensures) (whole_seen a.of.value a.planned c.self.invariant.0 (c.self.view_is ∙ c.see.ensures) c.next_step.ensures.replica c.in_ok-slot.ensures.able.0 none.1))
 
+pub plan-requires-clause-readings : goal.plan-requires-clause-readings
+plan-requires-clause-readings g c =
+    let a = c.self.inside in
+    subst (λ (h : ReplicaRows). AreReadFrom (replica_of h) a.planner.readings) (ap (λ (d : Dispatch). d.replica) (c.self.view_is ∙ c.see.ensures)) (c.self.invariant.1 c.in_ok-slot.ensures.able.1)
+
 pub plan-requires-clause-able : goal.plan-requires-clause-able
 plan-requires-clause-able g c =
     let a = c.self.inside in
@@ -26,7 +31,6 @@ plan-requires-clause-able g c =
       is_of = is_of_held kept c.next_step.ensures.replica;
       whole = untorn_by_test (replica_of c.args.replica.now) c.next_step.ensures.replica test;
       room = kept.capacity;
-      read = subst (λ (h : ReplicaRows). AreReadingsOf (replica_of h) a.planner.readings.by_processor.items) (ap (λ (d : Dispatch). d.replica) (c.self.view_is ∙ c.see.ensures)) c.self.invariant.1;
     }
 
 pub plan-requires-clause-step : goal.plan-requires-clause-step
@@ -52,7 +56,7 @@ invariant_of-self-2 g c =
       subst (λ (s : Settings). IsKept None s (replica_of a.seen.value) (tables_to None s c.of.result.value (a.planned + 1)) (decided_to None s c.of.result.value (a.planned + 1)) next.spent next.members (g.R.Ready.now next.ready) (g.R.Ready.held next.ready)) (sym c.plan.ensures.settings)
           (kept_seen a.of.value a.planned c.self.invariant.0 (c.self.view_is ∙ c.see.ensures) c.next_step.ensures.replica c.in_ok-slot.ensures.able.0 c.of.ensures there.0 there.1
           (subst (λ n. IsInStep None a.planner.settings (replica_of c.args.replica.now) (n + 1) next.members (g.R.Ready.now next.ready) (g.R.Ready.held next.ready)) there.2 c.in_ok-next.ensures.step)),
-      subst (λ (h : ReplicaRows). AreReadingsOf (replica_of h) next.readings.by_processor.items) (sym (ap (λ (d : Dispatch). d.replica) (c.self.view_is ∙ c.see.ensures))) c.plan.ensures.readings,
+      λ _. subst (λ (h : ReplicaRows). AreReadFrom (replica_of h) next.readings) (sym (ap (λ (d : Dispatch). d.replica) (c.self.view_is ∙ c.see.ensures))) c.in_ok-next.ensures.readings,
     )
 
 pub returns-clause-next : goal.returns-clause-next
