@@ -1,5 +1,5 @@
 -- The dispatcher's invariant through plans.
-use Rattle.pfair_table.proofs.Common.{length-append, map-append, Logged, Said, Announcement, said_by, said_in, sound_beginning, Replica, Below, Untorn, said, frontier, numbers_below, same_said, below_agree, frontier_le, read_by_number, first_by_rank, Queue, boundary, announcements, Roster, Decided, Settings, Origin, Table, eligible, pick, slot_of, all_ran, history, world, table, decisions, IsOf, IsSteady, IsPlanOf, IsInStep, IsKept, heard_before, map_same, among_below, ℕ, zero, suc, ◌+◌, ◌*◌, ◌≤◌, ◌<◌, ◌≡◌, refl, sym, ◌∙◌, subst, arith, cond, Bool, false, List, ◌∷◌, ◌++◌, length, map, Option, Some, None, flat_map, nat_lt, Result, IfOk, OnOk, [], SlotPlan, le-ltb, none-some, ReplicaRows, replica_of, IsReplica, has_torn, empty_replica, IsQueue, IsOrigin, Course, is_plannable, with_next_slot, PlannedSlots, with_next, members_before, plan, plan_decisions, Dispatch, IsNextStep, IsWholePlan, course_of, untorn_by_test, min, ap, ◌≢◌, IsTrue, if◌then◌else◌, Step, Done, option_map, length-map, length-drop, drop-append-le, drop-map, slice_get_past, slice_get-map, drop-nil, places_from, places_in, places_after, table_before, places_before, AreKept, IsNext, tables_to, decided_to, last_or, ◌-◌, drop, slice_get, PlannedSlot}
+use Rattle.pfair_table.proofs.Common.{length-append, map-append, Logged, Said, Announcement, said_by, said_in, sound_beginning, Replica, Below, Untorn, said, frontier, numbers_below, same_said, below_agree, frontier_le, read_by_number, first_by_rank, Queue, boundary, announcements, Roster, Decided, Settings, Origin, Table, eligible, pick, slot_of, all_ran, history, world, table, decisions, IsOf, IsSteady, IsPlanOf, IsInStep, IsKept, heard_before, map_same, among_below, ℕ, zero, suc, ◌+◌, ◌*◌, ◌≤◌, ◌<◌, ◌≡◌, refl, sym, ◌∙◌, subst, arith, cond, Bool, false, List, ◌∷◌, ◌++◌, length, map, Option, Some, None, flat_map, nat_lt, Result, IfOk, OnOk, [], SlotPlan, le-ltb, none-some, ReplicaRows, replica_of, IsReplica, has_torn, empty_replica, IsQueue, IsOrigin, Course, is_plannable, with_next_slot, PlannedSlots, with_next, members_before, plan, Dispatch, IsNextStep, IsWholePlan, course_of, untorn_by_test, min, ap, ◌≢◌, IsTrue, if◌then◌else◌, Step, Done, option_map, length-map, length-drop, drop-append-le, drop-map, slice_get_past, slice_get-map, drop-nil, places_from, places_in, places_after, table_before, places_before, AreKept, IsNext, tables_to, decided_to, last_or, ◌-◌, drop, slice_get, PlannedSlot}
 use Rattle.std.specs.declared.alloc.AllocError.{AllocError}
 use Rattle.pfair_table.proofs.TableLaws.{same_history, one_table, named_before}
 use Rattle.pfair_table.proofs.Runs.{below_all, length_numbers}
@@ -136,16 +136,6 @@ module _ {o : Origin} {s : Settings} {replica : Replica} {tables : List Table} {
     pub step_now : spent ≡ false → IsInStep o s replica (length tables) roster now waiting
     step_now e = step_of_held kept.plan is_of_held (untorn_by_test replica sound test) (kept.step e)
 
-    -- if as many slots are planned as can be, the tables and decisions are the whole plan
-    as_many : min (frontier replica) s.slots ≤ length tables → length tables ≡ min (frontier replica) s.slots
-    as_many le = omega (arith, le, plan_now.early, plan_now.wanted)
-
-    pub tables_whole : min (frontier replica) s.slots ≤ length tables → tables ≡ plan o s replica
-    tables_whole le = plan_now.tables_are ∙ tables_listed o s replica (length tables) ∙ ap (λ (n : ℕ). map (table o s (said replica)) (numbers_below n)) (as_many le)
-
-    pub decided_whole : min (frontier replica) s.slots ≤ length tables → decided ≡ plan_decisions o s replica
-    decided_whole le = plan_now.decided_are ∙ ap (λ (n : ℕ). map (decisions o s (said replica)) (numbers_below n)) (as_many le)
-
     -- members and ready structure made anew
     pub kept_anew : {spent2 : Bool} {roster2 : Roster} {now2 : ℕ} {waiting2 : Queue} → IsInStep o s replica (length tables) roster2 now2 waiting2 → IsKept o s replica tables decided spent2 roster2 now2 waiting2
     kept_anew step = record { began = kept.began; processors = kept.processors; capacity = kept.capacity; of = replica; room = kept.capacity; plan = plan_now; step = λ _. step }
@@ -156,10 +146,17 @@ module _ {o : Origin} {s : Settings} {replica : Replica} {tables : List Table} {
         → IsInStep o s replica (length more) roster2 now2 waiting2 → IsKept o s replica more more_decided spent2 roster2 now2 waiting2
     kept_next {more_decided} early wanted tables_are decided_are step = grind (arith, plan_next_slot, plan_now)
 
+-- if as many slots are planned as can be, the tables and decisions are the whole plan
 pub whole_plan : {o : Origin} {s : Settings} {x : ReplicaRows} {tables : List Table} {decided : List (List Decided)} {spent : Bool} {roster : Roster} {now forgotten : ℕ} {waiting : Queue} → IsKept o s (replica_of x) tables decided spent roster now waiting
     → IsReplica (replica_of x) → has_torn (replica_of x) ≡ false → min (frontier (replica_of x)) s.slots ≤ length tables
     → IsWholePlan (record { settings = s; origin = o; replica = x; tables = tables; decided = decided; forgotten = forgotten; spent = spent })
-whole_plan kept sound test enough = record { tables_are = tables_whole kept sound test enough; decided_are = decided_whole kept sound test enough }
+whole_plan {o} {s} {x} {tables} kept sound test enough =
+    let now = plan_now kept sound test in
+    let many : length tables ≡ min (frontier (replica_of x)) s.slots = omega (arith, enough, now.early, now.wanted) in
+    record {
+      tables_are = now.tables_are ∙ tables_listed o s (replica_of x) (length tables) ∙ ap (λ n. map (table o s (said (replica_of x))) (numbers_below n)) many;
+      decided_are = now.decided_are ∙ ap (λ n. map (decisions o s (said (replica_of x))) (numbers_below n)) many;
+    }
 
 -- a new dispatcher's members and ready structure are in step
 pub start_step : {o : Origin} {s : Settings} {x : Replica} {roster : Roster} {now : ℕ} {waiting : Queue} → IsOrigin o s → roster ≡ record { machine = record { processors = s.processors; frame = s.frame }; members = members_before o; heard = 0; last_slot = None } → now ≡ 0

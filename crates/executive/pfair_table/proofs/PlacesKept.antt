@@ -177,36 +177,16 @@ kept_differ before old differ (p ∷ picks) once = by (place_of before old p.nam
 
 -- ---- table after table
 
--- so many places, each a processor
-pub record AreBelow (m : ℕ) (rows : Table) (places : List ℕ) : Type 0 where
-  pub one_each : length places ≡ length rows
-  pub below : (k : ℕ) → Among places k → k < m
-
-room_after : (m : ℕ) (before : Table) (old : List ℕ) (now : Table) → length now ≤ m → length (all_kept (kept_places before old now)) + count_others (kept_places before old now) ≤ m
-room_after m before old now few = let c = kept_count (kept_places before old now) in let l = kept_long before old now in omega (arith, c, l, few)
-
-pub below_after : (m : ℕ) (before : Table) (old : List ℕ) (now : Table) → ((k : ℕ) → Among old k → k < m) → length now ≤ m → AreBelow m now (places_after before old now)
-below_after m before old now below few =
-    let kept = kept_places before old now in
-    record {
-      one_each = filled_long (all_kept kept) kept ∙ kept_long before old now;
-      below = λ k h. (filled_in m (all_kept kept) kept (λ j i. below j (kept_among before old now j i)) (room_after m before old now few) k h).0;
-    }
-
-differ_after : (m : ℕ) (before : Table) (old : List ℕ) (now : Table) → ((k : ℕ) → Among old k → k < m) → AllDiffer old → IsFit m now → AllDiffer (places_after before old now)
-differ_after m before old now below differ fit =
-    let kept = kept_places before old now in
-    filled_differ m (all_kept kept) kept (λ j i. below j (kept_among before old now j i)) (room_after m before old now fit.0) (kept_differ before old differ now fit.1) (λ k h. h)
-
 -- the places of the next table are such as those before it
 pub next_places : (m : ℕ) (before : Table) (old : List ℕ) → ArePlacesOf m before old → (now : Table) → IsFit m now → ArePlacesOf m now (places_after before old now)
 next_places m before old are now fit =
-    let below = among_all (λ k. k < m) old are.below in
-    let here = below_after m before old now below fit.0 in
+    let kept = kept_places before old now in
+    let below : (k : ℕ) → Among (all_kept kept) k → k < m = λ k h. among_all (λ k. k < m) old are.below k (kept_among before old now k h) in
+    let room : length (all_kept kept) + count_others kept ≤ m = omega (arith, kept_count kept, kept_long before old now, fit.0) in
     record {
-      one_each = here.one_each;
-      below = all_among (λ k. k < m) (places_after before old now) here.below;
-      differ = differ_after m before old now below are.differ fit;
+      one_each = filled_long (all_kept kept) kept ∙ kept_long before old now;
+      below = all_among (λ k. k < m) (places_after before old now) (λ k h. (filled_in m (all_kept kept) kept below room k h).0);
+      differ = filled_differ m (all_kept kept) kept below room (kept_differ before old are.differ now fit.1) (λ k h. h);
     }
 
 stays : (before : Table) (old : List ℕ) → length old ≡ length before → (now : Table) → KeepPlace before old now (places_after before old now)

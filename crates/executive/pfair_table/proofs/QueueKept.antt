@@ -94,10 +94,6 @@ notified_next notified members m before middle after new from key found stays fr
     let named : key.name ≡ notified = ap (λ (k : Key). k.name) key_is ∙ found_named members notified m found in
     grind (arith, get-remove, nat_list_cmp_total, tied_names, name_itself, notified_in)
 
--- one name that the ready structure was notified of is one less to notify of
-pub notified_one : (said : Said) (announced : List Said) (members : List Member) (before after : Queue) → IsQueueBut (said ∷ announced) members before → IsNotifiedOf (name_of said.announcement) members before after → IsQueueBut announced members after
-notified_one said announced members before after queue notified name e = grind (arith, name_exact)
-
 -- the item at a place of a list, and what is left from it on
 pub drop_item : {A : Type 0} (xs : List A) (i : ℕ) (x : A) → i < length xs → x ≡ get_or xs i x → drop i xs ≡ x ∷ drop (i + 1) xs
 drop_item xs i x l e = drop_more xs i x l ∙ ap (λ y. y ∷ drop (i + 1) xs) (sym e)
@@ -105,8 +101,7 @@ drop_item xs i x l e = drop_more xs i x l ∙ ap (λ y. y ∷ drop (i + 1) xs) (
 -- one turn of the loop over what was said
 pub notified_turn : (announced : List Said) (i : ℕ) (said : Said) (members : List Member) (before after : Queue) → i < length announced → said ≡ get_or announced i said
     → IsQueueBut (drop i announced) members before → IsNotifiedOf (name_of said.announcement) members before after → IsQueueBut (drop (i + 1) announced) members after
-notified_turn announced i said members before after l e queue notified =
-    notified_one said (drop (i + 1) announced) members before after (subst (λ (rest : List Said). IsQueueBut rest members before) (drop_item announced i said l e) queue) notified
+notified_turn announced i said members before after l e queue notified name quiet = (let rest = drop_item announced i said l e in grind (arith, rest, name_exact, queue name, notified name))
 
 -- ---- a ready structure that is made anew
 

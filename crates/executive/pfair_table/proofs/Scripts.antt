@@ -32,16 +32,6 @@ one_more [] log i e h (suc j) n = ap (λ b. if b then (if n == suc i then Some (
 one_more (x ∷ logs) log i e h zero n = ap (λ b. held_join entry_eq (entry_of x n) (if b then (if n == suc i then Some (One e) else None) else None)) (eqb-zero-suc (length logs)) ∙ join_none (entry_of x n)
 one_more (x ∷ logs) log i e h (suc j) n = grind (arith, eqb-suc-suc, one_more logs log i e h j n)
 
--- an empty log more holds nothing more
-pub log_begun : (logs begun : List (List Logged)) → held_of logs begun ≡ held_of logs (begun ++ [] ∷ [])
-log_begun logs begun = λ x. record { processors = length logs; capacity = capacity_of logs; at = λ j n. same begun j n x }
-  where
-    same : (begun : List (List Logged)) (j n : ℕ) → contents_of begun j n ≡ contents_of (begun ++ [] ∷ []) j n
-    same [] zero n = refl
-    same [] (suc j) n = refl
-    same (y ∷ begun) zero n = refl
-    same (y ∷ begun) (suc j) n = same begun j n
-
 -- ---- the keys of a script's entries are in range
 
 pub log_fits : (logs : List (List Logged)) (k : ℕ) (log : List Logged) → slice_get logs k ≡ Some log → length log ≤ capacity_of logs

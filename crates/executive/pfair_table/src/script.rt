@@ -72,18 +72,12 @@ impl Script {
     {
         // settings have 1 to 64 processors
         prove!(self.settings.processors() <= Settings::MAX_PROCESSORS);
-        longest(&self.logs) as u32
+        let mut longest = 1;
+        for log in &self.logs {
+            longest = longest.max(log.len());
+        }
+        longest as u32
     }
-}
-
-fn longest(logs: &[Vec<Entry>]) -> usize
-    ensures { result ≡ capacity_of (lists_of logs.now) }
-{
-    let mut longest = 1;
-    for log in logs {
-        longest = longest.max(log.len());
-    }
-    longest
 }
 
 fn are_short(logs: &[Vec<Entry>]) -> bool

@@ -1,6 +1,0 @@
-use Rattle.std.proofs.Common.{max}
-use Rattle.pfair_table.proofs.Common.{capacity_of, lists_of, ◌≡◌, ◌≤◌, drop}
-use Rattle.pfair_table.proofs.script.longest.Given as goal
-
-abbrev pub invariant-loop-log : goal.invariant-loop-log
-invariant-loop-log l = (1 ≤ l.longest) × (max l.longest (capacity_of (lists_of (drop l.log-index l.logs))) ≡ capacity_of (lists_of l.logs))
