@@ -2,7 +2,7 @@
 ghost use Rattle.std.specs.Prelude.{◌≡◌, ◌+◌, ◌*◌, ◌^◌, ◌≤◌, ◌<◌, length, IsTrue, IfOk, OnErr, false, not, is_some, map, slice_get};
 ghost use Rattle.std.specs.Option.{option_map};
 ghost use Rattle.pfair_weight.specs.Name.{NamesApart};
-ghost use Rattle.pfair_lag.specs.Book.{empty_book, tally_of, lag_of, entered_with, entered_after, left, recorded, tally_shown, IsSound, EachFits, counted_at, with_quantum, with_quanta};
+ghost use Rattle.pfair_lag.specs.Book.{empty_book, tally_of, lag_of, entered_with, entered_after, left, recorded, tally_shown, IsSound, EachFits, counted_at, with_quanta};
 
 use crate::MAX_HORIZON;
 use indexmap::IndexMap;
@@ -202,22 +202,14 @@ impl LagBook {
     }
 }
 
-// Counts a quantum of the slot that ends at this time for the task of that name, if it is there.
-fn count_quantum(accounts: &mut IndexMap<TaskName, Account>, name: &TaskName, time: u64)
-    requires { EachFits accounts.old.entries }
-    ensures { accounts.new.entries ≡ with_quantum time name.now accounts.old.entries }
-{
-    if let Some(place) = accounts.get_index_of(name) {
-        accounts[place].count(time);
-    }
-}
-
-// Counts the quanta of the slot that ends at this time.
+// Counts the quanta of the slot that ends at this time. A name that isn't there is ignored.
 fn count_quanta(accounts: &mut IndexMap<TaskName, Account>, picks: &[Pick], time: u64)
     requires { EachFits accounts.old.entries }
     ensures { accounts.new.entries ≡ with_quanta time (map (λ p. p.name) picks.now) accounts.old.entries }
 {
     for pick in picks {
-        count_quantum(accounts, &pick.name, time);
+        if let Some(place) = accounts.get_index_of(&pick.name) {
+            accounts[place].count(time);
+        }
     }
 }

@@ -10,16 +10,10 @@ use thiserror::Error;
 pub enum PickFault {
     /// A slot is not after the one before it.
     #[error("picks not rising at {at}")]
-    PicksNotRising {
-        /// The first place at fault.
-        at: usize,
-    },
+    PicksNotRising { at: usize },
     /// A slot is not before the horizon.
     #[error("pick past horizon at {at}")]
-    PickPastHorizon {
-        /// The first place at fault.
-        at: usize,
-    },
+    PickPastHorizon { at: usize },
 }
 
 impl PickFault {

@@ -7,29 +7,16 @@ use crate::MAX_HORIZON;
 use crate::fault::{PickFault, check_picks};
 use pfair_weight::{Weight, deadline, release};
 
-/// A subtask that is out of its window. Subtasks are counted from 1, and their windows have offset
-/// 0.
+/// A subtask that is out of its window, and the slot in which it ran. Subtasks are counted from 1,
+/// and their windows have offset 0.
 #[derive(Clone, Copy, PartialEq, Eq, Debug)]
 pub enum Miss {
     /// It ran before its release.
-    Early {
-        /// The subtask.
-        index: u64,
-        /// The slot in which it ran.
-        slot: u64,
-    },
+    Early { index: u64, slot: u64 },
     /// It ran at its deadline or later.
-    Tardy {
-        /// The subtask.
-        index: u64,
-        /// The slot in which it ran.
-        slot: u64,
-    },
+    Tardy { index: u64, slot: u64 },
     /// Its deadline is at most the horizon, and it did not run.
-    Unserved {
-        /// The subtask.
-        index: u64,
-    },
+    Unserved { index: u64 },
 }
 
 /// Returns the first subtask that is out of its window: ran early or late, or did not run though its
