@@ -2,6 +2,7 @@
 use Rattle.std.proofs.Common.{w64, replicate}
 use Rattle.pfair_table.proofs.Common.{AllByRecursion, append_assoc, drop_more, eqb-true, eq-eqb, cases_lt, is_used, free_place, all_kept, filled, ℕ, ◌+◌, ◌-◌, ◌*◌, ◌^◌, ◌%◌, ◌<◌, ◌≤◌, ◌≡◌, refl, ap, ◌∙◌, arith, inl, inr, bit_or, Bool, true, false, List, [], ◌∷◌, ◌++◌, length, drop, get_or, subst, Option, Some, None, ◌||◌, if◌then◌else◌, AreInUse, cases_eq, length-set, length-replicate, get_or-set_same, get_or-set_other, name_eq, name_exact, name_itself, Pick, Table, nat_list_eq_equiv, NamesApart, apart_head, apart_tail, place_of, common_steps, zero, suc, sym, ◌≢◌, slice_get, slice_index, set, Name}
 use Rattle.std.specs.Int.{bit_at, trailing_ones}
+use Rattle.std.proofs.lemmas.Nat.{or_lt}
 use Rattle.std.proofs.lemmas.Nat.Bits.{bit_at-trailing_ones, bit_at_set_same, bit_at_set_other, bit_at_ones, bit_at-zero}
 use Rattle.pfair_table.proofs.PlacesKept.{pigeons, free_is, count_others}
 use Rattle.pfair_order.proofs.RankLemmas.{at_each}
@@ -36,6 +37,15 @@ lowest_is_free bits used fits in_use =
 
 pub in_use_with : (bits : ℕ) (used : List ℕ) (k : ℕ) → k < 64 → AreInUse bits used → AreInUse (bit_or bits (1 * 2 ^ k % 2 ^ 64)) (k ∷ used)
 in_use_with bits used k within in_use i l = grind (arith, eqb-true, eq-eqb, bit_at_set_same w64 bits k within, bit_at_set_other w64 bits k within i, in_use i l)
+
+-- so that bit is taken
+pub least_taken : (bits : ℕ) (used : List ℕ) (k : ℕ) → k ≡ trailing_ones w64 bits → bits < 2 ^ 64 → AreInUse bits used → length used < 64
+    → (k ≡ free_place used) × AreInUse (bit_or bits (1 * 2 ^ k % 2 ^ 64)) (free_place used ∷ used) × (bit_or bits (1 * 2 ^ k % 2 ^ 64) < 2 ^ 64) × (k < 64)
+least_taken bits used k is fits in_use few =
+    let lowest = lowest_is_free bits used (not_full bits used fits in_use few) in_use in
+    let free : k ≡ free_place used = is ∙ lowest.0 in
+    let within : k < 64 = omega (arith, is, lowest.1) in
+    (free, subst (λ j. AreInUse (bit_or bits (1 * 2 ^ k % 2 ^ 64)) (j ∷ used)) free (in_use_with bits used k within in_use), or_lt 64 bits (1 * 2 ^ k % 2 ^ 64) fits (omega arith), within)
 
 -- ---- the rows that keep a place
 

@@ -118,7 +118,6 @@ impl<R: Ready> Dispatcher<R> {
         Ok(Dispatcher::begin(alloc, settings, capacity, Some(state))?)
     }
 
-    // A dispatcher that holds no entries and has planned nothing of a run that begins there.
     pub(crate) fn begin(
         alloc: Global,
         settings: Settings,

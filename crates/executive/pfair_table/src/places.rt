@@ -54,7 +54,11 @@ fn fill_places(kept: &[Option<u8>], mut places: Vec<u8>) -> Result<Vec<u8>, Allo
     for kept_place in kept {
         let place = match kept_place {
             Some(place) => *place,
-            None => use_least(&mut in_use),
+            None => {
+                let least = in_use.trailing_ones() as u8;
+                in_use |= 1 << least;
+                least
+            }
         };
         places.push(place)?;
     }
@@ -73,18 +77,6 @@ fn use_kept(kept: &[Option<u8>]) -> u64
         }
     }
     in_use
-}
-
-// The least processor that is not in use, which from now on is.
-fn use_least(in_use: &mut u64) -> u8
-    requires { in_use.old + 1 < 2 ^ 64 }
-    ensures fits { in_use.new < 2 ^ 64 }
-    ensures least { (used : List ℕ) → AreInUse in_use.old used → length used < Settings.MAX_PROCESSORS
-        → (result ≡ free_place used) × AreInUse in_use.new (free_place used ∷ used) }
-{
-    let place = in_use.trailing_ones() as u8;
-    *in_use |= 1 << place;
-    place
 }
 
 // For each of 256 buckets, into which names fall, one more than the last of its rows in a table of

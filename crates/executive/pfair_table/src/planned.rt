@@ -48,7 +48,6 @@ impl Run {
     }
 }
 
-// The last of some lists, or an empty one.
 fn last_of<T>(lists: &[Vec<T>]) -> &[T]
     ensures { result.now ≡ last_or [] (map (λ list. list.items) lists.now) }
 {
@@ -58,7 +57,6 @@ fn last_of<T>(lists: &[Vec<T>]) -> &[T]
     }
 }
 
-/// The plan of a slot, with the places of its table.
 #[derive(Drop)]
 pub(crate) struct PlannedSlot {
     pub plan: SlotPlan,
@@ -141,7 +139,6 @@ impl Planned {
         self.forgotten
     }
 
-    /// Forgets the slots below one, or all if there are fewer.
     pub(crate) fn forget(&mut self, below: usize)
         ensures { self.new ≡ record self.old { forgotten = max self.old.forgotten (min below (length self.old.tables)) } }
     {
@@ -151,7 +148,6 @@ impl Planned {
         self.first += count;
     }
 
-    /// The slot of this number, unless it is forgotten or isn't planned.
     pub(crate) fn at(&self, slot: usize) -> Option<&PlannedSlot>
         ensures table { self.now.forgotten ≤ slot → option_map (λ p. p.now.plan.table.items) result ≡ slice_get self.now.tables slot }
         ensures places { self.now.forgotten ≤ slot → option_map (λ p. p.now.places.items) result ≡ slice_get (places_in self.now.origin self.now.tables) slot }
@@ -164,8 +160,6 @@ impl Planned {
         self.slots.get(slot - self.first)
     }
 
-    /// The table of the last slot and its places, also if it is forgotten, or those of the slot before
-    /// the run if nothing is planned.
     pub(crate) fn last(&self) -> (&[Pick], &[u8])
         ensures table { result.0.now ≡ last_or (table_before self.now.origin) self.now.tables }
         ensures places { result.1.now ≡ last_or (places_before self.now.origin) (places_in self.now.origin self.now.tables) }
@@ -202,7 +196,6 @@ impl Planned {
         }
     }
 
-    /// Appends the next slot of the replica.
     pub(crate) fn push(&mut self, replica: &Replica, next: PlannedSlot) -> Result<(), AllocError>
         requires few { length self.old.tables < Settings.MAX_SLOTS }
         requires next { IsNext self.old replica.now next }

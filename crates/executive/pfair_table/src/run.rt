@@ -2,7 +2,6 @@
 ghost use Rattle.std.specs.Prelude.{◌≡◌, false, IfOk, OnErr, OnOk};
 ghost use Rattle.pfair_replica.specs.Replica.{IsShape, replica_of, taken};
 ghost use Rattle.pfair_replica.specs.Faults.{IsTakeFaultOf};
-ghost use Rattle.pfair_replica.specs.declared.answer.TakeFault.TheVariants.{Memory};
 ghost use Rattle.std.specs.List.{AllByRecursion};
 ghost use Rattle.pfair_table.specs.Events.{IsEvent, happens, run_of};
 ghost use Rattle.pfair_table.specs.Refinement.{CanFail, course_of};
@@ -51,7 +50,6 @@ pub fn run_events<R: Ready>(
     Ok(dispatcher)
 }
 
-// One event: what is refused changes nothing, and only a failed allocation is an error.
 fn happen<R: Ready>(dispatcher: &mut Dispatcher<R>, event: &Event) -> Result<(), AllocError>
     requires { dispatcher.old.spent ≡ false }
     ensures settings { dispatcher.new.settings ≡ dispatcher.old.settings }
@@ -95,7 +93,7 @@ pub(crate) fn offer<R: Ready>(
 ) -> Result<(), AllocError>
     ensures held { OnOk result (replica_of dispatcher.new.replica ≡ taken (replica_of dispatcher.old.replica) processor number entry) }
     ensures rest { dispatcher.new ≡ record dispatcher.old { replica = dispatcher.new.replica } }
-    ensures memory { OnErr result (IsTakeFaultOf dispatcher.old.replica processor number Memory) }
+    ensures memory { OnErr result (IsTakeFaultOf dispatcher.old.replica processor number TakeFault.Memory) }
 {
     match dispatcher.take(processor, number, entry) {
         Err(TakeFault::Memory) => Err(AllocError),

@@ -80,7 +80,6 @@ pub(crate) fn decide_all(
         .collect(alloc)
 }
 
-// Notifies the ready structure of one task.
 fn notify_of<R: Ready>(ready: &mut R, members: &Members, name: &TaskName) -> Result<(), AllocError>
     ensures notified { OnOk result (IsNotifiedOf name.now members.now.members (R.held ready.old) (R.held ready.new)) }
     ensures time { R.now ready.new ≡ R.now ready.old }

@@ -170,7 +170,6 @@ impl<R: Ready> SlotPlanner<R> {
         Ok(Some(next))
     }
 
-    // From now on the caller hands in this replica, or one that holds more.
     fn see(&mut self, replica: &Replica)
         requires shape { SameShape self.old.replica replica.now }
         requires above { Below (replica_of self.old.replica) (replica_of replica.now) }

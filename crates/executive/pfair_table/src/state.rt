@@ -1,6 +1,5 @@
 //! What a run begins with: at slot 0 without members, or with what the run before has left.
 ghost use Rattle.std.specs.Prelude.{◌≡◌, ◌≤◌, ◌==◌, [], IfOk, OnErr, if◌then◌else◌, ◌<◌, ◌^◌, None};
-ghost use Rattle.pfair_admission.specs.declared.members.TheConstants.Members.{LAST_SLOT};
 ghost use Rattle.pfair_table.specs.Places.{AreLeftAt, IsState, can_add_row, first_state, with_row, IsOrigin};
 ghost use Rattle.pfair_table.specs.Table.{names_task, machine, slot_of, members_before};
 
@@ -63,7 +62,7 @@ impl State {
         requires processors { 1 ≤ members.machine.processors }
         requires frame { 1 ≤ members.machine.frame }
         requires members { AreLeftAt slot members.machine members.members }
-        requires slot { slot ≤ LAST_SLOT }
+        requires slot { slot ≤ Members.LAST_SLOT }
         ensures { result ≡ record { slot = slot; machine = members.machine; members = members.members; table = []; places = [] } }
     {
         // a machine has 64 processors at most, and a frame 1,000,000,000 slots
@@ -146,7 +145,6 @@ fn names_task(table: &[Pick], name: &TaskName) -> bool
 /// What a run takes over, if it isn't the first.
 pub(crate) type Origin = Option<State>;
 
-/// Returns the members before the run's first slot.
 pub(crate) fn first_members(
     alloc: Global,
     origin: &Origin,
@@ -162,7 +160,6 @@ pub(crate) fn first_members(
     state.members.carried()
 }
 
-/// Returns slot `slot` of the run, counted from the first run's first slot.
 pub(crate) fn slot_of(origin: &Origin, slot: u64) -> u64
     requires { slot_of origin.now slot < 2 ^ 64 }
     ensures { result ≡ slot_of origin.now slot }

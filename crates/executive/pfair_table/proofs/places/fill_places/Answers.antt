@@ -1,6 +1,6 @@
 use Rattle.pfair_table.proofs.Common.{drop_all, append-nil, all_kept, filled, ℕ, ◌+◌, ◌++◌, ◌∙◌, sym, ap, subst, arith, drop, List, [], ◌∷◌, Option}
 use Rattle.pfair_table.proofs.PlacesKept.{kept_count}
-use Rattle.pfair_table.proofs.Filling.{AreFilledSoFar, filled_kept, filled_free, next_row, room_left, not_full}
+use Rattle.pfair_table.proofs.Filling.{AreFilledSoFar, filled_kept, filled_free, next_row, least_taken, room_left}
 use Rattle.pfair_table.proofs.places.fill_places.Goals.{in-Some, in-None}
 use Rattle.pfair_table.proofs.places.fill_places.Goals as goal
 
@@ -13,10 +13,10 @@ loop-kept_place-init c = record {
   room = omega (arith, kept_count c.args.kept.now, c.requires.rows);
 }
 
-pub use_least-place-requires : goal.use_least-place-requires
-use_least-place-requires c =
+pub overflow_shl-in_use : goal.overflow_shl-in_use
+overflow_shl-in_use c =
     let here = next_row c.args.kept.now c.loop-kept_place-test.true c.in-None.is c.loop-kept_place.invariant in
-    not_full c.loop-kept_place.in_use here.used here.fits here.in_use (room_left _ _ _ _ here)
+    (least_taken c.loop-kept_place.in_use here.used c.trailing_ones-least.result c.trailing_ones-least.ensures here.fits here.in_use (room_left _ _ _ _ here)).3
 
 pub loop-kept_place-preserved : goal.loop-kept_place-preserved
 loop-kept_place-preserved c =
@@ -31,9 +31,9 @@ loop-kept_place-preserved c =
           (subst (λ k. AreFilledSoFar c.loop-kept_place.in_use (places ++ k ∷ []) rest whole) (sym w.place-is) (filled_kept c.loop-kept_place.in_use places w.in-Some.place rest whole here)))
       | in-None w ↦
           (let here = next_row c.args.kept.now c.loop-kept_place-test.true w.in-None.is c.loop-kept_place.invariant in
-          let took = w.use_least-place.ensures.least here.used here.in_use (room_left c.loop-kept_place.in_use places rest whole here) in
+          let least = least_taken c.loop-kept_place.in_use here.used w.trailing_ones-least.result w.trailing_ones-least.ensures here.fits here.in_use (room_left c.loop-kept_place.in_use places rest whole here) in
           subst (λ n. AreFilledSoFar n (places ++ c.match-kept_place.place ∷ []) rest whole) (sym w.in_use-is)
-          (filled_free c.loop-kept_place.in_use w.use_least-place.new.in_use places c.match-kept_place.place rest whole here (w.place-is ∙ took.0) took.1 w.use_least-place.ensures.fits))
+          (filled_free c.loop-kept_place.in_use _ places c.match-kept_place.place rest whole here (w.place-is ∙ least.0) least.1 least.2))
     ])
 
 pub returns : goal.returns
