@@ -2,7 +2,7 @@
 //! it is.
 ghost use Rattle.std.specs.Prelude.{ℕ, ◌≡◌, ◌≤◌, ◌<◌, ◌+◌, ◌^◌, ◌∷◌, List, IfOk, length, slice_get};
 ghost use Rattle.std.specs.List.{AllByRecursion};
-ghost use Rattle.pfair_table.specs.Places.{all_kept, free_place, filled, places_after, IsFit, place_of, AreInUse, bucket, AreBucketsOf};
+ghost use Rattle.pfair_table.specs.Places.{all_kept, free_place, filled, places_after, IsFit, place_of, bucket, AreBucketsOf};
 ghost use Rattle.pfair_weight.specs.Name.{NamesApart};
 
 use crate::settings::Settings;
@@ -48,11 +48,17 @@ fn fill_places(kept: &[Option<u8>], mut places: Vec<u8>) -> Result<Vec<u8>, Allo
     requires rows { length kept.now ≤ Settings.MAX_PROCESSORS }
     ensures { IfOk result (λ here. here.items ≡ filled (all_kept kept.now) kept.now) }
 {
-    let mut in_use = use_kept(kept);
+    // the processors in use, each as a bit
+    let mut in_use: u64 = 0;
+    for kept_place in kept {
+        if let Some(place) = kept_place {
+            in_use |= 1 << *place;
+        }
+    }
     places.clear();
     places.reserve(kept.len())?;
-    for kept_place in kept {
-        let place = match kept_place {
+    for row in kept {
+        let place = match row {
             Some(place) => *place,
             None => {
                 let least = in_use.trailing_ones() as u8;
@@ -63,20 +69,6 @@ fn fill_places(kept: &[Option<u8>], mut places: Vec<u8>) -> Result<Vec<u8>, Allo
         places.push(place)?;
     }
     Ok(places)
-}
-
-// The processors that some rows keep, each as a bit.
-fn use_kept(kept: &[Option<u8>]) -> u64
-    requires { AllByRecursion (λ k. k < Settings.MAX_PROCESSORS) (all_kept kept.now) }
-    ensures { AreInUse result (all_kept kept.now) }
-{
-    let mut in_use = 0;
-    for kept_place in kept {
-        if let Some(place) = kept_place {
-            in_use |= 1 << *place;
-        }
-    }
-    in_use
 }
 
 // For each of 256 buckets, into which names fall, one more than the last of its rows in a table of
