@@ -1,6 +1,6 @@
 -- Logs as a run has them.
 use Rattle.std.proofs.Common.{slice_index_or}
-use Rattle.pfair_table.proofs.Common.{none-some, same_Some, slice_get_within, get_or_from_slice_get, leb-true, lt-ltb, le-leb, and_from, and_parts, One, Torn, entry_eq, Untorn, only, taken, list_all, length-map, take_more, length-take-le, take-length, Logged, Settings, IsLoggedRun, is_short, lists_of, entry_of, contents_of, held_of, replica_of_logs, capacity_of, common_steps, ℕ, zero, suc, ◌+◌, ◌<◌, ◌≤◌, ◌≡◌, true, refl, sym, ap, ◌∙◌, arith, List, [], ◌∷◌, ◌++◌, take, Some, None, Vec, Global, length, slice_get, ◌≢◌, ◌==◌, if◌then◌else◌}
+use Rattle.pfair_table.proofs.Common.{none-some, same_Some, slice_get_within, get_or_from_slice_get, leb-true, lt-ltb, le-leb, and_from, and_parts, One, Torn, entry_eq, Untorn, only, taken, list_all, length-map, take_more, length-take-le, take-length, Logged, Settings, IsLoggedRun, is_short, lists_of, entry_of, contents_of, held_of, replica_of_logs, capacity_of, common_steps, ℕ, zero, suc, ◌+◌, ◌<◌, ◌≤◌, ◌≡◌, true, refl, sym, ap, ◌∙◌, arith, List, [], ◌∷◌, ◌++◌, take, Some, None, Vec, Global, length, slice_get, ◌≢◌, ◌==◌, if◌then◌else◌, Dispatch, LoggedRun, false, replica_of}
 use Rattle.pfair_lattice.specs.Held.{held_join}
 use Rattle.pfair_replica.specs.Laws.{join_none}
 use Rattle.std.proofs.Math.Dec.{eqb-suc-zero, eqb-zero-suc, eqb-suc-suc}
@@ -55,6 +55,27 @@ log_taken logs k log at_k =
     ap (λ (l : List Logged). held_of logs (take k logs ++ l ∷ [])) (take-length log ∙ sym (get_or_from_slice_get logs k log log at_k))
     ∙ ap (held_of logs) (sym (take_more logs k log (slice_get_within logs k log at_k)))
 
+-- nothing is planned of a first run, and so much of its logs is taken
+pub record HasTaken (r : LoggedRun) (begun : List (List Logged)) (d : Dispatch) : Type 0 where
+  pub settings : d.settings ≡ r.settings
+  pub origin : d.origin ≡ None
+  pub tables : d.tables ≡ []
+  pub decided : d.decided ≡ []
+  pub forgotten : d.forgotten ≡ 0
+  pub spent : d.spent ≡ false
+  pub replica : replica_of d.replica ≡ held_of r.logs begun
+
+pub taken_more : (r : LoggedRun) (begun more : List (List Logged)) (d after : Dispatch) → HasTaken r begun d → after ≡ record d { replica = after.replica } → replica_of after.replica ≡ held_of r.logs more → HasTaken r more after
+taken_more r begun more d after has rest held = record {
+  settings = ap (λ (e : Dispatch). e.settings) rest ∙ has.settings;
+  origin = ap (λ (e : Dispatch). e.origin) rest ∙ has.origin;
+  tables = ap (λ (e : Dispatch). e.tables) rest ∙ has.tables;
+  decided = ap (λ (e : Dispatch). e.decided) rest ∙ has.decided;
+  forgotten = ap (λ (e : Dispatch). e.forgotten) rest ∙ has.forgotten;
+  spent = ap (λ (e : Dispatch). e.spent) rest ∙ has.spent;
+  replica = held;
+}
+
 -- ---- the capacity of a script
 
 pub capacity_some : (logs : List (List Logged)) → 1 ≤ capacity_of logs
@@ -64,9 +85,6 @@ capacity_some (log ∷ logs) = let some = capacity_some logs in omega (arith, so
 pub capacity_short : (logs : List (List Logged)) → list_all is_short logs ≡ true → capacity_of logs ≤ 4096
 capacity_short [] h = omega arith
 capacity_short (log ∷ logs) h = grind (arith, and_parts, leb-true, capacity_short logs)
-
-pub log_is_short : (logs : List (List Logged)) (k : ℕ) (log : List Logged) → list_all is_short logs ≡ true → slice_get logs k ≡ Some log → length log ≤ 4096
-log_is_short logs k log short at_k = let most = capacity_short logs short in let fits = log_fits logs k log at_k in omega (arith, most, fits)
 
 -- ---- nothing in a script is torn
 

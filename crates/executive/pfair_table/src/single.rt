@@ -28,24 +28,10 @@ pub fn take_script<R: Ready>(alloc: Global, script: &Script) -> Result<Dispatche
     let settings = script.settings();
     let mut dispatcher = Dispatcher::new(alloc, settings, script.capacity())?;
     for processor in 0..settings.processors() {
-        take_log(&mut dispatcher, processor, script.log(processor))?;
+        let log = script.log(processor);
+        for (index, entry) in log.iter().enumerate() {
+            offer(&mut dispatcher, processor, index as u32 + 1, *entry)?;
+        }
     }
     Ok(dispatcher)
-}
-
-fn take_log<R: Ready>(
-    dispatcher: &mut Dispatcher<R>,
-    processor: u8,
-    log: &[Entry],
-) -> Result<(), AllocError>
-    requires { length log.now ≤ Script.LONGEST_LOG }
-    ensures rest { dispatcher.new ≡ record dispatcher.old { replica = dispatcher.new.replica } }
-    ensures held { OnOk result ((logs : List (List Logged)) → slice_get logs processor ≡ Some log.now
-        → replica_of dispatcher.old.replica ≡ held_of logs (take processor logs)
-        → replica_of dispatcher.new.replica ≡ held_of logs (take (processor + 1) logs)) }
-{
-    for (index, entry) in log.iter().enumerate() {
-        offer(dispatcher, processor, index as u32 + 1, *entry)?;
-    }
-    Ok(())
 }

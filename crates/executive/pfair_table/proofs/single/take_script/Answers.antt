@@ -1,5 +1,5 @@
-use Rattle.pfair_table.proofs.Common.{take-length, empty_replica, Settings, Course, held_of, ◌≡◌, ◌∙◌, sym, ap, arith, length, take}
-use Rattle.pfair_table.proofs.Scripts.{log_is_short}
+use Rattle.pfair_table.proofs.Common.{take-length, slice_get_read, empty_replica, taken, Settings, Course, held_of, refl, ◌≡◌, ◌<◌, ◌+◌, ◌++◌, ◌∷◌, [], ◌∙◌, sym, ap, arith, length, take, Some, slice_get}
+use Rattle.pfair_table.proofs.Scripts.{log_taken, taken_more, taken_next}
 use Rattle.pfair_table.proofs.single.take_script.Goals as goal
 
 pub loop-processor-init : goal.loop-processor-init
@@ -18,8 +18,24 @@ loop-processor-init g c =
       replica = ap (λ (x : Course). x.replica) course ∙ (λ i. empty_replica (count i) (c.capacity.ensures.value i));
     }
 
-pub take_log-requires : goal.take_log-requires
-take_log-requires g c = log_is_short c.args.script.now.logs c.loop-processor.processor c.log.result.now c.log.ensures.run.short c.log.ensures.value
+pub loop-index-preserved : goal.loop-index-preserved
+loop-index-preserved g c =
+    let r = c.args.script.now in
+    let k = c.loop-processor.processor in
+    let log = c.log-log.result.now in
+    let inside : c.loop-index.index < length log = omega (arith, c.loop-index-test.true, c.loop-index.auto.index-end) in
+    let here : slice_get log c.loop-index.index ≡ Some c.index-log-index.result = slice_get_read log (length log) c.loop-index.index c.index-log-index.result refl inside c.index-log-index.is in
+    taken_more r (take k r.logs ++ take c.loop-index.index log ∷ []) (take k r.logs ++ take (c.loop-index.index + 1) log ∷ []) c.loop-index.dispatcher c.offer.new.dispatcher c.loop-index.invariant c.in_ok-offer.ensures.rest
+    (c.in_ok-offer.ensures.held ∙ ap (λ x. taken x k (c.loop-index.index + 1) c.index-log-index.result) c.loop-index.invariant.replica ∙ taken_next r.logs k c.loop-index.index log c.index-log-index.result c.log-log.ensures.value here)
+
+pub loop-processor-preserved : goal.loop-processor-preserved
+loop-processor-preserved g c =
+    let r = c.args.script.now in
+    let k = c.loop-processor.processor in
+    let log = c.log-log.result.now in
+    let all : c.loop-index.index ≡ length log = omega (arith, c.loop-index-test.false, c.loop-index.auto.index-end) in
+    taken_more r (take k r.logs ++ take c.loop-index.index log ∷ []) (take (k + 1) r.logs) c.loop-index.dispatcher c.loop-index.dispatcher c.loop-index.invariant refl
+    (c.loop-index.invariant.replica ∙ ap (λ n. held_of r.logs (take k r.logs ++ take n log ∷ [])) all ∙ log_taken r.logs k log c.log-log.ensures.value)
 
 pub returns-clause-held : goal.returns-clause-held
 returns-clause-held g c =
