@@ -9,7 +9,7 @@ use Rattle.pfair_table.specs.Table.{Table, Origin, Settings, Carried, machine, n
 use Rattle.std.specs.Int.{bit_at}
 use Rattle.pfair_table.specs.declared.slot.Pick.{Pick}
 use Rattle.pfair_admission.specs.declared.members.TheConstants.Members.{LAST_SLOT}
-use Rattle.pfair_admission.specs.Admission.{Machine}
+use Rattle.pfair_admission.specs.Admission.{Machine, Roster}
 use Rattle.pfair_admission.specs.Laws.{AreInFrame, HaveRoom}
 use Rattle.pfair_admission.specs.Member.{Member}
 use Rattle.pfair_admission.specs.Carried.{IsLeftAt}
@@ -111,6 +111,10 @@ pub record AreLeftAt (t : ℕ) (machine : Machine) (members : List Member) : Typ
   pub room : HaveRoom machine members
   pub in_frame : AreInFrame machine members
   pub left : AllByRecursion (IsLeftAt t) members
+
+-- what a run takes over that begins at that slot with those members, behind a slot with that table and these places
+abbrev pub taken_over : ℕ → Roster → Table → List ℕ → Carried
+taken_over slot roster table places = record { slot = slot; machine = roster.machine; members = roster.members; table = table; places = places }
 
 -- what some run can take over
 pub record IsState (c : Carried) : Type 0 where

@@ -26,25 +26,13 @@ pub struct State {
 
 impl Model for State {
     ghost use Rattle.pfair_table.specs.Table.{Carried};
-    ghost use Rattle.pfair_table.specs.Places.{IsState};
+    ghost use Rattle.pfair_table.specs.Places.{IsState, taken_over};
 
     ghost Value = { Carried };
 
-    ghost view = { λ a. record {
-      slot = a.slot;
-      machine = a.members.machine;
-      members = a.members.members;
-      table = a.table.items;
-      places = a.places.items;
-    } };
+    ghost view = { λ a. taken_over a.slot a.members a.table.items a.places.items };
 
-    ghost invariant = { λ a. IsState (record {
-      slot = a.slot;
-      machine = a.members.machine;
-      members = a.members.members;
-      table = a.table.items;
-      places = a.places.items;
-    }) };
+    ghost invariant = { λ a. IsState (taken_over a.slot a.members a.table.items a.places.items) };
 }
 
 impl State {

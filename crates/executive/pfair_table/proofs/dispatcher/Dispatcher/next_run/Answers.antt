@@ -1,5 +1,5 @@
 use Rattle.pfair_table.proofs.Common.{Carried, CanBeFollowed, IsFirstLeft, IsNextRunFault, Member, Roster, begin_at, course_of, end_of, left_by, slot_of, Dispatch, AllByRecursion, CanBeCarried, ℕ, ◌+◌, ◌≡◌, ◌≤◌, ◌∙◌, ap, subst, arith, List, LAST_SLOT, Some, IfOk}
-use Rattle.pfair_table.specs.Places.{settings_from}
+use Rattle.pfair_table.specs.Places.{settings_from, taken_over}
 use Rattle.pfair_table.proofs.Alike.{memory_only}
 use Rattle.pfair_table.proofs.NextRuns.{fault_seen, finished_seen, left_is, left_seen, left_state}
 use Rattle.pfair_table.proofs.dispatcher.Dispatcher.next_run.Given.{Over}
@@ -17,13 +17,7 @@ followed g c =
     }
 
 abbrev left : (g : Over) → In_ok-from_slice-2 g → Carried
-left g c = record {
-  slot = c.slot_of-slot.result;
-  machine = c.in_ok-members.members.machine;
-  members = c.in_ok-members.members.members;
-  table = c.in_ok-from_slice.field-0.items;
-  places = c.in_ok-from_slice-2.field-0.items;
-}
+left g c = taken_over c.slot_of-slot.result c.in_ok-members.members c.in_ok-from_slice.field-0.items c.in_ok-from_slice-2.field-0.items
 
 state_is : (g : Over) (c : In_ok-from_slice-2 g) → left g c ≡ left_by c.args.self.now
 state_is g c =
