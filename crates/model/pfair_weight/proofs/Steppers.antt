@@ -1,10 +1,9 @@
 -- A stepper's next subtask.
 use Rattle.pfair_weight.proofs.Common.{div_ceil, div_ceil_times, mul-le, le_refl, MAX_CLOSE, ◌≡◌, ℕ, ◌+◌, ◌-◌, ◌*◌, ◌<◌, ◌≤◌, ◌^◌, arith, ap, ◌∙◌, Ratio, MAX_INDEX, ◌/◌, Close}
 use Rattle.pfair_weight.specs.Window.{Share}
-use Rattle.pfair_weight.specs.declared.stepper.Group.{Group}
-use Rattle.pfair_weight.specs.declared.stepper.Group.TheVariants.{Heavy}
+use Rattle.std.proofs.Common.{Option, Some}
 use Rattle.pfair_weight.specs.declared.stepper.Stepper.TheInside.{Inside}
-use Rattle.pfair_weight.specs.Stepped.{IsStepped, IsGroupOf}
+use Rattle.pfair_weight.specs.Stepped.{IsStepped, IsCascadeOf}
 
 -- How a cascade's fractions grow.
 
@@ -34,18 +33,18 @@ more_between x y p room end step next h e f g = grind (arith, grown)
 pub ceiling_is : (r : Ratio) (n d x : ℕ) → r ≡ record { numerator = n; denominator = d } → x ≡ div_ceil r.numerator r.denominator → x ≡ div_ceil n d
 ceiling_is r n d x e h = h ∙ ap (λ (s : Ratio). div_ceil s.numerator s.denominator) e
 
--- the kind of a light weight, or of a weight of 1, stays
-pub group_kept : (w : Share) (from to : ℕ) (group : Group) → ((x : Close) → group ≡ Heavy x → ⊥) → IsGroupOf w from group → IsGroupOf w to group
-group_kept w from to group n h = grind arith
+-- no cascade at one window is none at another
+pub cascade_kept : (w : Share) (from to : ℕ) (cascade : Option Close) → ((x : Close) → cascade ≡ Some x → ⊥) → IsCascadeOf w from cascade → IsCascadeOf w to cascade
+cascade_kept w from to cascade n h = grind arith
 
 -- a cascade goes on by as many slots as the window's end moves
-pub group_moves : (w : Share) (from to : ℕ) (group : Group) (x y : Close) → from ≤ to → group ≡ Heavy x →
-    y ≡ record x { close = x.close + (to - from) } → IsGroupOf w from group → IsGroupOf w to (Heavy y)
-group_moves w from to group x y h is e g = grind arith
+pub cascade_moves : (w : Share) (from to : ℕ) (cascade : Option Close) (x y : Close) → from ≤ to → cascade ≡ Some x →
+    y ≡ record x { close = x.close + (to - from) } → IsCascadeOf w from cascade → IsCascadeOf w to (Some y)
+cascade_moves w from to cascade x y h is e g = grind arith
 
-pub next_stepped : (a : Inside) (opened : ℕ) (served : Ratio) (group : Group) → IsStepped a → a.index < MAX_INDEX →
+pub next_stepped : (a : Inside) (opened : ℕ) (served : Ratio) (cascade : Option Close) → IsStepped a → a.index < MAX_INDEX →
     opened ≡ a.served.numerator / a.served.denominator →
     served ≡ record a.served { numerator = a.served.numerator + a.served_step.numerator } →
-    IsGroupOf a.weight (div_ceil ((a.index + 1) * a.weight.period) a.weight.cost) group →
-    IsStepped record { weight = a.weight; index = a.index + 1; theta = a.theta; opened = opened; served = served; served_step = a.served_step; group = group }
-next_stepped a opened served group p h o s g = grind arith
+    IsCascadeOf a.weight (div_ceil ((a.index + 1) * a.weight.period) a.weight.cost) cascade →
+    IsStepped record { weight = a.weight; index = a.index + 1; theta = a.theta; opened = opened; served = served; served_step = a.served_step; cascade = cascade }
+next_stepped a opened served cascade p h o s g = grind arith

@@ -1,11 +1,12 @@
 //! Task names.
-ghost use Rattle.std.specs.Prelude.{◌≡◌, ◌<◌, ◌==◌, ℕ, IfOk, IfErr, length, nat_eq};
+ghost use Rattle.std.specs.Prelude.{◌≡◌, ℕ, List, [], ◌∷◌, IfOk, IfErr, length, nat_eq};
 ghost use Rattle.std.proofs.Common.{rules};
 ghost use Rattle.std.specs.Cmp.{partial_order_from_own_ties};
 ghost use Rattle.std.specs.Cmp.Rules.{comparing};
-ghost use Rattle.std.specs.Cmp.Lexicographic.{slice_cmp};
+ghost use Rattle.std.specs.Cmp.Lexicographic.{slice_cmp, pointwise, bytes_decides};
+ghost use Rattle.std.specs.Hash.{same_Alike};
 ghost use Rattle.std.specs.Ordering.{nat_cmp, as_partial_cmp};
-ghost use Rattle.pfair_weight.specs.Name.{may_stand, IsTaskName, name_of, IsNumber, IsFaultOf, name_fault_number};
+ghost use Rattle.pfair_weight.specs.Name.{may_stand, IsTaskName, name_of, IsNumber, IsFaultOf, name_fault_number, with_zeros, IsPadded, unpadded, padded, padded-unpadded};
 
 use std::cmp::Ordering;
 use std::hash::{Hash, Hasher};
@@ -54,11 +55,7 @@ pub struct TaskName {
 }
 
 impl Model for TaskName {
-    ghost use Rattle.std.specs.Prelude.{List, ℕ};
-
     ghost Value = { List ℕ };
-
-    ghost use Rattle.pfair_weight.specs.Name.{IsPadded, unpadded, padded, padded-unpadded};
 
     ghost view = { unpadded };
 
@@ -136,8 +133,6 @@ impl TaskName {
 }
 
 impl PartialEq for TaskName {
-    ghost use Rattle.std.specs.Cmp.Lexicographic.{pointwise};
-
     ghost eq = { pointwise nat_eq };
 
     ghost laws = { Prim.search (comparing, rules) };
@@ -176,11 +171,6 @@ impl PartialOrd for TaskName {
 }
 
 impl Hash for TaskName {
-    ghost use Rattle.std.specs.Prelude.{[], ◌∷◌};
-    ghost use Rattle.std.specs.Hash.{same_Alike};
-    ghost use Rattle.std.specs.Cmp.Lexicographic.{bytes_decides};
-    ghost use Rattle.pfair_weight.specs.Name.{with_zeros};
-
     // All sixteen bytes, in one write.
     ghost hash_input = { λ name. with_zeros name ∷ [] };
 

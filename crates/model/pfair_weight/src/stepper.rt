@@ -7,17 +7,6 @@ use crate::weight::Weight;
 use crate::window::{MAX_CLOSE, MAX_INDEX, MAX_OFFSET};
 use std::marker::Model;
 
-/// What a group deadline is made of.
-#[derive(Debug, Drop)]
-pub(crate) enum Group {
-    /// A light weight has none.
-    Light,
-    /// The deadline, for a weight of 1.
-    Whole,
-    /// The end of a cascade, for a heavy weight below 1.
-    Heavy(Cascade),
-}
-
 /// Points at one subtask of a weight, at an offset, and goes from it to the next.
 ///
 /// Its readers return what the calls of [`crate::window`] return for this subtask and offset. Each
@@ -33,7 +22,8 @@ pub struct Stepper {
     served: Fraction,
     // period / cost.
     served_step: Fraction,
-    group: Group,
+    // Of a heavy weight below 1.
+    cascade: Option<Cascade>,
 }
 
 impl Model for Stepper {
@@ -66,12 +56,10 @@ impl Stepper {
     {
         let (cost, period) = (weight.cost(), weight.period());
         let served = Fraction::new(index * period, cost);
-        let group = if !weight.is_heavy() {
-            Group::Light
-        } else if cost == period {
-            Group::Whole
+        let cascade = if weight.is_heavy() && cost < period {
+            Some(Cascade::new(weight, served.ceiling()))
         } else {
-            Group::Heavy(Cascade::new(weight, served.ceiling()))
+            None
         };
         Stepper {
             weight,
@@ -80,7 +68,7 @@ impl Stepper {
             opened: (index - 1) * period / cost,
             served,
             served_step: Fraction::new(period, cost),
-            group,
+            cascade,
         }
     }
 
@@ -93,7 +81,7 @@ impl Stepper {
         let close = self.served.ceiling();
         self.served.add(&self.served_step);
         let slots = self.served.ceiling() - close;
-        if let Group::Heavy(cascade) = &mut self.group {
+        if let Some(cascade) = &mut self.cascade {
             cascade.advance(slots);
         }
         self.opened = opened;
@@ -157,10 +145,10 @@ impl Stepper {
         ensures within { result < 2 ^ 51 }
         ensures position { IsPosition self.now }
     {
-        match &self.group {
-            Group::Light => 0,
-            Group::Whole => self.deadline(),
-            Group::Heavy(cascade) => cascade.end() + self.theta,
+        match &self.cascade {
+            Some(cascade) => cascade.end() + self.theta,
+            None if self.weight.is_heavy() => self.deadline(),
+            None => 0,
         }
     }
 }
@@ -174,9 +162,6 @@ pub(crate) struct Fraction {
 }
 
 impl Model for Fraction {
-    ghost use Rattle.std.specs.Prelude.{◌+◌, ◌*◌, ◌<◌};
-    ghost use Rattle.pfair_weight.specs.Window.{Ratio};
-
     ghost Value = { Ratio };
 
     ghost view = { λ f. record { numerator = f.whole * f.denominator + f.rest; denominator = f.denominator } };
@@ -185,7 +170,6 @@ impl Model for Fraction {
 }
 
 impl Fraction {
-    /// Creates `numerator` over `denominator`.
     pub fn new(numerator: u64, denominator: u64) -> Self
         requires { 0 < denominator }
         ensures { result ≡ record { numerator = numerator; denominator = denominator } }
@@ -197,7 +181,7 @@ impl Fraction {
         }
     }
 
-    /// Creates `factor * numerator` over `denominator`. The product may need more than 64 bits.
+    /// The product `factor * numerator` may need more than 64 bits.
     pub fn of_product(factor: u64, numerator: u64, denominator: u64) -> Self
         requires some_denominator { 0 < denominator }
         requires small { IsSmall record { numerator = factor * numerator; denominator = denominator } }
@@ -211,14 +195,12 @@ impl Fraction {
         }
     }
 
-    /// Returns the greatest whole number that is not above it.
     pub fn floor(&self) -> u64
         ensures { result ≡ self.now.numerator / self.now.denominator }
     {
         self.whole
     }
 
-    /// Returns the least whole number that is not below it.
     pub fn ceiling(&self) -> u64
         requires { IsSmall self.now }
         ensures { result ≡ div_ceil self.now.numerator self.now.denominator }
@@ -230,7 +212,6 @@ impl Fraction {
         }
     }
 
-    /// Adds a fraction of the same denominator.
     pub fn add(&mut self, other: &Fraction)
         requires same_denominator { self.old.denominator ≡ other.now.denominator }
         requires small_denominator { self.old.denominator < 2 ^ 63 }
@@ -245,7 +226,6 @@ impl Fraction {
         }
     }
 
-    /// Adds a fraction of the same denominator so many times.
     pub fn add_times(&mut self, other: &Fraction, times: u64)
         requires same_denominator { self.old.denominator ≡ other.now.denominator }
         requires small_denominator { self.old.denominator < 2 ^ 63 }

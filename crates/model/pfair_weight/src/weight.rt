@@ -45,8 +45,6 @@ pub struct Weight {
 }
 
 impl Model for Weight {
-    ghost use Rattle.pfair_weight.specs.Window.{Share, IsWeight};
-
     ghost Value = { Share };
 
     ghost view = { λ w. record { cost = w.cost; period = w.period } };

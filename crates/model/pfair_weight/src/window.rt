@@ -3,8 +3,9 @@
 //! Each call takes subtasks from 1 to [`MAX_INDEX`] and offsets from 0 to [`MAX_OFFSET`], and
 //! always succeeds.
 ghost use Rattle.std.specs.Prelude.{◌≡◌, ◌+◌, ◌*◌, ◌^◌, ◌≤◌, ◌<◌};
-ghost use Rattle.pfair_weight.specs.Window.{IsWeight, release_of, deadline_of, b_bit_of, group_deadline_of, cascade_end, starts_job_of};
+ghost use Rattle.pfair_weight.specs.Window.{IsWeight, release_of, deadline_of, b_bit_of, group_deadline_of, starts_job_of};
 
+use crate::stepper::Cascade;
 use crate::weight::Weight;
 
 /// The last subtask whose window can be asked for.
@@ -79,7 +80,7 @@ pub fn group_deadline(weight: Weight, index: u64, theta: u64) -> u64
         return deadline(weight, index, theta);
     }
     let close = (index * weight.period()).div_ceil(weight.cost());
-    theta + end_of_cascade(weight, close)
+    theta + Cascade::new(weight, close).end()
 }
 
 /// Returns whether subtask `index` is the first of a job. Job k of a weight is its subtasks
@@ -90,18 +91,4 @@ pub fn starts_job(weight: Weight, index: u64) -> bool
     ensures weight { IsWeight weight.cost weight.period }
 {
     (index - 1) % weight.cost() == 0
-}
-
-// The end of the cascade of a heavy weight below 1 that holds the slot before `close`, at offset
-// 0. The products need more than 64 bits.
-fn end_of_cascade(weight: Weight, close: u64) -> u64
-    requires below_one { weight.cost < weight.period }
-    requires close_in_range { close ≤ MAX_CLOSE }
-    ensures value { result ≡ cascade_end weight close }
-    ensures within { result ≤ close + weight.period }
-{
-    let period = weight.period() as u128;
-    let idle = period - weight.cost() as u128;
-    let idle_slots = (close as u128 * idle).div_ceil(period);
-    (idle_slots * period).div_ceil(idle) as u64
 }

@@ -32,12 +32,5 @@ add_times-requires-2-clause-small c =
 pub invariant_of-self : goal.invariant_of-self
 invariant_of-self c =
     let at = (goal.at.invariant_of-self c).After-ceiling in
-    record {
-      weight = c.self.invariant.weight;
-      below_one = c.self.invariant.below_one;
-      range = range at;
-      idle = idle_next at;
-      idle_step = c.self.invariant.idle_step;
-      end = rw (← ceiling_next at) (more_between c.ceiling-before.result c.ceiling.result _ _ c.self.inside.end c.self.inside.end_step c.add_times-2.new.self (rises at) (end_at at) c.self.invariant.end_step c.add_times-2.ensures);
-      end_step = c.self.invariant.end_step;
-    }
+    let end = more_between c.ceiling-before.result c.ceiling.result _ _ c.self.inside.end c.self.inside.end_step c.add_times-2.new.self (rises at) (end_at at) c.self.invariant.end_step c.add_times-2.ensures in
+    grind (arith, idle_next at, ceiling_next at, range at, end)

@@ -1,8 +1,8 @@
 use Rattle.pfair_weight.proofs.Common.{common_steps, div_ceil, MAX_INDEX, div_ceil_rises, arith, ◌≡◌, ◌+◌, ◌*◌, ◌<◌, ◌≤◌, ap}
 use Rattle.pfair_weight.specs.Window.{Position}
-use Rattle.pfair_weight.proofs.Steppers.{ceiling_is, group_kept, group_moves, next_stepped}
+use Rattle.pfair_weight.proofs.Steppers.{ceiling_is, cascade_kept, cascade_moves, next_stepped}
 use Rattle.pfair_weight.proofs.stepper.Stepper.advance.Goals as goal
-use Rattle.pfair_weight.proofs.stepper.Stepper.advance.Goals.{After-ceiling, in-Heavy, in_default}
+use Rattle.pfair_weight.proofs.stepper.Stepper.advance.Goals.{After-ceiling, in-Some, in_default}
 
 index_in_range : (c : After-ceiling) → c.self.inside.index < MAX_INDEX
 index_in_range c = let same = ap (λ (x : Position). x.index) c.self.view_is in omega (arith, c.requires)
@@ -18,4 +18,4 @@ close_rises c = div_ceil_rises _ _ _ c.self.invariant.position.weight.some_cost 
 
 pub invariant_of-self : goal.invariant_of-self
 invariant_of-self c =
-    grind (arith, common_steps, in-Heavy, next_stepped, index_in_range, group_moves, close_rises, close_before, close_after, in_default, group_kept)
+    grind (arith, common_steps, in-Some, next_stepped, index_in_range, cascade_moves, close_rises, close_before, close_after, in_default, cascade_kept)
