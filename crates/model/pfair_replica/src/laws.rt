@@ -2,32 +2,30 @@
 //! frontier, and of what is torn.
 //!
 //! Each function does nothing: its contract is the law, over every replica that there can be.
+#![tactic(auto, using(crate::proofs::SaidListed::laws))]
+
 ghost use Rattle.pfair_replica.specs.Laws.{IsLeastJoin, IsLongestRun, IsHeldAfter, IsAgreement, BelowAgrees, SayTheSame, MarksNeverFall, IsReadByNumber, BeginningsGrow, IsLeastMark, IsTornTest, IsListed, OfferedStays};
 ghost use Rattle.pfair_replica.specs.Replica.{IsKnownByHeld, IsSaid};
 
 /// The order of replicas is an order, and a merge gives the least replica above both; so it is
 /// commutative, associative and idempotent.
-#[tactic(auto, using(crate::proofs::Marks::least_join))]
 pub fn least_join()
     ensures { IsLeastJoin }
 {}
 
 /// Replicas of one shape that have the same content at every key are equal.
-#[tactic(auto, using(crate::proofs::Merging::known_by_held))]
 pub fn known_by_held()
     ensures { IsKnownByHeld }
 {}
 
 /// The content of each key after an entry was joined in, which changes nothing if the entry was there
 /// already, and after a merge.
-#[tactic(auto, using(crate::specs::Laws::held_after))]
 pub fn held_after()
     ensures { IsHeldAfter }
 {}
 
 /// Offering an entry or a replica, refused or not, removes nothing, changes no shape and leaves a
 /// replica.
-#[tactic(auto, using(crate::proofs::Merging::offered_stays))]
 pub fn offered_stays()
     ensures { OfferedStays }
 {}
@@ -38,7 +36,6 @@ pub fn agreement()
 {}
 
 /// A replica that is below one with nothing torn agrees with it.
-#[tactic(auto, using(crate::proofs::Marks::below_agree))]
 pub fn below_agrees()
     ensures { BelowAgrees }
 {}
@@ -49,32 +46,27 @@ pub fn longest_run()
 {}
 
 /// Entry n of a sound beginning is the entry that the replica has under number n.
-#[tactic(auto, using(crate::proofs::Marks::read_by_number))]
 pub fn read_by_number()
     ensures { IsReadByNumber }
 {}
 
 /// If a replica is above another and has nothing torn, its sound beginnings continue those of the
 /// other.
-#[tactic(auto, using(crate::proofs::Marks::beginnings_grow))]
 pub fn beginnings_grow()
     ensures { BeginningsGrow }
 {}
 
 /// The frontier is no greater than any mark, and it is one of them.
-#[tactic(auto, using(crate::proofs::Marks::least_mark))]
 pub fn least_mark()
     ensures { IsLeastMark }
 {}
 
 /// A replica that is above another and has nothing torn has no lower mark and no lower frontier.
-#[tactic(auto, using(crate::proofs::Marks::mark_le, crate::proofs::Marks::frontier_le))]
 pub fn marks_never_fall()
     ensures { MarksNeverFall }
 {}
 
 /// Replicas that agree have the same announcements at every slot below both frontiers.
-#[tactic(auto, using(crate::proofs::Marks::same_said))]
 pub fn say_the_same()
     ensures { SayTheSame }
 {}
@@ -86,14 +78,12 @@ pub fn torn_test()
 
 /// The torn keys are those whose content is torn, and the fallen ones those of an entry
 /// right after a sound beginning with a floor below the mark.
-#[tactic(auto, using(crate::proofs::SaidListed::listed))]
 pub fn listed()
     ensures { IsListed }
 {}
 
 /// The announcements at a slot are those of sound beginnings with that stamp, in order of processors,
 /// and of numbers for each processor. Torn and fallen keys are listed in the same order.
-#[tactic(auto, using(crate::proofs::SaidListed::is_said))]
 pub fn said_in_order()
     ensures { IsSaid }
 {}

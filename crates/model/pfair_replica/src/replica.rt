@@ -14,9 +14,9 @@ ghost use Rattle.pfair_replica.specs.Faults.{IsKeyOf, IsTakenAs, IsTakeFaultOf, 
 
 use crate::agenda::Agenda;
 use crate::answer::{MergeFault, TakeFault, Taken};
-use crate::rows::{Counters, EntryKey, Faults, Rows, empty_rows, held_at, put_entry, row_le};
+use crate::rows::{Counters, EntryKey, Faults, Rows, held_at, put_entry, row_le};
 use pfair_entry::{Entry, Said};
-use pfair_lattice::{Flat, Join};
+use pfair_lattice::{Flat, Join, JoinMap};
 use std::alloc::{AllocError, Global};
 use std::marker::Model;
 
@@ -55,7 +55,10 @@ impl Replica {
         requires { IsShape processors capacity }
         ensures { IfOk result (λ x. replica_of x ≡ empty_replica processors capacity) }
     {
-        let rows = empty_rows(alloc, processors)?;
+        let mut rows = Rows::new(alloc);
+        for processor in 0..processors {
+            rows.put(processor, &JoinMap::new(alloc))?;
+        }
         Ok(Replica {
             processors,
             capacity,
@@ -170,7 +173,12 @@ impl Replica {
             processors: self.processors,
             capacity: self.capacity,
             rows: self.rows.copy()?,
-            counters: self.counters.copy()?,
+            counters: Counters {
+                beginnings: self.counters.beginnings.clone()?,
+                torn: self.counters.torn,
+                frontier: self.counters.frontier,
+                sound_total: self.counters.sound_total,
+            },
             alloc: self.alloc,
         })
     }
@@ -257,9 +265,17 @@ impl Replica {
         ensures part { OnErr result ((t : ℕ) → IsPartOf (said_at agenda.old t) (said_at agenda.new t) (said_behind (replica_of self.now) t proc from)) }
     {
         for place in from..self.sound_count(proc) {
-            match self.get(proc, place + 1) {
-                Some(Flat::One(entry)) => note_said_by(proc, place + 1, entry, agenda)?,
-                _ => unreachable!(),
+            let number = place + 1;
+            let Some(Flat::One(entry)) = self.get(proc, number) else {
+                unreachable!();
+            };
+            if let Some((stamp, announcement)) = entry.said() {
+                let said = Said {
+                    proc,
+                    number,
+                    announcement,
+                };
+                agenda.push(stamp, said)?;
             }
         }
         Ok(())
@@ -278,38 +294,20 @@ impl Replica {
         let mut torn = Vec::new(self.alloc);
         let mut fallen = Vec::new(self.alloc);
         for processor in 0..self.processors {
-            self.push_torn(processor, &mut torn)?;
-            self.push_fallen(processor, &mut fallen)?;
-        }
-        Ok(Faults { torn, fallen })
-    }
-
-    // Adds the torn keys of a processor.
-    fn push_torn(&self, processor: u8, torn: &mut Vec<EntryKey>) -> Result<(), AllocError>
-        ensures torn { OnOk result (torn.new.items ≡ torn.old.items ++ torn_in (replica_of self.now) processor) }
-        ensures wanted { OnErr result (torn_in (replica_of self.now) processor ≢ []) }
-    {
-        for before in 0..self.capacity {
-            let number = before + 1;
-            if let Some(Flat::Torn) = self.get(processor, number) {
-                torn.push((processor, number))?;
+            for before in 0..self.capacity {
+                let number = before + 1;
+                if let Some(Flat::Torn) = self.get(processor, number) {
+                    torn.push((processor, number))?;
+                }
+            }
+            let (count, mark) = self.sound_beginning(processor);
+            let number = count + 1;
+            match self.get(processor, number) {
+                Some(Flat::One(entry)) if entry.floor() < mark => fallen.push((processor, number))?,
+                _ => {}
             }
         }
-        Ok(())
-    }
-
-    // Adds the entry right after the sound beginning of a processor, if it has a lower floor.
-    fn push_fallen(&self, processor: u8, fallen: &mut Vec<EntryKey>) -> Result<(), AllocError>
-        ensures fallen { OnOk result (fallen.new.items ≡ fallen.old.items ++ fallen_in (replica_of self.now) processor) }
-        ensures wanted { OnErr result (fallen_in (replica_of self.now) processor ≢ []) }
-    {
-        let (count, mark) = self.sound_beginning(processor);
-        let number = count + 1;
-        match self.get(processor, number) {
-            Some(Flat::One(entry)) if entry.floor() < mark => fallen.push((processor, number))?,
-            _ => {}
-        }
-        Ok(())
+        Ok(Faults { torn, fallen })
     }
 
     // How many entries the sound beginning of a processor has, and its last floor.
@@ -324,21 +322,4 @@ impl Replica {
             None => (0, 0),
         }
     }
-}
-
-// Notes in an agenda what an entry says.
-fn note_said_by(proc: u8, number: u32, entry: Entry, agenda: &mut Agenda) -> Result<(), AllocError>
-    ensures noted { OnOk result ((t : ℕ) → said_at agenda.new t ≡ said_at agenda.old t ++ said_by t proc number entry.said) }
-    ensures wanted { OnErr result (IsSome entry.said) }
-    ensures unchanged { OnErr result ((t : ℕ) → said_at agenda.new t ≡ said_at agenda.old t) }
-{
-    if let Some((stamp, announcement)) = entry.said() {
-        let said = Said {
-            proc,
-            number,
-            announcement,
-        };
-        agenda.push(stamp, said)?;
-    }
-    Ok(())
 }

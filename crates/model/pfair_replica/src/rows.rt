@@ -55,31 +55,7 @@ pub(crate) fn held_at(rows: &Rows, processor: u8, number: u32) -> Option<Flat<En
     ensures value { result ≡ held_in rows.now processor number }
     ensures entry { (e : Logged) → result ≡ Some (One e) → IsEntry e }
 {
-    match rows.get(&processor) {
-        Some(row) => row.get(&number).copied(),
-        None => None,
-    }
-}
-
-// Whether a processor's row isn't there, or has nothing in it.
-fn holds_nothing(rows: &Rows, processor: u8) -> bool
-    ensures { IsTrue result → (n : ℕ) → held_in rows.now processor n ≡ None }
-{
-    match rows.get(&processor) {
-        Some(row) => row.len() == 0,
-        None => true,
-    }
-}
-
-/// A row for each processor, with nothing in it.
-pub(crate) fn empty_rows(alloc: Global, processors: u8) -> Result<Rows, AllocError>
-    ensures { IfOk result (AreEmptyRows processors) }
-{
-    let mut rows = Rows::new(alloc);
-    for processor in 0..processors {
-        rows.put(processor, &JoinMap::new(alloc))?;
-    }
-    Ok(rows)
+    rows.get(&processor)?.get(&number).copied()
 }
 
 /// Whether all that one row holds is held in the other row of its processor, or torn there.
@@ -109,11 +85,6 @@ pub(crate) struct Beginning {
     pub mark: u64,
 }
 
-impl Beginning {
-    /// That of a row with nothing in it.
-    pub const EMPTY: Beginning = Beginning { count: 0, mark: 0 };
-}
-
 /// How far the sound beginning of each row goes, and which key is the first torn one.
 #[derive(Drop)]
 pub(crate) struct Counters {
@@ -137,23 +108,10 @@ impl Counters {
         ensures torn { IfOk result (λ counters. counters.torn ≡ None) }
     {
         Ok(Counters {
-            beginnings: vec![in alloc; Beginning::EMPTY; processors as usize]?,
+            beginnings: vec![in alloc; Beginning { count: 0, mark: 0 }; processors as usize]?,
             torn: None,
             frontier: 0,
             sound_total: 0,
-        })
-    }
-
-    /// Returns a copy.
-    pub fn copy(&self) -> Result<Counters, AllocError>
-        ensures beginnings { IfOk result (λ copy. copy.beginnings.items ≡ self.now.beginnings.items) }
-        ensures torn { IfOk result (λ copy. copy.torn ≡ self.now.torn) }
-    {
-        Ok(Counters {
-            beginnings: self.beginnings.clone()?,
-            torn: self.torn,
-            frontier: self.frontier,
-            sound_total: self.sound_total,
         })
     }
 
@@ -182,10 +140,10 @@ impl Counters {
     {
         for processor in 0..processors {
             // if the other holds nothing, the row is as it was
-            if holds_nothing(other, processor) {
+            if other.get(&processor).map_or(0, |row| row.len()) == 0 {
                 continue;
             }
-            let whole = carried_on(rows, capacity, processor, Beginning::EMPTY);
+            let whole = carried_on(rows, capacity, processor, Beginning { count: 0, mark: 0 });
             self.put(processor as usize, whole);
             self.torn = earlier(self.torn, first_torn_in(rows, capacity, processor));
         }
@@ -281,11 +239,9 @@ fn first_torn_in(rows: &Rows, capacity: u32, processor: u8) -> Option<EntryKey>
 fn earlier(first: Option<EntryKey>, other: Option<EntryKey>) -> Option<EntryKey>
     ensures { IsEarlier first other result }
 {
-    match first {
-        Some(key) => match other {
-            Some(next) if next < key => other,
-            _ => first,
-        },
-        None => other,
+    match (first, other) {
+        (Some(key), Some(next)) if next < key => other,
+        (None, _) => other,
+        _ => first,
     }
 }
