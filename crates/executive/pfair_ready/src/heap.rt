@@ -3,8 +3,8 @@ ghost use Rattle.std.specs.Prelude.{◌≡◌, ◌≤◌, IfOk, OnErr, OnOk, map
 ghost use Rattle.std.specs.BinaryHeap.{heap_items};
 ghost use Rattle.pfair_order.specs.declared.Key.{Key};
 ghost use Rattle.pfair_order.specs.Order.{pd2_cmp, first_by_rank};
-ghost use Rattle.pfair_ready.specs.Queue.{released, without};
-ghost use Rattle.pfair_ready.specs.Waiting.{HasTurn, KeepsTurns, turn_of};
+ghost use Rattle.pfair_ready.specs.Queue.{Content, content_code, released, without};
+ghost use Rattle.pfair_ready.specs.Waiting.{HasTurn, IsCovered, KeepsTurns, turn_of};
 ghost use Rattle.pfair_weight.specs.Name.{IsTaskName};
 
 use crate::calendar::{Calendar, Date};
@@ -41,14 +41,9 @@ pub struct HeapReady {
 }
 
 impl Model for HeapReady {
-    ghost use Rattle.pfair_ready.specs.Queue.{Content, content_code};
-
     ghost Value = { Content };
 
     ghost coded = { content_code };
-
-    ghost use Rattle.std.specs.BinaryHeap.{heap_items};
-    ghost use Rattle.pfair_ready.specs.Waiting.{IsCovered};
 
     ghost view = { λ a. record { now = a.now; held = a.waiting } };
 

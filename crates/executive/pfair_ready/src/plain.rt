@@ -1,10 +1,11 @@
 //! A ready structure that is one list, to compare faster ones with.
-ghost use Rattle.std.specs.Prelude.{◌≡◌, IfOk, map, filter, nat_le, not};
+ghost use Rattle.std.specs.Prelude.{◌≡◌, IfOk, map, filter, nat_le};
 ghost use Rattle.std.specs.List.{list_any};
 ghost use Rattle.itertools.specs.Extremes.{IsKLeast, by_cmp};
 ghost use Rattle.pfair_order.specs.Order.{pd2_cmp};
-ghost use Rattle.pfair_ready.specs.Queue.{name_eq};
-ghost use Rattle.pfair_ready.specs.Waiting.{first_named};
+ghost use Rattle.pfair_ready.specs.Queue.{Content, content_code, name_eq};
+ghost use Rattle.pfair_ready.specs.Waiting.{first_named, queue_of};
+ghost use Rattle.pfair_weight.specs.Name.{NamesApart};
 
 use crate::Ready;
 use itertools::Itertools;
@@ -32,14 +33,9 @@ pub struct PlainReady {
 }
 
 impl Model for PlainReady {
-    ghost use Rattle.pfair_ready.specs.Queue.{Content, content_code};
-
     ghost Value = { Content };
 
     ghost coded = { content_code };
-
-    ghost use Rattle.pfair_weight.specs.Name.{NamesApart};
-    ghost use Rattle.pfair_ready.specs.Waiting.{queue_of};
 
     ghost view = { λ a. record { now = a.now; held = queue_of a.waiting.items } };
 
@@ -85,7 +81,7 @@ impl Ready for PlainReady {
         self.now = slot;
         let released = released_keys(self.alloc, &self.waiting, slot)?;
         let first = least_keys(self.alloc, &released, m)?;
-        keep_others(&mut self.waiting, &first);
+        self.waiting.retain(|w| !has_name(&first, w.key.name));
         Ok(first)
     }
 }
@@ -118,14 +114,6 @@ fn least_keys(alloc: Global, keys: &[Key], m: usize) -> Result<Vec<Key>, AllocEr
 {
     let least = keys.iter().copied().k_smallest(alloc, m)?;
     least.collect(alloc)
-}
-
-// Removes the keys under these names.
-fn keep_others(waiting: &mut Vec<PlainEntry>, keys: &[Key])
-    ensures { waiting.new.items ≡
-        filter (λ w. not (list_any (λ k. name_eq w.key.name k.name) keys.now)) waiting.old.items }
-{
-    waiting.retain(|w| !has_name(keys, w.key.name));
 }
 
 // Whether a key has this name.

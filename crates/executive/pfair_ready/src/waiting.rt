@@ -2,7 +2,7 @@
 ghost use Rattle.std.specs.Prelude.{◌≡◌, IfOk, IfSome, IfNone, OnErr, OnOk, None, Some, false, is_some, not, if◌then◌else◌};
 ghost use Rattle.std.specs.FinMap as finmap;
 ghost use Rattle.indexmap.specs.IndexMap.{get as at_name, IsUnique};
-ghost use Rattle.pfair_ready.specs.Queue.{NameValue, name_eq};
+ghost use Rattle.pfair_ready.specs.Queue.{NameValue, Queue, name_eq, queue_code};
 ghost use Rattle.pfair_ready.specs.Waiting.{IsEntryOf, IsKeyIn, is_due, key_under, queue_in};
 ghost use Rattle.pfair_weight.specs.Name.{IsNumber, name_of};
 
@@ -79,9 +79,6 @@ pub(crate) struct Waiting {
 }
 
 impl Model for Waiting {
-    ghost use Rattle.pfair_ready.specs.Queue.{Queue, queue_code};
-    ghost use Rattle.pfair_ready.specs.Waiting.{queue_in};
-
     ghost Value = { Queue };
 
     ghost coded = { queue_code };

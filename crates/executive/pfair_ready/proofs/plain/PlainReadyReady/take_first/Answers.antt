@@ -1,9 +1,14 @@
-use Rattle.pfair_ready.proofs.Common.{apart_filter, name_eq, list_any, Key, pd2_cmp, first_by_rank, released, without, queue_of, ◌≡◌, not, List, ap, subst, ◌∙◌, IsKLeast, by_cmp}
+use Rattle.std.proofs.Common.{filter}
+use Rattle.pfair_ready.proofs.Common.{PlainEntry, filter_same, rules, apart_filter, name_eq, list_any, Key, pd2_cmp, first_by_rank, released, without, queue_of, ◌≡◌, not, List, ap, subst, ◌∙◌, IsKLeast, by_cmp}
 use Rattle.pfair_ready.proofs.WaitingLemmas.{name_of, queue_of_filter, first_from_least, released_of}
 use Rattle.pfair_ready.proofs.plain.PlainReadyReady.take_first.Goals as goal
+use Rattle.pfair_ready.proofs.plain.PlainReadyReady.take_first.Goals.{After-retain}
+
+kept : (c : After-retain) → c.retain.new.self.items ≡ filter (λ (w : PlainEntry). not (list_any (λ k. name_eq w.key.name k.name) c.in_ok-first.first.items)) c.self.inside.waiting.items
+kept c = filter_same _ _ _ (λ x b f' k. search rules) _ _ c.retain.ensures.filtered
 
 pub invariant_of-self-2 : goal.invariant_of-self-2
-invariant_of-self-2 c = rw c.keep_others.ensures (apart_filter name_of _ c.self.inside.waiting.items c.self.invariant)
+invariant_of-self-2 c = rw (kept ((goal.at.invariant_of-self-2 c).After-retain)) (apart_filter name_of _ c.self.inside.waiting.items c.self.invariant)
 
 pub returns-clause-first : goal.returns-clause-first
 returns-clause-first c =
@@ -16,6 +21,5 @@ returns-clause-first c =
 
 pub returns-clause-removed : goal.returns-clause-removed
 returns-clause-removed c =
-    ap queue_of c.keep_others.ensures ∙ queue_of_filter (λ n. not (list_any (λ k. name_eq n k.name) c.deref-3.result.now)) c.self.inside.waiting.items
-    ∙ ap (λ l. without l (queue_of c.self.inside.waiting.items)) c.deref-3.ensures.value
+    ap queue_of (kept ((goal.at.returns-clause-removed c).After-retain)) ∙ queue_of_filter (λ n. not (list_any (λ k. name_eq n k.name) c.in_ok-first.first.items)) c.self.inside.waiting.items
     ∙ ap (λ v. without c.in_ok-first.first.items v.held) c.self.view_is
