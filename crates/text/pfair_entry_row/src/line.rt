@@ -23,15 +23,11 @@ pub(crate) fn read_line(row: &[u8]) -> Option<Line<'_>>
         (λ l. IsSayable l.processor l.number (logged l) × (row.now ≡ entry_row l.processor l.number (logged l))) }
 {
     let fields = cut_fields(row)?;
-    let processor = read_number(fields.processor)?;
-    let number = read_number(fields.number)?;
-    let floor = read_number(fields.floor)?;
-    let notice = read_notice(&fields)?;
     Some(Line {
-        processor,
-        number,
-        floor,
-        notice,
+        processor: read_number(fields.processor)?,
+        number: read_number(fields.number)?,
+        floor: read_number(fields.floor)?,
+        notice: read_notice(&fields)?,
     })
 }
 
@@ -160,11 +156,7 @@ pub fn read_number(field: &[u8]) -> Option<u64>
     ensures { MatchOption result ((n : ℕ) → n < 2 ^ 64 → field.now ≢ decimal n) (λ n. (n < 2 ^ 64) × (field.now ≡ decimal n)) }
 {
     let number: u64 = str::from_utf8(field).ok()?.parse().ok()?;
-    if Buffer::new().format(number).as_bytes() == field {
-        Some(number)
-    } else {
-        None
-    }
+    (Buffer::new().format(number).as_bytes() == field).then_some(number)
 }
 
 /// Returns the truth that a field is the word of, if it is one.

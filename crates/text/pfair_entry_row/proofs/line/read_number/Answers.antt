@@ -1,4 +1,4 @@
-use Rattle.pfair_entry_row.proofs.Common.{arith, ◌∙◌, sym}
+use Rattle.pfair_entry_row.proofs.Common.{common_steps, arith, ◌∙◌, sym}
 use Rattle.std.specs.Cmp.Lexicographic.{bytes_decides}
 use Rattle.pfair_entry_row.proofs.RowFields.{no_text, not_read, read_is}
 use Rattle.pfair_entry_row.proofs.line.read_number.Goals as goal
@@ -9,5 +9,5 @@ returns-in_err-ok c = rw c.from_residual.ensures (no_text _ _ c.args.field.now c
 pub returns-in_err-number : goal.returns-in_err-number
 returns-in_err-number c = grind (arith, not_read)
 
-pub returns-else-eq : goal.returns-else-eq
-returns-else-eq c n small e = grind (arith, read_is, bytes_decides)
+pub returns : goal.returns
+returns c = grind (arith, common_steps, read_is, bytes_decides)
