@@ -1,10 +1,9 @@
 -- The names that many of these proofs cite, passed on from one place. Declares nothing.
 pub use Rattle.pfair_entry.specs.Entry.{Logged}
 pub use Rattle.pfair_file.specs.Documents.{close_all, closed, document, empty_logs, Logs, logs_after, longer_log, tables_of, with_entries, with_entry, with_items}
-pub use Rattle.pfair_file.specs.Tables.{made_at}
+pub use Rattle.pfair_file.specs.Tables.{Made, made_at}
 pub use Rattle.pfair_file.specs.declared.fault.FileFault.{FileFault}
 pub use Rattle.pfair_file.specs.declared.fault.FileFault.TheVariants.{Memory}
-pub use Rattle.pfair_file.specs.declared.tables.Made.{Made}
 pub use Rattle.pfair_table.specs.Script.{is_short, lists_of}
 pub use Rattle.std.proofs.Common.{◌≡◌, arith, ℕ, List, length, Err, ◌∙◌, [], ◌≤◌, refl, vec_len, sym, ◌∷◌, ◌++◌, Result, Ok, ◌<◌, get_or, Vec, Global, All, ◌+◌, ap, Option, Some, true, subst, None, drop, rules, ◌≢◌, set, take, ◌-◌}
 pub use Rattle.std.proofs.lemmas.Grind.{common_steps}

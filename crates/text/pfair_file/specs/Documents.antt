@@ -5,9 +5,8 @@ use Rattle.pfair_entry.specs.Entry.{Logged}
 use Rattle.pfair_entry.specs.declared.notice.NoticeFault.{NoticeFault}
 use Rattle.pfair_entry.specs.declared.notice.NoticeFault.TheVariants.{LogFull}
 use Rattle.pfair_entry.specs.Kinds.{and_then}
-use Rattle.pfair_file.specs.Tables.{made_at}
+use Rattle.pfair_file.specs.Tables.{Made, made_at}
 use Rattle.pfair_file.specs.declared.fault.FileFault.{FileFault}
-use Rattle.pfair_file.specs.declared.tables.Made.{Made}
 use Rattle.pfair_file.specs.declared.tables.TheConstants.{MOST_ENTRIES}
 use Rattle.std.specs.Option.{option_map_or}
 use Rattle.std.specs.Str.{is_utf8}

@@ -10,7 +10,8 @@ use Rattle.pfair_file.specs.Keys.{key_of, natural_at, number_at, text_at}
 use Rattle.pfair_file.specs.declared.field.Field.TheVariants as field
 use Rattle.pfair_file.specs.declared.fault.FileFault.{FileFault}
 use Rattle.pfair_file.specs.declared.fault.FileFault.TheVariants.{Range, WrongKind}
-use Rattle.pfair_file.specs.declared.tables.Made.{Made}
+use Rattle.pfair_entry.specs.Entry.{Logged}
+use Rattle.pfair_entry.specs.declared.notice.NoticeFault.{NoticeFault}
 
 -- the kind, which may be missing
 abbrev pub kind_in : ℕ → Option Data → Result (Option Kind) FileFault
@@ -58,7 +59,12 @@ notice_in version place table (Some kind) = and_then (λ notice. Ok (Some notice
 abbrev pub notice_at : ℕ → ℕ → Members → Result (Option (ℕ × Announcement)) FileFault
 notice_at version place table = and_then (λ kind. notice_in version place table kind) (kind_at place table)
 
--- what a table makes, once all its keys are read
+-- what a table makes: an entry of the processor's log, or why there is none
+pub record Made : Type 0 where
+  pub processor : ℕ
+  pub entry : Result Logged NoticeFault
+
+-- what it makes once all its keys are read
 abbrev pub made_at : ℕ → ℕ → ℕ → Members → Result Made FileFault
 made_at version processors place table =
     and_then (λ processor.

@@ -3,9 +3,9 @@ ghost use Rattle.std.specs.Prelude.{◌≡◌, ◌≢◌, ◌≤◌, ◌<◌, Al
 ghost use Rattle.toml.specs.View.{table_view};
 ghost use Rattle.pfair_table.specs.Script.{is_short, lists_of};
 ghost use Rattle.std.specs.List.{list_all};
-ghost use Rattle.pfair_file.specs.Documents.{closed, close_all, document, empty_logs, entries_at, logs_at, script_of_file};
+ghost use Rattle.pfair_file.specs.Documents.{closed, document, empty_logs, entries_at, logs_at, script_of_file};
 ghost use Rattle.pfair_file.specs.declared.fault.FileFault.TheVariants.{Memory, NotToml};
-ghost use Rattle.pfair_file.specs.Keys.{settings_of, version_of};
+ghost use Rattle.pfair_file.specs.Keys.{settings_of};
 
 use crate::fault::FileFault;
 use crate::field::{Field, integer, number, within};
@@ -28,7 +28,8 @@ pub fn read_file(alloc: Global, bytes: &[u8]) -> Result<Script, FileFault>
     ensures fault { IfErr result (λ f. f ≢ Memory → script_of_file bytes.now ≡ Err f) }
 {
     let table = parse(alloc, bytes)?;
-    let version = read_version(&table)?;
+    let stated = integer(&table, 0, Field::Version)?;
+    let version = within(stated, 1, 2, FileFault::Version)?;
     let settings = read_settings(&table)?;
     let logs = read_logs(alloc, &table, version, settings)?;
     match Script::new(settings, logs) {
@@ -67,20 +68,11 @@ fn read_logs(
         logs.push(Vec::new(alloc)).ok().ok_or(FileFault::Memory)?;
     }
     add_entries(&mut logs, version, table)?;
-    close_logs(&mut logs, settings.slots())?;
-    Ok(logs)
-}
-
-// Closes each log.
-fn close_logs(logs: &mut Vec<Vec<Entry>>, slots: u64) -> Result<(), AllocError>
-    requires { slots ≤ Settings.MAX_SLOTS }
-    ensures closed { OnOk result (lists_of logs.new.items ≡ close_all slots (lists_of logs.old.items)) }
-    ensures same { OnOk result (vec_len logs.new ≡ vec_len logs.old) }
-{
+    let slots = settings.slots();
     for i in 0..logs.len() {
         close_log(&mut logs[i], slots)?;
     }
-    Ok(())
+    Ok(logs)
 }
 
 // Adds the entry that closes a log, if its last floor is below the number of slots.
@@ -97,25 +89,12 @@ fn close_log(log: &mut Vec<Entry>, slots: u64) -> Result<(), AllocError>
     Ok(())
 }
 
-// Reads the version of the format, or the fault of its key.
-fn read_version(table: &Table) -> Result<u64, FileFault>
-    ensures { result ≡ version_of (table_view table.now) }
-{
-    let stated = integer(table, 0, Field::Version)?;
-    within(stated, 1, 2, FileFault::Version)
-}
-
 // Reads the settings of the run, or the first fault of their keys.
 fn read_settings(table: &Table) -> Result<Settings, FileFault>
     ensures { result ≡ settings_of (table_view table.now) }
 {
-    let processors = number(
-        table,
-        0,
-        Field::Processors,
-        1,
-        Settings::MAX_PROCESSORS as u64,
-    )?;
+    let most = Settings::MAX_PROCESSORS as u64;
+    let processors = number(table, 0, Field::Processors, 1, most)?;
     let frame = number(table, 0, Field::Frame, 1, Settings::MAX_FRAME)?;
     let slots = number(table, 0, Field::Slots, 1, Settings::MAX_SLOTS)?;
     match Settings::new(processors as u8, frame, slots) {

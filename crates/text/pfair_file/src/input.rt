@@ -1,17 +1,15 @@
 //! What a program is given: its words, and the task file that it reads.
-ghost use Rattle.std.specs.Prelude.{◌≡◌, ◌⊎◌, IfErr, alloc_error, Ok, IfOk, IfSome, ◌≤◌, ◌<◌, length, IsErrOf, OnOk, IsTrue, ◌↔◌};
+ghost use Rattle.std.specs.Prelude.{◌≡◌, ◌⊎◌, IfErr, alloc_error, Ok, IfOk, IfSome, ◌≤◌, ◌<◌, length, IsErrOf, OnOk};
 ghost use Rattle.pfair_file.specs.ProgramFaults.{TakesOneFile, HasTaken};
 ghost use Rattle.pfair_file.specs.Documents.{script_of_file, IsRefusalOf};
 ghost use Rattle.pfair_file.specs.declared.program_fault.ProgramFault.TheVariants.{ReadFailed, Memory, FileTooLong};
 ghost use Rattle.std.specs.Io.KnownBytes.{Consumes, IsAtEnd};
-ghost use Rattle.std.specs.IoError.{error_kind};
 
 use crate::document::read_file;
 use crate::program_fault::ProgramFault;
 use pfair_table::Script;
 use std::alloc::{AllocError, AllocGlobal, Global};
 use std::fs::{File, Files};
-use std::io;
 use std::io::{ErrorKind, Read};
 use std::rt::Env;
 
@@ -28,7 +26,7 @@ pub fn given_words<P: Env + AllocGlobal, F: From<AllocError> + Drop>(
 {
     match std::env::args(rt) {
         Ok(args) => Ok(args.skip(1).collect(rt.alloc())?),
-        Err(error) if is_want_of_memory(&error) => Err(F::from(AllocError)),
+        Err(error) if error.kind() == ErrorKind::OutOfMemory => Err(F::from(AllocError)),
         Err(_) => Err(no_text),
     }
 }
@@ -42,7 +40,7 @@ pub fn opened<P: Files>(rt: &P, file: &str) -> Result<P::File, ProgramFault>
 {
     match File::open(rt, file) {
         Ok(reader) => Ok(reader),
-        Err(error) if is_want_of_memory(&error) => Err(ProgramFault::Memory),
+        Err(error) if error.kind() == ErrorKind::OutOfMemory => Err(ProgramFault::Memory),
         Err(_) => Err(ProgramFault::ReadFailed),
     }
 }
@@ -100,11 +98,4 @@ pub fn read_bytes<R: Read>(alloc: Global, reader: &mut R) -> Result<Vec<u8>, Pro
         }
     }
     Err(ProgramFault::FileTooLong)
-}
-
-// Returns whether an error of the platform means that memory ran out.
-fn is_want_of_memory(error: &io::Error) -> bool
-    ensures { IsTrue result ↔ (error_kind error.now ≡ ErrorKind.OutOfMemory) }
-{
-    error.kind() == ErrorKind::OutOfMemory
 }

@@ -6,7 +6,7 @@ ghost use Rattle.toml.specs.View.{table_view, view};
 ghost use Rattle.pfair_table.specs.Script.{lists_of};
 ghost use Rattle.pfair_file.specs.Documents.{with_entry, longer_log, entries_at};
 ghost use Rattle.pfair_file.specs.declared.fault.FileFault.TheVariants.{Memory};
-ghost use Rattle.pfair_file.specs.Tables.{made_at, early_at, kind_at, notice_at};
+ghost use Rattle.pfair_file.specs.Tables.{early_at, kind_at, notice_at};
 ghost use Rattle.std.specs.Result.{result_map_both};
 ghost use Rattle.pfair_entry.specs.Notice.{noticed};
 
@@ -31,9 +31,12 @@ fn add_entry(
     ensures same { vec_len logs.new ≡ vec_len logs.old }
     ensures short { All (λ log. vec_len log ≤ MOST_ENTRIES) logs.new.items }
 {
-    let made = read_entry(table, place, logs.len() as u64, version)?;
-    let processor = made.processor;
-    append(&mut logs[processor as usize], processor as u8, made.entry)
+    let last = logs.len() as u64 - 1;
+    let processor = number(table, place, Field::Processor, 0, last)?;
+    let floor = natural_number(table, place, Field::Floor)?;
+    let notice = read_notice(table, place, version)?;
+    let entry = checked_entry(floor, notice);
+    append(&mut logs[processor as usize], processor as u8, entry)
 }
 
 // Whether each value is a table.
@@ -75,15 +78,6 @@ pub fn add_entries(logs: &mut Vec<Vec<Entry>>, version: u64, table: &Table) -> R
 /// end closes.
 pub(crate) const MOST_ENTRIES: usize = Script::LONGEST_LOG - 1;
 
-/// What a table makes.
-#[derive(Clone, Copy)]
-pub struct Made {
-    /// The processor, counted from 0.
-    pub processor: u64,
-    /// The entry in that processor's log, or why there is none.
-    pub entry: Result<Entry, NoticeFault>,
-}
-
 // Appends to the log of a processor the entry that a table makes, if it makes one.
 fn append(
     log: &mut Vec<Entry>,
@@ -108,18 +102,6 @@ fn append(
             cause,
         }),
     }
-}
-
-// Reads what a table makes, or the first fault of its keys.
-fn read_entry(table: &Table, place: u64, processors: u64, version: u64) -> Result<Made, FileFault>
-    requires { 1 ≤ processors }
-    ensures { result ≡ made_at version processors place (table_view table.now) }
-{
-    let processor = number(table, place, Field::Processor, 0, processors - 1)?;
-    let floor = natural_number(table, place, Field::Floor)?;
-    let notice = read_notice(table, place, version)?;
-    let entry = checked_entry(floor, notice);
-    Ok(Made { processor, entry })
 }
 
 // Reads the announcement of a table, if it has a kind, or the first fault of its keys.
@@ -160,11 +142,8 @@ fn read_early(table: &Table, place: u64, version: u64) -> Result<bool, FileFault
     ensures { result ≡ early_at version place (table_view table.now) }
 {
     let field = Field::Early;
-    if version < 2 {
-        return Ok(false);
+    match find(table, field) {
+        Some(value) if version >= 2 => value.as_bool().ok_or(FileFault::WrongKind { place, field }),
+        _ => Ok(false),
     }
-    let Some(value) = find(table, field) else {
-        return Ok(false);
-    };
-    value.as_bool().ok_or(FileFault::WrongKind { place, field })
 }

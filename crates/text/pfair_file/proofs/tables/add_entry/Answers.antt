@@ -1,5 +1,11 @@
 use Rattle.std.proofs.Common.{IfErr, OnOk}
 use Rattle.pfair_file.proofs.Common.{length-map, get_or-map, map-set, Members, table_view, Logged, lists_of, longer_log, with_entry, FileFault, ℕ, Result, Ok, Err, ◌≡◌, ◌∙◌, ◌<◌, [], length, set, sym, ap, arith, get_or, Vec, Global, ◌≢◌, common_steps, made_at, Made, Memory}
+use Rattle.std.proofs.Common.{◌-◌, Option, refl}
+use Rattle.pfair_entry.specs.Notice.{checked}
+use Rattle.pfair_entry.specs.declared.entry.Announcement.{Announcement}
+use Rattle.pfair_file.specs.Keys.{natural_at, number_at}
+use Rattle.pfair_file.specs.Tables.{notice_at}
+use Rattle.pfair_file.specs.declared.field.Field.TheVariants as field
 use Rattle.pfair_file.proofs.tables.add_entry.Goals.{After-append}
 use Rattle.pfair_file.proofs.tables.add_entry.Goals as goal
 
@@ -23,16 +29,25 @@ refused_there : (logs : Vec (Vec Logged Global) Global) (version place : ℕ) (t
     → IfErr r (λ f. f ≢ Memory → with_entry version place (lists_of logs.items) table ≡ Err f)
 refused_there logs version place table made log within at read r refused = grind (arith, log_there)
 
-within : (c : After-append) → c.in_ok-made.made.processor < length c.args.logs.now.items
+-- what a table makes, by its keys
+made_of : (version processors place : ℕ) (table : Members) (processor floor : ℕ) (said : Option (ℕ × Announcement))
+    → number_at table place field.Processor 0 (processors - 1) ≡ Ok processor → natural_at table place field.Floor ≡ Ok floor → notice_at version place table ≡ Ok said
+    → made_at version processors place table ≡ Ok (record { processor = processor; entry = checked (record { floor = floor; said = said }) })
+made_of version processors place table processor floor said a b d = rw (a, b, d) refl
+
+abbrev made : After-append → Made
+made c = record { processor = c.in_ok-processor.processor; entry = c.checked_entry-entry.result }
+
+within : (c : After-append) → c.in_ok-processor.processor < length c.args.logs.now.items
 within c = grind (arith, common_steps)
 
-read : (c : After-append) → made_at c.args.version (length (lists_of c.args.logs.now.items)) c.args.place (table_view c.args.table.now) ≡ Ok c.in_ok-made.made
-read c = grind (arith, common_steps, length-map)
+read : (c : After-append) → made_at c.args.version (length (lists_of c.args.logs.now.items)) c.args.place (table_view c.args.table.now) ≡ Ok (made c)
+read c = grind (arith, made_of, length-map)
 
 pub returns-clause-ok : goal.returns-clause-ok
 returns-clause-ok c =
     let at = (goal.at.returns-clause-ok c).After-append in
-    longer_there c.args.logs.now c.args.version c.args.place (table_view c.args.table.now) c.in_ok-made.made c.index_mut.result.now c.append.new.log (within at) c.index_mut.ensures.value (read at) c.append.result c.append.ensures.ok
+    longer_there c.args.logs.now c.args.version c.args.place (table_view c.args.table.now) (made at) c.index_mut.result.now c.append.new.log (within at) c.index_mut.ensures.value (read at) c.append.result c.append.ensures.ok
 
 pub returns-clause-fault : goal.returns-clause-fault
 returns-clause-fault c = grind (arith, common_steps, refused_there, within, read)
