@@ -139,10 +139,6 @@ pub(crate) fn parse<'a>(
 }
 
 /// The name of the task file.
-///
-/// # Errors
-/// [`ProgramFault::CommandLine`] if there is none, and [`ProgramFault::Memory`] if an allocation
-/// fails.
 pub(crate) fn file_name(alloc: Global, words: &ArgMatches<'_>) -> Result<String, ProgramFault>
     ensures { MatchResult result
         (λ name. first_of (codes "file") (rows_of (found_of words.now)) ≡ Some (string_bytes name))
@@ -152,9 +148,6 @@ pub(crate) fn file_name(alloc: Global, words: &ArgMatches<'_>) -> Result<String,
 }
 
 /// The word under a name, if there is one.
-///
-/// # Errors
-/// [`AllocError`] if an allocation fails.
 pub(crate) fn text_if_any(
     alloc: Global,
     words: &ArgMatches<'_>,
@@ -169,9 +162,6 @@ pub(crate) fn text_if_any(
 }
 
 /// The number under a name.
-///
-/// # Errors
-/// [`ProgramFault::CommandLine`] if there is none.
 pub(crate) fn number(words: &ArgMatches<'_>, name: &str) -> Result<u64, ProgramFault>
     ensures { MatchResult result
         (IsNumber (rows_of (found_of words.now)) name.now)
