@@ -1,13 +1,11 @@
 //! The command `replay`: the tables of a task file, worked out by a dispatcher for each processor
 //! in a thread of its own, and with `--affinity` the processor that runs each row.
 ghost use Rattle.pfair_file.specs.ProgramFaults.{IsCommandOf, TakesOneFile};
-ghost use Rattle.pfair_reports.specs.Runs.{IsFaultOfReplay, IsOutputOf, placed_replay_of_run, replay_of_run};
+ghost use Rattle.pfair_reports.specs.Runs.{IsFaultOfReplay, IsOutputOf, has_rows, placed_replay_of_run, replay_of_run};
 ghost use Rattle.std.specs.Prelude.{◌≡◌, [], Ok, IfErr, IfOk, IfSome};
 ghost use Rattle.pfair_table.specs.Script.{LoggedRun};
 ghost use Rattle.pfair_board.specs.RunFaults.{HasPlan};
 ghost use Rattle.pfair_file.specs.Documents.{script_of_file};
-ghost use Rattle.pfair_text.specs.Rows.{IsOpen, text_so_far};
-ghost use Rattle.pfair_output.specs.Replay.{replay_text};
 
 use csv::Writer;
 use pfair_board::{Gate, Sink, run_dispatchers_into};
@@ -51,7 +49,9 @@ pub fn replay<R: Read, W: Write, G: Gate + Sync>(
     ensures { IsCommandOf (IsOutputOf replay_of_run) (IsFaultOfReplay G.may_give_up) result
         (R.remaining reader.old) (R.remaining reader.new) (W.contents writer.old) (W.contents writer.new) }
 {
-    let rows = first_run(rt, alloc, reader, gate, ReplayRows::new(alloc)?)?;
+    let mut header = new_text(alloc);
+    add_replay_header(&mut header)?;
+    let rows = first_run(rt, alloc, reader, gate, ReplayRows { writer: header })?;
     let text = finish(rows.writer)?;
     Ok(send(writer, text.as_slice())?)
 }
@@ -108,21 +108,7 @@ struct ReplayRows {
     writer: Writer<Vec<u8>>,
 }
 
-impl ReplayRows {
-    // The header.
-    fn new(alloc: Global) -> Result<ReplayRows, AllocError>
-        ensures open { IfOk result (λ rows. IsOpen rows.writer) }
-        ensures text { IfOk result (λ rows. text_so_far rows.writer ≡ replay_text []) }
-    {
-        let mut writer = new_text(alloc);
-        add_replay_header(&mut writer)?;
-        Ok(ReplayRows { writer })
-    }
-}
-
 impl Sink for ReplayRows {
-    ghost use Rattle.pfair_reports.specs.Runs.{has_rows};
-
     ghost has = { λ rows row tables. has_rows rows.writer row tables };
 
     fn take(&mut self, slot: u64, table: Vec<Pick>) -> Result<Option<Vec<Pick>>, AllocError> {
