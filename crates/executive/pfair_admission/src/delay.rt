@@ -15,7 +15,6 @@ pub struct Delay {
     pub by: u64,
 }
 
-/// The sum of the delays whose index is at most `index`.
 pub(crate) fn delay_up_to(delays: &[Delay], index: u64) -> u64
     requires { sum_by (λ d. d.by) delays.now < 2 ^ 64 }
     ensures { result ≡ sum_by (λ d. d.by) (filter (λ d. nat_le d.index index) delays.now) }
@@ -27,7 +26,6 @@ pub(crate) fn delay_up_to(delays: &[Delay], index: u64) -> u64
         .sum()
 }
 
-/// Whether a delay has exactly this index.
 pub(crate) fn is_delayed_at(delays: &[Delay], index: u64) -> bool
     ensures { result ≡ list_any (λ d. d.index == index) delays.now }
 {
@@ -45,7 +43,6 @@ pub(crate) fn leaves_room(delays: &[Delay], slot: u64) -> bool
     end <= Members::LAST_SLOT
 }
 
-// Whether a delay is of a subtask before `next`.
 fn has_passed(delays: &[Delay], next: u64) -> bool
     ensures { result ≡ list_any (λ d. nat_lt d.index next) delays.now }
 {

@@ -213,7 +213,6 @@ impl Incarnation {
         Ok(Decision::Delayed)
     }
 
-    // Subtask `index` and all after it come so many slots later.
     fn put_off(&mut self, index: u64, by: u64) -> Result<(), AllocError>
         requires { last_offset self.old + by ≤ MAX_OFFSET }
         ensures ok { OnOk result (self.new ≡ with_delay index by self.old) }
@@ -255,7 +254,6 @@ impl Incarnation {
         })
     }
 
-    // Whether it can be a member of a next run.
     pub(crate) fn can_be_carried(&self) -> bool
         ensures { IsTrue result ↔ CanBeCarried self.now }
     {
@@ -283,7 +281,6 @@ impl Incarnation {
         })
     }
 
-    /// The member in that state.
     pub(crate) fn restored(alloc: Global, state: MemberState) -> Result<Incarnation, AllocError>
         requires { IsMember (member_in state) }
         ensures { IfOk result (λ m. m ≡ member_in state) }
@@ -333,7 +330,6 @@ impl Incarnation {
     }
 }
 
-/// Whether a freeing slot has come at `slot`.
 pub(crate) fn has_come(freed_at: Option<u64>, slot: u64) -> bool
     ensures { result ≡ is_freed slot freed_at }
 {

@@ -119,7 +119,6 @@ impl Ledger {
         self.first_freeing = first;
     }
 
-    /// Decides the announcements one by one.
     pub(crate) fn decide_all(
         &mut self,
         slot: u64,
@@ -194,7 +193,6 @@ impl Ledger {
         Ok(decision)
     }
 
-    /// Adds a member in that state behind the others.
     pub(crate) fn add(&mut self, state: MemberState) -> Result<(), AllocError>
         requires member { IsMember (member_in state) }
         requires room { (counts : Member → Bool) × CanJoin counts self.old (member_in state) }
@@ -293,7 +291,6 @@ fn claim_of(weight: Weight, frame: u64) -> u64
     weight.cost() * (frame / weight.period())
 }
 
-// Returns the earlier of two slots, if there are any.
 fn earlier(left: Option<u64>, right: Option<u64>) -> Option<u64>
     ensures { result ≡ earlier_of left right }
 {

@@ -85,7 +85,6 @@ fn is_summed_up(delays: &[Delay], next: u64) -> bool
     }
 }
 
-// Whether all delays are of subtask `next` or later ones.
 fn are_to_come(delays: &[Delay], next: u64) -> bool
     ensures { result ≡ list_all (λ d. nat_le next d.index) delays.now }
 {

@@ -41,7 +41,6 @@ impl Calendar {
         }
     }
 
-    /// Notes a date.
     pub(crate) fn note(&mut self, alloc: Global, date: Date) -> Result<(), AllocError>
         ensures keeps { Keeps self.old self.new }
         ensures there { OnOk result (IsNoted self.new date) }

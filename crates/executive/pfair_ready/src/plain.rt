@@ -86,7 +86,6 @@ impl Ready for PlainReady {
     }
 }
 
-// The release and the key that wait under this name.
 fn find_name(waiting: &[PlainEntry], name: TaskName) -> Option<(u64, Key)>
     ensures { result ≡ first_named name waiting.now }
 {
@@ -96,7 +95,6 @@ fn find_name(waiting: &[PlainEntry], name: TaskName) -> Option<(u64, Key)>
         .map(|w| (w.release, w.key))
 }
 
-// The keys that are released by the slot, in the order of the list.
 fn released_keys(alloc: Global, waiting: &[PlainEntry], slot: u64) -> Result<Vec<Key>, AllocError>
     ensures { IfOk result (λ keys. keys.items ≡
         map (λ w. w.key) (filter (λ w. nat_le w.release slot) waiting.now)) }
@@ -108,7 +106,6 @@ fn released_keys(alloc: Global, waiting: &[PlainEntry], slot: u64) -> Result<Vec
         .collect(alloc)
 }
 
-// The m least keys, in order.
 fn least_keys(alloc: Global, keys: &[Key], m: usize) -> Result<Vec<Key>, AllocError>
     ensures { IfOk result (λ least. IsKLeast (by_cmp pd2_cmp) m keys.now least.items) }
 {
@@ -116,7 +113,6 @@ fn least_keys(alloc: Global, keys: &[Key], m: usize) -> Result<Vec<Key>, AllocEr
     least.collect(alloc)
 }
 
-// Whether a key has this name.
 fn has_name(keys: &[Key], name: TaskName) -> bool
     ensures { result ≡ list_any (λ k. name_eq name k.name) keys.now }
 {

@@ -96,7 +96,6 @@ impl Waiting {
         }
     }
 
-    /// Returns the release and the key under a name.
     pub(crate) fn get(&self, name: &TaskName) -> Option<(u64, Key)>
         ensures { result ≡ finmap.get self.now name.now }
     {
@@ -222,7 +221,6 @@ fn fill(entries: &mut Entries, index: usize, member: usize, release: u64, key: &
     true
 }
 
-// Where the name of a turn stands.
 fn find_turn(entries: &Entries, turn: &Turn) -> Option<usize>
     requires { IsNumber turn.now.name.0 }
     ensures some { IfSome result (IsEntryOf entries.now.entries (name_of turn.now.name.0)) }

@@ -41,7 +41,6 @@ pub fn windows<W: Write>(
     Ok(send(writer, text.as_slice())?)
 }
 
-// The text of the table.
 fn windows_table(alloc: Global, weight: Weight, count: u64) -> Result<Vec<u8>, AllocError>
     requires { count ≤ Entry.LAST_INDEX }
     ensures { IfOk result (λ text. text.items ≡ windows_text weight count) }

@@ -68,7 +68,6 @@ pub(crate) fn with<'a>(
     program.subcommand(command?)
 }
 
-/// A command without its arguments.
 pub(crate) fn command<'a>(alloc: Global, name: &'a str, texts: Texts) -> Command<'a>
     ensures { line.IsRead (new_app name.now) result }
 {
@@ -93,7 +92,6 @@ pub(crate) fn over_file<'a>(
     command(alloc, name, texts).arg(file)
 }
 
-/// A flag of this name.
 pub(crate) fn flag<'a>(alloc: Global, name: &'a str, help: &'a str) -> Arg<'a>
     ensures rule { rule_of result ≡ line.flag name.now }
     ensures here { result.global ≡ false }
@@ -170,7 +168,6 @@ pub(crate) fn number(words: &ArgMatches<'_>, name: &str) -> Result<u64, ProgramF
     words.get_one::<u64>(name).ok_or(ProgramFault::CommandLine)
 }
 
-/// Whether a flag is set.
 pub(crate) fn is_set(words: &ArgMatches<'_>, name: &str) -> bool
     ensures { IsFlag (one_of name.now (rows_of (found_of words.now))) result }
 {

@@ -156,7 +156,6 @@ fn read_start(alloc: Global, words: &ArgMatches<'_>) -> Result<Start, ProgramFau
     }
 }
 
-// The settings that the options tell.
 fn read_settings(words: &ArgMatches<'_>) -> Result<Settings, ProgramFault>
     ensures { MatchResult result (AskSettings (rows_of (found_of words.now)))
         (λ e. (e ≡ CommandLine) × AsksNoSettings (rows_of (found_of words.now))) }

@@ -48,7 +48,6 @@ fn read_notice<'a>(fields: &Fields<'a>) -> Option<Option<Notice<'a>>>
     }))
 }
 
-// Whether nothing stands in the fields of an announcement beside the kind.
 fn are_dashes(fields: &Fields<'_>) -> bool
     ensures { IsTrue result ↔ AreDashes fields.now }
 {
@@ -109,7 +108,6 @@ pub(crate) struct Fields<'a> {
     pub(crate) by: &'a [u8],
 }
 
-// The fields of a row that has eleven.
 fn cut_fields(row: &[u8]) -> Option<Fields<'_>>
     ensures { MatchOption result (length (parts row.now) ≢ 11) (λ fields. HasNoComma fields.name.now × (parts row.now ≡ texts fields)) }
 {

@@ -51,7 +51,6 @@ fn parse(alloc: Global, bytes: &[u8]) -> Result<Table, FileFault>
     }
 }
 
-// The logs of a file's entries, each closed.
 fn read_logs(
     alloc: Global,
     table: &Table,

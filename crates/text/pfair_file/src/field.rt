@@ -82,7 +82,6 @@ pub fn find(table: &Table, field: Field) -> Option<&Value>
     table.get(field.key())
 }
 
-// The value at a key that has to be there.
 fn value(table: &Table, place: u64, field: Field) -> Result<&Value, FileFault>
     ensures { result_map_both (λ v. view v.now) (λ e. e) result ≡ value_at (table_view table.now) place field }
 {
@@ -107,7 +106,6 @@ pub fn text(table: &Table, place: u64, field: Field) -> Result<&str, FileFault>
         .ok_or(FileFault::WrongKind { place, field })
 }
 
-// Returns an integer that isn't negative, or the fault.
 fn not_negative(value: i64, fault: FileFault) -> Result<u64, FileFault>
     ensures { result ≡ natural fault value }
 {

@@ -39,7 +39,6 @@ fn add_entry(
     append(&mut logs[processor as usize], processor as u8, entry)
 }
 
-// Whether each value is a table.
 fn are_tables(items: &[Value]) -> bool
     ensures { result ≡ list_all (λ v. is_some (as_table (view v))) items.now }
 {

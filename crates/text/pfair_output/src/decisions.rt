@@ -87,7 +87,6 @@ pub(crate) fn add_decisions(
     Ok(())
 }
 
-// The word for what was decided.
 fn outcome(decision: Decision) -> &'static str
     ensures word { result.now ≡ outcome_of decision }
     ensures plain { IsTrue (is_plain result.now) }

@@ -82,7 +82,6 @@ pub fn book_slots<R: Ready>(
     Ok(())
 }
 
-// Records a planned slot of a dispatcher in the book.
 fn book_planned<R: Ready>(
     book: &mut LagBook,
     dispatcher: &Dispatcher<R>,

@@ -133,7 +133,6 @@ pub fn add_placed_tables_from<R: Ready>(
     Ok(())
 }
 
-// The places of a slot, if it has some.
 fn slot_places(places: &[Vec<u8>], slot: usize) -> &[u8]
     ensures { result.now ≡ places_at (map (λ p. p.items) places.now) slot }
 {
@@ -161,14 +160,12 @@ fn add_table(
     Ok(())
 }
 
-// The place of a table's row, if it has one.
 fn row_place(places: &[u8], row: usize) -> Option<u8>
     ensures { result ≡ slice_get places.now row }
 {
     places.get(row).copied()
 }
 
-// Adds the row of one quantum.
 fn add_pick(
     writer: &mut Writer<Vec<u8>>,
     slot: u64,

@@ -140,7 +140,6 @@ fn delays_behind(
     Ok(delays)
 }
 
-// What a member that isn't restored makes of the text.
 fn not_restored(at: usize, why: RestoreFault) -> ReadFault
     ensures { why ≡ OutOfMemory → result ≡ Memory }
 {

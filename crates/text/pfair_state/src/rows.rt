@@ -43,7 +43,6 @@ pub(crate) fn read_rows(alloc: Global, text: &[u8]) -> Result<Vec<Row>, ReadFaul
     }
 }
 
-/// The row at a place, if there is one.
 pub(crate) fn row_at(rows: &[Row], at: usize) -> Option<Row>
     ensures { result ≡ slice_get rows.now at }
 {
@@ -137,7 +136,6 @@ fn read_member(fields: &[u8]) -> Option<MemberRow>
     })
 }
 
-// A slot, or none if the field is a dash.
 fn read_slot(field: &[u8]) -> Option<Option<u64>>
     ensures { (slot : Option ℕ) → IfSome slot (λ t. t < 2 ^ 64) → field.now ≡ slot_field slot → result ≡ Some slot }
 {

@@ -102,7 +102,6 @@ fn add_member(writer: &mut Writer<Vec<u8>>, member: &Incarnation) -> Result<(), 
     Ok(())
 }
 
-// A slot, or a dash.
 fn slot_field(slot: Option<u64>, buffer: &mut Buffer) -> &str
     ensures value { result.now ≡ slot_field slot }
     ensures fits { IfSome slot (λ t. t < 2 ^ 64) }

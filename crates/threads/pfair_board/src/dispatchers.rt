@@ -176,7 +176,6 @@ fn first_fault<K>(works: &[Worked<K>], whole: &Replica, slots: u64) -> Option<Ru
     None
 }
 
-// Whether some worker ends in this fault.
 fn some_ends_in<K>(works: &[Worked<K>], fault: RunFault) -> bool
     ensures { IsTrue result ↔ SomeEndsIn works.now fault }
 {

@@ -126,7 +126,6 @@ fn workplaces<R, K: Sink>(
     Ok(all)
 }
 
-// What a worker's thread does.
 fn work<R: Ready, G: Gate, K: Sink>(
     rt: &impl Wait,
     alloc: Global,

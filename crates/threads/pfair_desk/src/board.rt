@@ -94,7 +94,6 @@ impl Board {
         Ok(desks)
     }
 
-    /// The cell at a place of the list of all cells.
     pub(crate) fn cell(&self, place: usize) -> &OnceBox<Entry>
         requires { place < length self.now.cells }
         ensures { slice_get self.now.cells place ≡ Some (cell_name result.now) }
@@ -131,7 +130,6 @@ impl Notes {
         Ok(Notes { notes })
     }
 
-    /// Reads a cell.
     pub(crate) fn read(&mut self, cell: &OnceBox<Entry>, place: usize) -> Option<Entry>
         requires { slice_get self.old.cells place ≡ Some (cell_name cell.now) }
         ensures none { result ≡ None → (slice_index_or self.old.known place None ≡ None) × (self.new ≡ self.old) }
