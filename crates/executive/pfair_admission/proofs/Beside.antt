@@ -1,9 +1,8 @@
 -- The members of a next run beside those of the long run.
 use Rattle.std.proofs.Common.{inl, inr, pos, ◌-ℤ◌, nat_le, nat_lt, ◌&&◌, is_some}
-use Rattle.pfair_admission.proofs.Common.{common_steps, AllByRecursion, filter, find, option_map, cases_lt, nat_tests, map-append, sum_by-cons, NamesApart, Share, IsWeight, Announcement, Arrive, Depart, Late, Decision, Admitted, Departing, Delayed, Refused, Delay, Member, is_departing, eligible_from, next_key, lag_at, Machine, is_named, member_named, claimed, arrival, departure, late_release, decision, newcomer, with_freeing, with_delay, with_quantum, change, effect, is_freed, present, decided, all_decided, all_decisions, announcements, subtasks_of, taken_off, raised, all_raised, ◌≡◌, ℕ, ◌+◌, ◌-◌, ◌*◌, ◌≤◌, Bool, true, false, List, [], ◌∷◌, ◌++◌, map, Option, Some, None, refl, sym, ap, ◌∙◌, arith, not, if◌then◌else◌, list_any-append, or-true, apart_head, apart_tail, Said}
+use Rattle.pfair_admission.proofs.Common.{common_steps, AllByRecursion, filter, find, option_map, cases_lt, nat_tests, map-append, sum_by-cons, NamesApart, Share, IsWeight, Announcement, Arrive, Depart, Late, Decision, Admitted, Departing, Delayed, Refused, Delay, Member, is_departing, eligible_from, next_key, lag_at, Machine, is_named, member_named, claimed, arrival, departure, late_release, decision, newcomer, with_freeing, with_delay, with_quantum, change, effect, is_freed, present, decided, all_decided, all_decisions, announcements, subtasks_of, taken_off, raised, all_raised, ◌≡◌, ℕ, ◌+◌, ◌-◌, ◌*◌, ◌≤◌, Bool, true, false, List, [], ◌∷◌, ◌++◌, map, Option, Some, None, refl, sym, ap, ◌∙◌, arith, not, if◌then◌else◌, list_any-append, or-true, apart_head, apart_tail, Said, mul-add, mul_assoc, mul_comm}
 use Rattle.std.proofs.lemmas.Int.{ints}
 use Rattle.std.proofs.lemmas.Simd.{map-map}
-use Rattle.std.proofs.Math.Nat.{mul-add, mul_assoc, mul_comm}
 use Rattle.pfair_order.specs.declared.Key.{Key}
 use Rattle.pfair_order.proofs.KeyLaws.{filter_mapped}
 use Rattle.pfair_entry.specs.Entry.{name_exact, name_eq, IsWeighed}

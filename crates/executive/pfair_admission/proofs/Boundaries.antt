@@ -1,14 +1,10 @@
 -- What boundaries and quanta do to members, and what they keep.
-use Rattle.pfair_admission.proofs.Common.{AllByRecursion, Share, Announcement, Arrive, Depart, Late, Decision, Admitted, Departing, Delayed, Member, Machine, all_decided, boundary, change, decided, decision, effect, is_named, newcomer, present, with_delay, with_freeing, ◌≡◌, ℕ, Bool, true, false, List, [], ◌∷◌, ◌++◌, arith, if◌then◌else◌, MAX_OFFSET, common_steps, all_by_recursion_push, take_more, sum_by_push, Delay, LONGEST_DELAY, LAST_SLOT, MAX_HEARD, last_offset, with_quantum, is_freed, all_decisions, announcements, ran, after_boundary, EachBounded, EachHasRoom, IsCutShort, Roster, after_all, Membership, ◌+◌, ◌-◌, ◌*◌, ◌<◌, ◌≤◌, length, take, get_or, Some, Result, Ok, Err, OnOk, OnErr, refl, sym, ap, subst, ◌∙◌, not, Said, filter, nat_tests, append-nil, Refused, theta, freeing_slot, is_delayed_at, eligible_from, arrival, boundary_decisions, carried, NoneFreed, suc, ◌%◌, cond, map, or-true, release_of, Refusal, AreInFrame, HaveRoom, NamesApart, member_named, None, nat_list_eq_equiv, apart_push}
+use Rattle.pfair_admission.proofs.Common.{AllByRecursion, Share, Announcement, Arrive, Depart, Late, Decision, Admitted, Departing, Delayed, Member, Machine, all_decided, boundary, change, decided, decision, effect, is_named, newcomer, present, with_delay, with_freeing, ◌≡◌, ℕ, Bool, true, false, List, [], ◌∷◌, ◌++◌, arith, if◌then◌else◌, MAX_OFFSET, common_steps, all_by_recursion_push, take_more, sum_by_push, Delay, LONGEST_DELAY, LAST_SLOT, MAX_HEARD, last_offset, with_quantum, is_freed, all_decisions, announcements, ran, after_boundary, EachBounded, EachHasRoom, IsCutShort, Roster, after_all, Membership, ◌+◌, ◌-◌, ◌*◌, ◌<◌, ◌≤◌, length, take, get_or, Some, Result, Ok, Err, OnOk, OnErr, refl, sym, ap, subst, ◌∙◌, not, Said, filter, nat_tests, append-nil, Refused, theta, freeing_slot, is_delayed_at, eligible_from, arrival, boundary_decisions, carried, NoneFreed, suc, ◌%◌, cond, map, or-true, release_of, Refusal, AreInFrame, HaveRoom, NamesApart, member_named, None, nat_list_eq_equiv, apart_push, all_pairs_push, starts_job_of, JoinedInOrder, apart_filter, apart_map}
 use Rattle.pfair_admission.proofs.MemberLists.{each_map, each, each_at, each_filter, claimed_carried, present_all, claimed_change, claimed_present, none_freed_present}
 use Rattle.pfair_entry.specs.Entry.{IsWithinLimits, name_eq}
 use Rattle.std.proofs.Common.{◌||◌}
 use Rattle.std.proofs.lemmas.List.Kept.{AllPairs-filter}
-use Rattle.std.proofs.lemmas.List.Quantifiers.{all_pairs_push}
-use Rattle.pfair_weight.specs.Window.{starts_job_of}
-use Rattle.pfair_admission.specs.Laws.{JoinedInOrder}
 use Rattle.pfair_admission.proofs.Deciding.{admitted_room, claimed_arrived, admitted_new}
-use Rattle.pfair_weight.proofs.NamesApart.{apart_filter, apart_map}
 
 -- An announcement does nothing, or one of three things; and a boundary lets members go, and decides announcements.
 

@@ -1,10 +1,7 @@
 -- The delays of a member that is carried.
 use Rattle.std.proofs.Common.{nat_le, nat_lt, ◌==◌}
-use Rattle.pfair_admission.proofs.Common.{common_steps, sum_by, filter, list_any, nat_tests, filter-append, sum_by-cons, sum_by-append, Delay, Member, last_offset, jobs_done, passed_delays, coming_delays, as_one, lowered, delays_from, carried, ◌≡◌, ℕ, ◌+◌, ◌*◌, ◌≤◌, Bool, true, false, cond, List, [], ◌∷◌, map, refl, arith, list_any-append, cases_lt, append-nil, LAST_INDEX, subtasks_done, CanBeCarried, ◌-◌, ◌<◌, div-eq_of_lt, LAST_SLOT, carried_delays, IsWeight, theta, busy_until, freeing_slot, is_delayed_at, eligible_from, next_key, sym, release_of, starts_job_repeats, ◌||◌, unwrap_or, is_some, sum_by_push, Position, MAX_INDEX, MAX_OFFSET, IsMember, with_delay, with_quantum, member_of, own_delay, StandsAtNext, IsIncarnation, zero, suc, ◌++◌, Option, Some, None, ap, nat_cmp, BTreeMap, or-true, Inside}
-use Rattle.std.proofs.Math.Nat.{div-mul-le_self, div-zero}
+use Rattle.pfair_admission.proofs.Common.{common_steps, sum_by, filter, list_any, nat_tests, filter-append, sum_by-cons, sum_by-append, Delay, Member, last_offset, jobs_done, passed_delays, coming_delays, as_one, lowered, delays_from, carried, ◌≡◌, ℕ, ◌+◌, ◌*◌, ◌≤◌, Bool, true, false, cond, List, [], ◌∷◌, map, refl, arith, list_any-append, cases_lt, append-nil, LAST_INDEX, subtasks_done, CanBeCarried, ◌-◌, ◌<◌, div-eq_of_lt, LAST_SLOT, carried_delays, IsWeight, theta, busy_until, freeing_slot, is_delayed_at, eligible_from, next_key, sym, release_of, starts_job_repeats, ◌||◌, unwrap_or, is_some, sum_by_push, Position, MAX_INDEX, MAX_OFFSET, IsMember, with_delay, with_quantum, member_of, own_delay, StandsAtNext, IsIncarnation, zero, suc, ◌++◌, Option, Some, None, ap, nat_cmp, BTreeMap, or-true, Inside, div-mul-le_self, div-zero, deadline_of, b_bit_of, group_deadline_of, by_kind, group_deadline_light, group_deadline_whole, group_deadline_heavy, release_repeats, deadline_repeats, b_bit_repeats, group_deadline_repeats, starts_after_jobs}
 use Rattle.std.proofs.lemmas.Nat.{div-add-mod'}
-use Rattle.pfair_weight.specs.Window.{deadline_of, b_bit_of, group_deadline_of}
-use Rattle.pfair_weight.specs.WindowFacts.{by_kind, group_deadline_light, group_deadline_whole, group_deadline_heavy, release_repeats, deadline_repeats, b_bit_repeats, group_deadline_repeats, starts_after_jobs}
 use Rattle.pfair_admission.proofs.Boundaries.{freed_never_ran, theta_later, theta_earlier, frame_boundary, frame_carried, frame_ran, one_each, order_boundary, refused_stays, room_boundary, room_carried, room_ran, apart_boundary, apart_ran}
 use Rattle.std.specs.Global.{Vec}
 use Rattle.pfair_admission.proofs.MemberLists.{sum_filter}

@@ -1,10 +1,7 @@
 -- A member that is written at its place, and what is left when an announcement is decided.
 use Rattle.std.proofs.Common.{filter, is_some}
-use Rattle.pfair_admission.proofs.Common.{map, values_of, sum_by-cons, same_Some, none-some, set_value_at, units_of, Member, change, claimed, is_named, member_named, IsNotBefore, NoneFreedBefore, IsOnly, IsPlace, Numbered, ◌≡◌, ℕ, zero, suc, ◌+◌, ◌<◌, Bool, true, false, cond, List, [], ◌∷◌, length, Option, IfSome, Some, None, refl, sym, ap, subst, ◌∙◌, arith, slice_get, option_map, Depart, Late, Decision, effect, present, running, ran, quantum_of, seatless, Roster, is_there, Result, IfOk, OnErr, if◌then◌else◌, Refused, Announcement, decision, filter-append, sum_by_push, cases_lt, nat_tests, Share, MAX_OFFSET, Arrive, Admitted, LONGEST_DELAY, MAX_PROCESSORS, MAX_FRAME, last_offset, Machine, arrival, late_release, newcomer, decided, NoneFreed, EachHasRoom, IsDecided, Membership, ◌*◌, ◌≤◌, ◌++◌, Ok, Err, OnOk}
+use Rattle.pfair_admission.proofs.Common.{map, values_of, sum_by-cons, same_Some, none-some, set_value_at, units_of, Member, change, claimed, is_named, member_named, IsNotBefore, NoneFreedBefore, IsOnly, IsPlace, Numbered, ◌≡◌, ℕ, zero, suc, ◌+◌, ◌<◌, Bool, true, false, cond, List, [], ◌∷◌, length, Option, IfSome, Some, None, refl, sym, ap, subst, ◌∙◌, arith, slice_get, option_map, Depart, Late, Decision, effect, present, running, ran, quantum_of, seatless, Roster, is_there, Result, IfOk, OnErr, if◌then◌else◌, Refused, Announcement, decision, filter-append, sum_by_push, cases_lt, nat_tests, Share, MAX_OFFSET, Arrive, Admitted, LONGEST_DELAY, MAX_PROCESSORS, MAX_FRAME, last_offset, Machine, arrival, late_release, newcomer, decided, NoneFreed, EachHasRoom, IsDecided, Membership, ◌*◌, ◌≤◌, ◌++◌, Ok, Err, OnOk, after_departure, after_late_release, after_quantum, NoSuchTask, nothing}
 use Rattle.pfair_admission.specs.declared.members.Quantum.{Quantum}
-use Rattle.pfair_admission.specs.Admission.{after_departure, after_late_release, after_quantum}
-use Rattle.pfair_admission.specs.declared.decision.Refusal.TheVariants.{NoSuchTask}
-use Rattle.pfair_weight.specs.Window.{nothing}
 use Rattle.pfair_admission.proofs.MemberLists.{present_all}
 
 -- A member that is written at its place.

@@ -1,10 +1,7 @@
 -- The numbers of members and the names that lead to them, and what the ledger keeps of them.
 use Rattle.std.proofs.Common.{filter, is_some, position, ◌^◌}
-use Rattle.pfair_admission.specs.Ledger.{roster_of}
 use Rattle.pfair_admission.specs.declared.members.Members.TheInside.{Inside}
-use Rattle.pfair_admission.proofs.Common.{Roster, AllByRecursion, IsDistinct, keys_of, values_of, lookup, all_by_recursion_push, nat_tests, same_Some, none-some, slice_get-get_or, insert_entry, set_value_at, NameValue, name_eq, Member, is_named, member_named, NoneFreed, has_number, is_there, IsFound, IsNamedIn, IsNumberOf, IsOnly, IsRegister, Numbered, ◌≡◌, ℕ, zero, suc, ◌+◌, ◌<◌, Bool, true, false, cond, List, [], ◌∷◌, ◌++◌, Option, IfSome, Some, None, refl, sym, ap, subst, ◌∙◌, arith, nat_eq, not, slice_get, whole, CanJoin, common_steps, sum_by_push, with_value_at, filter-append, units_of, Admitted, arrival, claimed, earlier_of, IsNotBefore, NoneFreedBefore, listed, IsLedger, IsUnswept, Ledger, Membership, length-append, map-append, LONGEST_DELAY, LAST_SLOT, last_offset, carried, CanBeCarried, EachBounded, ◌*◌, ◌≤◌, length, map, take}
-use Rattle.std.specs.Cmp.Lexicographic.{bytes_decides}
-use Rattle.std.proofs.lemmas.List.Quantifiers.{position-Some}
+use Rattle.pfair_admission.proofs.Common.{Roster, AllByRecursion, IsDistinct, keys_of, values_of, lookup, all_by_recursion_push, nat_tests, same_Some, none-some, slice_get-get_or, insert_entry, set_value_at, NameValue, name_eq, Member, is_named, member_named, NoneFreed, has_number, is_there, IsFound, IsNamedIn, IsNumberOf, IsOnly, IsRegister, Numbered, ◌≡◌, ℕ, zero, suc, ◌+◌, ◌<◌, Bool, true, false, cond, List, [], ◌∷◌, ◌++◌, Option, IfSome, Some, None, refl, sym, ap, subst, ◌∙◌, arith, nat_eq, not, slice_get, whole, CanJoin, common_steps, sum_by_push, with_value_at, filter-append, units_of, Admitted, arrival, claimed, earlier_of, IsNotBefore, NoneFreedBefore, listed, IsLedger, IsUnswept, Ledger, Membership, length-append, map-append, LONGEST_DELAY, LAST_SLOT, last_offset, carried, CanBeCarried, EachBounded, ◌*◌, ◌≤◌, length, map, take, roster_of, bytes_decides, position-Some}
 use Rattle.pfair_admission.proofs.MemberLists.{each, each_kept, both, claimed_present, first_earlier, not_before_own, present_all, claimed_carried, claimed_part, take_one, each_map}
 use Rattle.pfair_admission.proofs.Deciding.{IsLike, admitted_new, admitted_room, claimed_written, filter_all, first_at, first_written, values_written, others_named}
 use Rattle.pfair_order.proofs.RankLemmas.{at_each}

@@ -1,9 +1,6 @@
 -- The accounts of a book, and the book that they show.
-use Rattle.std.proofs.Common.{◌^◌, ◌||◌, position, ◌&&◌, count_by}
-use Rattle.pfair_lag.proofs.Common.{option_map, Share, Tally, Book, tally_of, entered_after, left, slot_more, recorded, tally_shown, entered_shown, IsSound, IsKept, EachFits, counted_at, with_quantum, with_quanta, ◌≡◌, ℕ, zero, suc, ◌+◌, ◌-◌, ◌*◌, ◌<◌, ◌≤◌, Bool, true, false, cond, not, List, [], ◌∷◌, ◌++◌, map, length, take, get_or, Option, Some, None, refl, sym, ap, subst, ◌∙◌, arith, slice_get, filter, is_some, lookup, bytes_decides, mul-le, nothing, START, Account, NameValue, name_eq, has_run}
+use Rattle.pfair_lag.proofs.Common.{option_map, Share, Tally, Book, tally_of, entered_after, left, slot_more, recorded, tally_shown, entered_shown, IsSound, IsKept, EachFits, counted_at, with_quantum, with_quanta, ◌≡◌, ℕ, zero, suc, ◌+◌, ◌-◌, ◌*◌, ◌<◌, ◌≤◌, Bool, true, false, cond, not, List, [], ◌∷◌, ◌++◌, map, length, take, get_or, Option, Some, None, refl, sym, ap, subst, ◌∙◌, arith, slice_get, filter, is_some, lookup, bytes_decides, mul-le, nothing, START, Account, NameValue, name_eq, has_run, ◌^◌, ◌||◌, position, ◌&&◌, count_by, keys_of, values_of, remove_entry, nat_list_eq_equiv, NamesApart, name_at, sum_by-cons, Enter, Leave, Record, Stay, slot_passed, tally_in, CountsSinceEntering}
 use Rattle.std.specs.List.{AllByRecursion, IsDistinct}
-use Rattle.std.specs.Map.{keys_of, values_of, remove_entry}
-use Rattle.std.specs.Cmp.Lexicographic.{nat_list_eq_equiv}
 use Rattle.std.proofs.lemmas.Bool.Decides.{nat_tests}
 use Rattle.std.proofs.lemmas.List.{take_more, map_push}
 use Rattle.std.proofs.lemmas.List.Folds.{list_any-append}
@@ -12,9 +9,6 @@ use Rattle.std.proofs.SliceLists.{all_by_recursion_push}
 use Rattle.indexmap.specs.IndexMap.{set_value_at}
 use Rattle.pfair_weight.specs.declared.window.TheConstants.{MAX_INDEX}
 use Rattle.pfair_lag.specs.declared.TheConstants.{MAX_HORIZON}
-use Rattle.pfair_weight.specs.Name.{NamesApart, name_at}
-use Rattle.std.proofs.lemmas.List.Sums.{sum_by-cons}
-use Rattle.pfair_lag.specs.Book.{Enter, Leave, Record, Stay, slot_passed, tally_in, CountsSinceEntering}
 
 abbrev pub Accounts : Type 0
 Accounts = List (NameValue × Account)

@@ -1,13 +1,11 @@
 -- Rising lists, and how many of their numbers lie below a time.
 use Rattle.std.proofs.Common.{ltb, IsTrue, ◌↔◌, MatchOption}
-use Rattle.pfair_lag.proofs.Common.{cases_lt, common_steps, ArePicks, Rises, quanta_before, ◌≡◌, ℕ, zero, suc, ◌+◌, ◌-◌, ◌<◌, ◌≤◌, List, [], ◌∷◌, length, get_or, arith, inl, inr, Share, IsWeight, deadline_of, InWindows, KeepsReleases, MeetsDeadlines, pick_of, LagWithin, LagBelowOne, LagAboveMinusOne, ◌*◌, mul-le, release_of, Bool, true, false, Option, Some, None, refl, sym, ap, subst, ◌∙◌, is_some, not}
-use Rattle.std.proofs.lemmas.List.Sums.{count_by-le-length}
+use Rattle.pfair_lag.proofs.Common.{cases_lt, common_steps, ArePicks, Rises, quanta_before, ◌≡◌, ℕ, zero, suc, ◌+◌, ◌-◌, ◌<◌, ◌≤◌, List, [], ◌∷◌, length, get_or, arith, inl, inr, Share, IsWeight, deadline_of, InWindows, KeepsReleases, MeetsDeadlines, pick_of, LagWithin, LagBelowOne, LagAboveMinusOne, ◌*◌, mul-le, release_of, Bool, true, false, Option, Some, None, refl, sym, ap, subst, ◌∙◌, is_some, not, count_by-le-length, miss_index, IsMiss, IsFirstMiss, IsLate, IsFirstLate, OneFirstMiss, OneFirstLate, MissesAreOut, LateMissDeadlines}
 use Rattle.std.proofs.lemmas.Int.{ints}
 use Rattle.std.proofs.Math.Nat.{le_refl}
 use Rattle.pfair_weight.specs.WindowFacts.{of_released, before_deadline, of_before_deadline, deadline_rises, window_not_empty}
 use Rattle.pfair_lag.specs.declared.windows.Miss.{Miss}
 use Rattle.pfair_lag.specs.declared.windows.Miss.TheVariants.{Early, Tardy, Unserved}
-use Rattle.pfair_lag.specs.Lag.{miss_index, IsMiss, IsFirstMiss, IsLate, IsFirstLate, OneFirstMiss, OneFirstLate, MissesAreOut, LateMissDeadlines}
 
 rises_to : (xs : List ℕ) (h : ℕ) → ArePicks xs h → (j k : ℕ) → j < k → k < length xs → get_or xs j 0 < get_or xs k 0
 rises_to xs h p j zero below inside = absurd (omega arith)

@@ -1,14 +1,8 @@
 -- The turns of a heap, the calendar that fills it, and what both hold of what waits.
-use Rattle.std.proofs.Common.{nat_eq, slice_set}
-use Rattle.pfair_ready.proofs.Common.{IsPermutation, Key, Less, Equal, Greater, NameValue, PopsGreatest, is_due, is_turn_of, name_cmp, nat_cmp, ordering_then, pd2_cmp, AreTurns, HasTurn, KeepsTurns, Turn, turn_cmp, turn_of, ◌≡◌, ℕ, ◌≤◌, true, ◌&&◌, List, ◌∷◌, refl, ◌∙◌, arith, Some, Ordering, All-permutation, IsTaskName, IsNumber, name_of, is_number, name_back, Contains-append_right, same_Some, place_of, at_place, common_steps, ◌<◌, ◌⊎◌, [], length, Option, Contains, IfNone, IfSome, slice_get, slice_index_or, IsHeap, Reverse, Date, later_cmp, Moves, cases_order, leb-true, leb-false, slice_get_past, slice_get-get_or, Calendar, in_bucket, under, IsAmong, IsNear, IsNoted, Keeps, KeepsHeap, heap_items, zero, suc, ◌+◌, inl, inr, Vec, Global, sym, ap, subst, ◌%◌, is_eq, eq_by_cmp, Equal-is, tied_itself, get-empty, get-insert, get-remove, same_map, none-some, Queue, IsCovered, Bool, false, cond, None}
+use Rattle.pfair_ready.proofs.Common.{IsPermutation, Key, Less, Equal, Greater, NameValue, PopsGreatest, is_due, is_turn_of, name_cmp, nat_cmp, ordering_then, pd2_cmp, AreTurns, HasTurn, KeepsTurns, Turn, turn_cmp, turn_of, ◌≡◌, ℕ, ◌≤◌, true, ◌&&◌, List, ◌∷◌, refl, ◌∙◌, arith, Some, Ordering, All-permutation, IsTaskName, IsNumber, name_of, is_number, name_back, Contains-append_right, same_Some, place_of, at_place, common_steps, ◌<◌, ◌⊎◌, [], length, Option, Contains, IfNone, IfSome, slice_get, slice_index_or, IsHeap, Reverse, Date, later_cmp, Moves, cases_order, leb-true, leb-false, slice_get_past, slice_get-get_or, Calendar, in_bucket, under, IsAmong, IsNear, IsNoted, Keeps, KeepsHeap, heap_items, zero, suc, ◌+◌, inl, inr, Vec, Global, sym, ap, subst, ◌%◌, is_eq, eq_by_cmp, Equal-is, tied_itself, get-empty, get-insert, get-remove, same_map, none-some, Queue, IsCovered, Bool, false, cond, None, nat_eq, slice_set, All-tail, number_of, numbers_order, Contains-permutation, nothing}
 use Rattle.std.proofs.lemmas.Bool.Decides.{nat_tests}
-use Rattle.std.proofs.lemmas.List.Elements.{All-tail}
-use Rattle.pfair_weight.specs.Name.{number_of}
-use Rattle.pfair_weight.proofs.ByteOrder.{numbers_order}
 use Rattle.pfair_ready.proofs.Names.{names_exact, names_total}
-use Rattle.std.proofs.lemmas.List.Sorted.{Contains-permutation}
 use Rattle.std.proofs.Math.Nat.{div-add-mod}
-use Rattle.pfair_weight.specs.Window.{nothing}
 use Rattle.std.specs.FinMap as finmap
 
 -- The turns of a heap, and their order.

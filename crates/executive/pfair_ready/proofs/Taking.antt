@@ -1,13 +1,9 @@
 -- How far a selection has come over the turns, and its steps.
-use Rattle.std.proofs.Common.{◌||◌, T, length-append}
-use Rattle.pfair_ready.proofs.Common.{AllByRecursion, filter, list_any, Less, Equal, is_lt, is_eq, eq_by_cmp, ordering_reverse, tied_itself, Equal-is, find, is_sorted, put, get-entries, entries-insert, entries_sorted, get-insert, get-remove, get-retain_keys, same_map, IsPermutation, leb-true, Key, NameValue, name_cmp, name_eq, Queue, released, without, ◌≡◌, ℕ, ◌≤◌, Bool, true, false, cond, not, List, [], ◌∷◌, ◌++◌, map, refl, sym, ap, subst, ◌∙◌, Option, Some, None, arith, nat_le, ◌&&◌, Ordering, map_push, All-contains, true≢false, and_parts, pd2_cmp, first_by_rank, keys_total, keys_exact, IsSplit, less_of, split_more, Calendar, Date, HasTurn, IsCovered, IsNoted, IsKeyIn, All-from_recursion, PopsGreatest, Turn, is_due, is_turn_of, turn_cmp, turn_of, ◌+◌, ◌<◌, inl, inr, length, min, Contains, by_rank_of_split, IsTaskName, name_of, name_back}
+use Rattle.pfair_ready.proofs.Common.{AllByRecursion, filter, list_any, Less, Equal, is_lt, is_eq, eq_by_cmp, ordering_reverse, tied_itself, Equal-is, find, is_sorted, put, get-entries, entries-insert, entries_sorted, get-insert, get-remove, get-retain_keys, same_map, IsPermutation, leb-true, Key, NameValue, name_cmp, name_eq, Queue, released, without, ◌≡◌, ℕ, ◌≤◌, Bool, true, false, cond, not, List, [], ◌∷◌, ◌++◌, map, refl, sym, ap, subst, ◌∙◌, Option, Some, None, arith, nat_le, ◌&&◌, Ordering, map_push, All-contains, true≢false, and_parts, pd2_cmp, first_by_rank, keys_total, keys_exact, IsSplit, less_of, split_more, Calendar, Date, HasTurn, IsCovered, IsNoted, IsKeyIn, All-from_recursion, PopsGreatest, Turn, is_due, is_turn_of, turn_cmp, turn_of, ◌+◌, ◌<◌, inl, inr, length, min, Contains, by_rank_of_split, IsTaskName, name_of, name_back, ◌||◌, T, length-append, IsPermutation-sym, length_permutation, each_trivial, all_map}
 use Rattle.std.specs.FinMap.Entries.{below_all}
 use Rattle.std.proofs.lemmas.List.Folds.{list_any-append}
 use Rattle.pfair_ready.proofs.Names.{names_total, names_exact, tied_names}
 use Rattle.pfair_ready.proofs.WaitingLemmas.{chosen, chosen_put}
-use Rattle.std.proofs.lemmas.List.Sorted.{IsPermutation-sym, length_permutation}
-use Rattle.pfair_order.proofs.InOrder.{each_trivial}
-use Rattle.pfair_order.proofs.RankLemmas.{all_map}
 use Rattle.pfair_ready.proofs.CalendarLemmas.{covered_less, covered_popped, still_there, due_of, own_turn, popped_turns, same_order, top_number}
 use Rattle.std.specs.FinMap as finmap
 

@@ -1,18 +1,13 @@
 -- The entries of names, as the map of what waits under them.
-use Rattle.pfair_ready.proofs.Common.{AllByRecursion, filter, Less, Equal, Greater, is_eq, eq_by_cmp_equiv, put, find, entries-insert, get-entries, get-from_entries, get-remove, get-retain_keys, from_entries_push, same_map, IsPermutation, Key, keys_total, IsSplit, split_from_least, split_of_permutation, first_by_rank, pd2_cmp, apart_head, apart_tail, apart_filter, apart_map, bytes_decides, nat_list_eq_equiv, NameValue, name_cmp, name_eq, Queue, released, map-append, nil_from_length, none-some, queue_of, first_named, ◌≡◌, ℕ, Bool, true, false, cond, not, List, [], ◌∷◌, ◌++◌, map, refl, sym, ap, subst, ◌∙◌, Option, Some, None, arith, nat_le, option_map, by_rank_of_split, IsKLeast, by_cmp, PlainEntry, Equal-is, get-insert, same_Some, slice_get-map, HeldKey, Entries, held_under, live, queue_in, with_entry, IsEntryOf, IfSome, slice_get, ◌<◌, zero, suc, length, Entry}
-use Rattle.std.proofs.lemmas.List.Sorted.{IsPermutation-refl, IsPermutation-cons, IsPermutation-trans, IsPermutation-middle}
+use Rattle.pfair_ready.proofs.Common.{AllByRecursion, filter, Less, Equal, Greater, is_eq, eq_by_cmp_equiv, put, find, entries-insert, get-entries, get-from_entries, get-remove, get-retain_keys, from_entries_push, same_map, IsPermutation, Key, keys_total, IsSplit, split_from_least, split_of_permutation, first_by_rank, pd2_cmp, apart_head, apart_tail, apart_filter, apart_map, bytes_decides, nat_list_eq_equiv, NameValue, name_cmp, name_eq, Queue, released, map-append, nil_from_length, none-some, queue_of, first_named, ◌≡◌, ℕ, Bool, true, false, cond, not, List, [], ◌∷◌, ◌++◌, map, refl, sym, ap, subst, ◌∙◌, Option, Some, None, arith, nat_le, option_map, by_rank_of_split, IsKLeast, by_cmp, PlainEntry, Equal-is, get-insert, same_Some, slice_get-map, HeldKey, Entries, held_under, live, queue_in, with_entry, IsEntryOf, IfSome, slice_get, ◌<◌, zero, suc, length, Entry, IsPermutation-refl, IsPermutation-cons, IsPermutation-trans, IsPermutation-middle, once_from_names, NamesApart, get_or, position, keys-with_value_at, updates-with_value_at}
 use Rattle.std.specs.Option.{is_some}
-use Rattle.pfair_order.proofs.InOrder.{once_from_names}
-use Rattle.pfair_weight.specs.Name.{NamesApart}
 use Rattle.pfair_ready.proofs.Names.{names_total, names_exact, same_name, tied_names}
-use Rattle.std.proofs.Common.{get_or, position}
 use Rattle.std.proofs.lemmas.List.Quantifiers.{position-Some}
 use Rattle.std.specs.List.{IsDistinct}
 use Rattle.std.specs.Map.{lookup, keys_of}
 use Rattle.std.specs.BTreeMap.{is_at}
 use Rattle.std.proofs.lemmas.Map.Entries.{hash_map_get_place}
 use Rattle.indexmap.specs.IndexMap.{IndexMap, set_value_at, values, with_value_at, IsUnique}
-use Rattle.indexmap.proofs.CallerLemmas.{keys-with_value_at, updates-with_value_at}
 use Rattle.std.specs.FinMap as finmap
 use Rattle.std.specs.List as list
 

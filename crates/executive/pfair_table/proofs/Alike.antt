@@ -1,10 +1,8 @@
 -- What a dispatcher has planned: its places, the slots of a replica that is handed in, and two dispatchers that agree.
-use Rattle.pfair_table.proofs.Common.{AllByRecursion, Replica, said, numbers_below, apart_nil, Decided, Pick, Settings, Origin, Table, table, places_after, places_from, places_in, table_before, places_before, IsFit, ArePlacesOf, last_or, IsPlanOf, all_among, among_map, IsOrigin, ℕ, zero, suc, ◌-◌, ◌≡◌, refl, sym, ap, ◌∙◌, subst, arith, List, ◌∷◌, ◌++◌, length, map, Some, None, slice_get, [], map-append, ReplicaRows, replica_of, IsReplica, has_torn, frontier, Queue, Roster, is_plannable, decisions, Dispatch, IsInStep, IsKept, IsWholePlan, tables_to, decided_to, min, ◌+◌, ◌≤◌, ◌<◌, Bool, false, IsTrue, Result, Ok, Err, IfErr, IsErrAnd, SlotPlan, Torn, entry_eq, entry_exact, Untorn, Agree, inl, inr, join_second}
+use Rattle.pfair_table.proofs.Common.{AllByRecursion, Replica, said, numbers_below, apart_nil, Decided, Pick, Settings, Origin, Table, table, places_after, places_from, places_in, table_before, places_before, IsFit, ArePlacesOf, last_or, IsPlanOf, all_among, among_map, IsOrigin, ℕ, zero, suc, ◌-◌, ◌≡◌, refl, sym, ap, ◌∙◌, subst, arith, List, ◌∷◌, ◌++◌, length, map, Some, None, slice_get, [], map-append, ReplicaRows, replica_of, IsReplica, has_torn, frontier, Queue, Roster, is_plannable, decisions, Dispatch, IsInStep, IsKept, IsWholePlan, tables_to, decided_to, min, ◌+◌, ◌≤◌, ◌<◌, Bool, false, IsTrue, Result, Ok, Err, IfErr, IsErrAnd, SlotPlan, Torn, entry_eq, entry_exact, Untorn, Agree, inl, inr, join_second, add-one, IsNextPlan, after_plan, OnePlacing}
 use Rattle.pfair_table.proofs.TableLaws.{ordered_from, named_before, label, tables_are_ordered, one_table}
 use Rattle.pfair_table.proofs.Keeping.{tables_listed, plan_now, step_now, kept_next, whole_plan, tables_long, plan_of_held, is_of_held}
 use Rattle.pfair_table.proofs.PlacesKept.{next_places, follow_on, places_follow_tables}
-use Rattle.std.proofs.Common.{add-one}
-use Rattle.pfair_table.specs.Refinement.{IsNextPlan, after_plan, OnePlacing}
 use Rattle.pfair_table.proofs.Runs.{get_numbers, untorn_left, one_schedule}
 
 -- The places of one more table, and those of the tables that a dispatcher plans.

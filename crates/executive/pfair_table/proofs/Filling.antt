@@ -1,12 +1,9 @@
 -- Processors in use as bits, and the rows that take the least ones that are not.
-use Rattle.std.proofs.Common.{w64, replicate}
-use Rattle.pfair_table.proofs.Common.{AllByRecursion, append_assoc, drop_more, eqb-true, eq-eqb, cases_lt, is_used, free_place, all_kept, filled, ℕ, ◌+◌, ◌-◌, ◌*◌, ◌^◌, ◌%◌, ◌<◌, ◌≤◌, ◌≡◌, refl, ap, ◌∙◌, arith, inl, inr, bit_or, Bool, true, false, List, [], ◌∷◌, ◌++◌, length, drop, get_or, subst, Option, Some, None, ◌||◌, if◌then◌else◌, AreInUse, cases_eq, length-set, length-replicate, get_or-set_same, get_or-set_other, name_eq, name_exact, name_itself, Pick, Table, nat_list_eq_equiv, NamesApart, apart_head, apart_tail, place_of, common_steps, zero, suc, sym, ◌≢◌, slice_get, slice_index, set, Name}
+use Rattle.pfair_table.proofs.Common.{AllByRecursion, append_assoc, drop_more, eqb-true, eq-eqb, cases_lt, is_used, free_place, all_kept, filled, ℕ, ◌+◌, ◌-◌, ◌*◌, ◌^◌, ◌%◌, ◌<◌, ◌≤◌, ◌≡◌, refl, ap, ◌∙◌, arith, inl, inr, bit_or, Bool, true, false, List, [], ◌∷◌, ◌++◌, length, drop, get_or, subst, Option, Some, None, ◌||◌, if◌then◌else◌, AreInUse, cases_eq, length-set, length-replicate, get_or-set_same, get_or-set_other, name_eq, name_exact, name_itself, Pick, Table, nat_list_eq_equiv, NamesApart, apart_head, apart_tail, place_of, common_steps, zero, suc, sym, ◌≢◌, slice_get, slice_index, set, Name, w64, replicate, or_lt, bucket, AreBucketsOf}
 use Rattle.std.specs.Int.{bit_at, trailing_ones}
-use Rattle.std.proofs.lemmas.Nat.{or_lt}
 use Rattle.std.proofs.lemmas.Nat.Bits.{bit_at-trailing_ones, bit_at_set_same, bit_at_set_other, bit_at_ones, bit_at-zero}
 use Rattle.pfair_table.proofs.PlacesKept.{pigeons, free_is, count_others}
 use Rattle.pfair_order.proofs.RankLemmas.{at_each}
-use Rattle.pfair_table.specs.Places.{bucket, AreBucketsOf}
 
 -- ---- bits
 

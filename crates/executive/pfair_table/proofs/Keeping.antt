@@ -1,9 +1,8 @@
 -- The dispatcher's invariant through plans.
-use Rattle.pfair_table.proofs.Common.{length-append, map-append, Logged, Said, Announcement, said_by, said_in, sound_beginning, Replica, Below, Untorn, said, frontier, numbers_below, same_said, below_agree, frontier_le, read_by_number, first_by_rank, Queue, boundary, announcements, Roster, Decided, Settings, Origin, Table, eligible, pick, slot_of, all_ran, history, world, table, decisions, IsOf, IsSteady, IsPlanOf, IsInStep, IsKept, heard_before, map_same, among_below, ℕ, zero, suc, ◌+◌, ◌*◌, ◌≤◌, ◌<◌, ◌≡◌, refl, sym, ◌∙◌, subst, arith, cond, Bool, false, List, ◌∷◌, ◌++◌, length, map, Option, Some, None, flat_map, nat_lt, Result, IfOk, OnOk, [], SlotPlan, le-ltb, none-some, ReplicaRows, replica_of, IsReplica, has_torn, empty_replica, IsQueue, IsOrigin, Course, is_plannable, with_next_slot, PlannedSlots, with_next, members_before, plan, Dispatch, IsNextStep, IsWholePlan, course_of, untorn_by_test, min, ap, ◌≢◌, IsTrue, if◌then◌else◌, Step, Done, option_map, length-map, length-drop, drop-append-le, drop-map, slice_get_past, slice_get-map, drop-nil, places_from, places_in, places_after, table_before, places_before, AreKept, IsNext, tables_to, decided_to, last_or, ◌-◌, drop, slice_get, PlannedSlot}
+use Rattle.pfair_table.proofs.Common.{length-append, map-append, Logged, Said, Announcement, said_by, said_in, sound_beginning, Replica, Below, Untorn, said, frontier, numbers_below, same_said, below_agree, frontier_le, read_by_number, first_by_rank, Queue, boundary, announcements, Roster, Decided, Settings, Origin, Table, eligible, pick, slot_of, all_ran, history, world, table, decisions, IsOf, IsSteady, IsPlanOf, IsInStep, IsKept, heard_before, map_same, among_below, ℕ, zero, suc, ◌+◌, ◌*◌, ◌≤◌, ◌<◌, ◌≡◌, refl, sym, ◌∙◌, subst, arith, cond, Bool, false, List, ◌∷◌, ◌++◌, length, map, Option, Some, None, flat_map, nat_lt, Result, IfOk, OnOk, [], SlotPlan, le-ltb, none-some, ReplicaRows, replica_of, IsReplica, has_torn, empty_replica, IsQueue, IsOrigin, Course, is_plannable, with_next_slot, PlannedSlots, with_next, members_before, plan, Dispatch, IsNextStep, IsWholePlan, course_of, untorn_by_test, min, ap, ◌≢◌, IsTrue, if◌then◌else◌, Step, Done, option_map, length-map, length-drop, drop-append-le, drop-map, slice_get_past, slice_get-map, drop-nil, places_from, places_in, places_after, table_before, places_before, AreKept, IsNext, tables_to, decided_to, last_or, ◌-◌, drop, slice_get, PlannedSlot, Planned, Waiting}
 use Rattle.std.specs.declared.alloc.AllocError.{AllocError}
 use Rattle.pfair_table.proofs.TableLaws.{same_history, one_table, named_before}
 use Rattle.pfair_table.proofs.Runs.{below_all, length_numbers}
-use Rattle.pfair_table.specs.declared.answer.Step.TheVariants.{Planned, Waiting}
 use Rattle.pfair_table.specs.declared.settings.TheConstants.Settings.{MAX_SLOTS}
 
 -- A dispatcher's parts from one slot to the next, and from one replica to one that is above it.

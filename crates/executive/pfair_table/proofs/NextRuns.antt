@@ -1,11 +1,7 @@
 -- What a finished run leaves can be taken over by a next run, and finished runs that agree leave the same.
-use Rattle.pfair_table.proofs.Common.{or_parts, AllByRecursion, nat_list_eq_equiv, length-append, name_eq, apart_nil, apart_push, Machine, Member, Pick, AreLeftAt, IsCarried, IsSettings, IsState, with_row, AllDiffer, ArePlacesOf, IsFit, is_used, Carried, Settings, Table, names_task, ℕ, ◌≡◌, ◌≢◌, ◌<◌, ◌∙◌, refl, arith, false, List, ◌∷◌, ◌++◌, length, [], all_by_recursion_push, Announcement, Said, IsWithinLimits, IsWeighed, announcements, all_among, among_contains, among_map, Replica, IsReplica, said, read_by_number, ◌+◌, subst, sym, Option, apart_map, boundary, is_freed, ran, with_quantum, carried, CanBeCarried, both, each, each_map, each_change, IsOrigin, Origin, Story, machine, members_before, slot_of, all_ran, history, table, world, zero, suc, ap, Some, None, map, nat_tests, IsLeftAt, HasBegun, IsBegun, IsWeighedStory, IsNextStep, ReplicaRows, replica_of, has_torn, same_said, Queue, Roster, Decided, CanBeFollowed, IsFinished, IsNextRunFault, IsResumeFault, LeaveAlike, left_by, members_left, table_before, places_before, places_in, last_or, Dispatch, IsKept, members_after, ◌≤◌, Bool, Result, IfErr, Step, Done, LAST_SLOT}
-use Rattle.std.proofs.Common.{IfSome}
+use Rattle.pfair_table.proofs.Common.{or_parts, AllByRecursion, nat_list_eq_equiv, length-append, name_eq, apart_nil, apart_push, Machine, Member, Pick, AreLeftAt, IsCarried, IsSettings, IsState, with_row, AllDiffer, ArePlacesOf, IsFit, is_used, Carried, Settings, Table, names_task, ℕ, ◌≡◌, ◌≢◌, ◌<◌, ◌∙◌, refl, arith, false, List, ◌∷◌, ◌++◌, length, [], all_by_recursion_push, Announcement, Said, IsWithinLimits, IsWeighed, announcements, all_among, among_contains, among_map, Replica, IsReplica, said, read_by_number, ◌+◌, subst, sym, Option, apart_map, boundary, is_freed, ran, with_quantum, carried, CanBeCarried, both, each, each_map, each_change, IsOrigin, Origin, Story, machine, members_before, slot_of, all_ran, history, table, world, zero, suc, ap, Some, None, map, nat_tests, IsLeftAt, HasBegun, IsBegun, IsWeighedStory, IsNextStep, ReplicaRows, replica_of, has_torn, same_said, Queue, Roster, Decided, CanBeFollowed, IsFinished, IsNextRunFault, IsResumeFault, LeaveAlike, left_by, members_left, table_before, places_before, places_in, last_or, Dispatch, IsKept, members_after, ◌≤◌, Bool, Result, IfErr, Step, Done, LAST_SLOT, IfSome, IsNotBefore, frame_boundary, frame_carried, frame_ran, none_freed_boundary, room_boundary, room_carried, room_ran, left_carried}
 use Rattle.pfair_replica.proofs.SaidListed.{is_said}
 use Rattle.pfair_admission.specs.Laws.{AreInFrame, HaveRoom}
-use Rattle.pfair_admission.specs.Admission.{IsNotBefore}
-use Rattle.pfair_admission.proofs.Boundaries.{frame_boundary, frame_carried, frame_ran, none_freed_boundary, room_boundary, room_carried, room_ran}
-use Rattle.pfair_admission.proofs.Restoring.{left_carried}
 use Rattle.pfair_table.proofs.TableLaws.{label, named_before, named_history, same_history}
 use Rattle.pfair_table.proofs.RunsOn.{begun_over, slot_more}
 use Rattle.pfair_table.specs.declared.answer.NextRunFault.{NextRunFault}

@@ -1,8 +1,6 @@
 -- Places are processors, no two of a table are equal, and a task that goes on running keeps its own.
-use Rattle.pfair_table.proofs.Common.{true≢false, eqb-true, eq-eqb, ne_eqb, or_cases, or_left, or_right, cases_lt, numbers_below, Among, filter_among, among_below, is_used, free_place, ℕ, zero, suc, ◌<◌, ◌≤◌, ◌≡◌, refl, sym, ap, ◌∙◌, arith, inl, inr, Bool, true, false, cond, List, [], ◌∷◌, ◌++◌, length, Option, Some, None, AllByRecursion, length-map, name_eq, name_exact, name_itself, Settings, Origin, Table, names_task, Pick, NamesApart, apart_head, apart_tail, place_of, kept_places, all_kept, filled, places_after, places_before, places_from, table_before, IsFit, AllDiffer, ArePlacesOf, IsOrigin, all_among, among_all, none-some, same_Some, ◌+◌, subst, ◌≢◌, ◌||◌, slice_get, if◌then◌else◌, Name}
+use Rattle.pfair_table.proofs.Common.{true≢false, eqb-true, eq-eqb, ne_eqb, or_cases, or_left, or_right, cases_lt, numbers_below, Among, filter_among, among_below, is_used, free_place, ℕ, zero, suc, ◌<◌, ◌≤◌, ◌≡◌, refl, sym, ap, ◌∙◌, arith, inl, inr, Bool, true, false, cond, List, [], ◌∷◌, ◌++◌, length, Option, Some, None, AllByRecursion, length-map, name_eq, name_exact, name_itself, Settings, Origin, Table, names_task, Pick, NamesApart, apart_head, apart_tail, place_of, kept_places, all_kept, filled, places_after, places_before, places_from, table_before, IsFit, AllDiffer, ArePlacesOf, IsOrigin, all_among, among_all, none-some, same_Some, ◌+◌, subst, ◌≢◌, ◌||◌, slice_get, if◌then◌else◌, Name, length-filter, count_by-le-length, KeepPlace, PlacesAreKept, PlacesFollowTables}
 use Rattle.std.specs.Prelude.{◌⊎◌, ◌==◌, find, filter, not, unwrap_or}
-use Rattle.std.proofs.lemmas.List.Sums.{length-filter, count_by-le-length}
-use Rattle.pfair_table.specs.Refinement.{KeepPlace, PlacesAreKept, PlacesFollowTables}
 
 -- The least processor that is not in use.
 

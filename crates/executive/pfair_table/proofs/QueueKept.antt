@@ -1,12 +1,9 @@
 -- The queue of the members' next subtasks, through boundaries and quanta.
 use Rattle.std.proofs.Common.{find, T, filter}
-use Rattle.pfair_table.proofs.Common.{true≢false, or_parts, drop_more, NamesApart, apart_head, apart_tail, AllByRecursion, name_cmp, Key, name_eq, Said, Announcement, name_exact, name_itself, none-some, same_Some, slice_get_within, get_or_from_slice_get, Queue, Machine, is_named, member_named, change, effect, present, is_freed, all_decided, boundary, announcements, Member, is_departing, eligible_from, next_key, queued, IsQueue, IsQueueBesides, IsQueueBut, IsNotifiedOf, is_of_some, is_said, by_effect, apart_present, apart_effect, ℕ, ◌+◌, ◌<◌, ◌≡◌, refl, sym, ap, ◌∙◌, subst, Bool, true, false, cond, List, [], ◌∷◌, ◌++◌, length, get_or, drop, Option, Some, None, arith, ◌||◌, not, is_some, slice_get, if◌then◌else◌, nat_list_cmp_total, tied_names, Name, Decision, ForSome, option_map, map-append, length-map, take_more, take-append-drop, Among, among_right, among_all, nat_list_eq_equiv, MAX_INDEX, ran, with_quantum, quantum_of, running, seatless, Roster, Pick, Table, names_task, pick, index_of, all_ran, IsQueueWithout, MayRun, has_key_of, keys_of, inl, take, map, Seated, Quantum, le-leb, and_parts, and_from, not-true, among_filter, filter_among, among_map, map_among, all_among, among_contains, contains_among, apart_nil, apart_cons, apart_filter, apart_map, first_by_rank, released, without, eligible, is_eligible, inr, IsTrue, nat_le, eq_by_cmp, first_names}
+use Rattle.pfair_table.proofs.Common.{true≢false, or_parts, drop_more, NamesApart, apart_head, apart_tail, AllByRecursion, name_cmp, Key, name_eq, Said, Announcement, name_exact, name_itself, none-some, same_Some, slice_get_within, get_or_from_slice_get, Queue, Machine, is_named, member_named, change, effect, present, is_freed, all_decided, boundary, announcements, Member, is_departing, eligible_from, next_key, queued, IsQueue, IsQueueBesides, IsQueueBut, IsNotifiedOf, is_of_some, is_said, by_effect, apart_present, apart_effect, ℕ, ◌+◌, ◌<◌, ◌≡◌, refl, sym, ap, ◌∙◌, subst, Bool, true, false, cond, List, [], ◌∷◌, ◌++◌, length, get_or, drop, Option, Some, None, arith, ◌||◌, not, is_some, slice_get, if◌then◌else◌, nat_list_cmp_total, tied_names, Name, Decision, ForSome, option_map, map-append, length-map, take_more, take-append-drop, Among, among_right, among_all, nat_list_eq_equiv, MAX_INDEX, ran, with_quantum, quantum_of, running, seatless, Roster, Pick, Table, names_task, pick, index_of, all_ran, IsQueueWithout, MayRun, has_key_of, keys_of, inl, take, map, Seated, Quantum, le-leb, and_parts, and_from, not-true, among_filter, filter_among, among_map, map_among, all_among, among_contains, contains_among, apart_nil, apart_cons, apart_filter, apart_map, first_by_rank, released, without, eligible, is_eligible, inr, IsTrue, nat_le, eq_by_cmp, first_names, names_exact, name_of, is_lt}
 use Rattle.std.specs.FinMap.{get-empty, get-insert, get-remove, same_map, get-entries, entries_sorted, entries}
-use Rattle.pfair_ready.proofs.Names.{names_exact}
 use Rattle.std.proofs.lemmas.List.Recursion.{found_push_other}
-use Rattle.pfair_entry.specs.Entry.{name_of}
 use Rattle.std.proofs.Math.ListN.{get_or-map}
-use Rattle.std.specs.Ordering.{is_lt}
 use Rattle.std.proofs.lemmas.List.Sorted.{Contains-permutation}
 use Rattle.pfair_ready.proofs.Taking.{IsReleased, each_found, each_released, released_remove, get_without}
 use Rattle.pfair_table.proofs.TableLaws.{among_first, first_same, eligible_apart}

@@ -1,7 +1,6 @@
 -- Readings of sound beginnings: one entry more, and what a replica that holds more makes of them.
 use Rattle.std.proofs.Common.{append_assoc, sum_by}
-use Rattle.pfair_table.proofs.Common.{take-append-le, length-append, length-set, get_or-set_other, cases_eq, get_or_from_slice_get, slice_get-get_or, slice_get_within, take-length, take-suc, One, Torn, Logged, Replica, IsReplica, Below, Untorn, numbers_below, sound_beginning, sound_total, said_in, said_behind, said, some_at, held_within, beginnings_grow, IsReadingOf, AreReadFrom, AreReadingsOf, AreSilentAfter, AreWhole, Readings, entries_read, said_by_all, ℕ, zero, suc, ◌+◌, ◌≤◌, ◌<◌, ◌≡◌, refl, sym, ap, subst, same_Some, ◌∙◌, ⊎_elim, arith, List, [], ◌∷◌, ◌++◌, length, take, drop, Some, ◌≢◌, ◌⊎◌, flat_map, slice_get, set, sum_by_push, Reading}
-use Rattle.std.proofs.lemmas.Grind.{flat_map-append, get_or-set_at}
+use Rattle.pfair_table.proofs.Common.{take-append-le, length-append, length-set, get_or-set_other, cases_eq, get_or_from_slice_get, slice_get-get_or, slice_get_within, take-length, take-suc, One, Torn, Logged, Replica, IsReplica, Below, Untorn, numbers_below, sound_beginning, sound_total, said_in, said_behind, said, some_at, held_within, beginnings_grow, IsReadingOf, AreReadFrom, AreReadingsOf, AreSilentAfter, AreWhole, Readings, entries_read, said_by_all, ℕ, zero, suc, ◌+◌, ◌≤◌, ◌<◌, ◌≡◌, refl, sym, ap, subst, same_Some, ◌∙◌, ⊎_elim, arith, List, [], ◌∷◌, ◌++◌, length, take, drop, Some, ◌≢◌, ◌⊎◌, flat_map, slice_get, set, sum_by_push, Reading, flat_map-append, get_or-set_at}
 use Rattle.pfair_replica.specs.Counters.{said_at}
 
 -- what some entries say and then the others

@@ -1,10 +1,7 @@
 -- Whatever events come, a slot that was planned has the table of a replica that is still held, and every other dispatcher
 -- that agrees has it too.
-use Rattle.pfair_table.proofs.Common.{replica_of, AllByRecursion, length-map, map-append, length-append, ltb-true, and_parts, not-true, cases_lt, none-some, same_Some, Torn, Logged, IsEntry, entry_eq, entry_exact, Replica, IsReplica, Below, Untorn, Agree, frontier, numbers_below, has_torn, said, below_agree, frontier_le, untorn_by_test, Settings, Origin, Table, table, decisions, plan, Decided, taken, absorbed, IsEvent, Course, begin_at, is_plannable, with_next_slot, happens, run, IsOf, IsPrefixOf, OneSchedule, PlanSoFar, ℕ, zero, suc, ◌<◌, ◌≤◌, ◌≡◌, refl, sym, ◌∙◌, subst, arith, inl, inr, Bool, true, false, List, [], ◌∷◌, ◌++◌, length, min, Some, ◌&&◌, not, nat_lt, map, slice_get, if◌then◌else◌, join_least, join_second, below_itself, below_trans, offered_stays, Event, Take, Absorb, Plan, eqb-true, eq-eqb, leb-true, lt-ltb, le-leb, and_from, One, has_key, has_shape, join, only, with_entry, cond, ◌==◌, nat_le}
-use Rattle.pfair_lattice.specs.Held.{join_first, HeldBelow, none_below}
+use Rattle.pfair_table.proofs.Common.{replica_of, AllByRecursion, length-map, map-append, length-append, ltb-true, and_parts, not-true, cases_lt, none-some, same_Some, Torn, Logged, IsEntry, entry_eq, entry_exact, Replica, IsReplica, Below, Untorn, Agree, frontier, numbers_below, has_torn, said, below_agree, frontier_le, untorn_by_test, Settings, Origin, Table, table, decisions, plan, Decided, taken, absorbed, IsEvent, Course, begin_at, is_plannable, with_next_slot, happens, run, IsOf, IsPrefixOf, OneSchedule, PlanSoFar, ℕ, zero, suc, ◌<◌, ◌≤◌, ◌≡◌, refl, sym, ◌∙◌, subst, arith, inl, inr, Bool, true, false, List, [], ◌∷◌, ◌++◌, length, min, Some, ◌&&◌, not, nat_lt, map, slice_get, if◌then◌else◌, join_least, join_second, below_itself, below_trans, offered_stays, Event, Take, Absorb, Plan, eqb-true, eq-eqb, leb-true, lt-ltb, le-leb, and_from, One, has_key, has_shape, join, only, with_entry, cond, ◌==◌, nat_le, join_first, HeldBelow, none_below, only_here, IsBroughtBelow, EventsLeaveTheLeast}
 use Rattle.pfair_table.proofs.TableLaws.{one_table, prefix_map}
-use Rattle.pfair_replica.specs.Laws.{only_here}
-use Rattle.pfair_table.specs.Events.{IsBroughtBelow, EventsLeaveTheLeast}
 
 -- ---- lists
 

@@ -1,15 +1,9 @@
 -- A next run goes on as the long run does.
-use Rattle.std.proofs.Common.{◌/◌}
-use Rattle.pfair_table.proofs.Common.{AllByRecursion, filter, list_any, and_parts, cases_Bool, false≢true, or_cases, length-map, NamesApart, apart_map, Key, name_exact, name_eq, Said, Announcement, IsWeighed, Among, all_among, among_all, among_map, among_filter, map_same, Member, theta, is_departing, eligible_from, next_key, Machine, announcements, all_decided, boundary_decisions, member_named, newcomer, present, ran, with_quantum, all_raised, carried, carried_delays, jobs_done, subtasks_done, subtasks_of, taken_off, each, each_filter, each_map, by_effect, each_change, apart_present, Pick, all_kept, filled, place_of, places_after, places_before, places_in, table_before, last_or, first_by_rank, Settings, Origin, Story, Table, machine, names_task, is_eligible, eligible, pick, all_ran, chosen, index_of, slot_of, with_decisions, history, world, table, decisions, ◌≡◌, ℕ, zero, suc, ◌+◌, ◌-◌, ◌*◌, ◌%◌, ◌<◌, ◌≤◌, Bool, true, false, List, [], ◌∷◌, ◌++◌, map, length, Option, Some, None, refl, sym, ap, subst, ◌∙◌, arith, inl, inr, ⊎_elim, nat_tests, map-map, all_by_recursion_push, Share, Name, Decision, IsWeighedStory, HasBegun, IsBegun, last_places, last_table}
+use Rattle.pfair_table.proofs.Common.{AllByRecursion, filter, list_any, and_parts, cases_Bool, false≢true, or_cases, length-map, NamesApart, apart_map, Key, name_exact, name_eq, Said, Announcement, IsWeighed, Among, all_among, among_all, among_map, among_filter, map_same, Member, theta, is_departing, eligible_from, next_key, Machine, announcements, all_decided, boundary_decisions, member_named, newcomer, present, ran, with_quantum, all_raised, carried, carried_delays, jobs_done, subtasks_done, subtasks_of, taken_off, each, each_filter, each_map, by_effect, each_change, apart_present, Pick, all_kept, filled, place_of, places_after, places_before, places_in, table_before, last_or, first_by_rank, Settings, Origin, Story, Table, machine, names_task, is_eligible, eligible, pick, all_ran, chosen, index_of, slot_of, with_decisions, history, world, table, decisions, ◌≡◌, ℕ, zero, suc, ◌+◌, ◌-◌, ◌*◌, ◌%◌, ◌<◌, ◌≤◌, Bool, true, false, List, [], ◌∷◌, ◌++◌, map, length, Option, Some, None, refl, sym, ap, subst, ◌∙◌, arith, inl, inr, ⊎_elim, nat_tests, map-map, all_by_recursion_push, Share, Name, Decision, IsWeighedStory, HasBegun, IsBegun, last_places, last_table, ◌/◌, div-add-mod', IsWeight, release_of, starts_job_of, done_low, next_ran, none_done, carried_lowered, eligible_at_job, one_each, IsSlotOf, RunsGoOn, both_stories, left_over, raised_rows}
 use Rattle.std.specs.Prelude.{⊤, nat_lt, nat_le, not, if◌then◌else◌}
 use Rattle.std.proofs.Math.Nat.{add-mul-div_right, div-eq_of_lt, mul-div_cancel}
-use Rattle.std.proofs.lemmas.Nat.{div-add-mod'}
 use Rattle.pfair_weight.specs.WindowFacts.{job_released, starts_job_only}
-use Rattle.pfair_weight.specs.Window.{IsWeight, release_of, starts_job_of}
-use Rattle.pfair_admission.proofs.Carrying.{done_low, next_ran, none_done, carried_lowered}
 use Rattle.pfair_admission.proofs.Beside.{AreDecided, ArePaired, Pair, all_paired, eligible_paired, index_paired, lags_paired, keys_paired, later_paired, present_paired, ran_paired}
-use Rattle.pfair_admission.proofs.Boundaries.{eligible_at_job, one_each}
-use Rattle.pfair_table.specs.NextRun.{IsSlotOf, RunsGoOn, both_stories, left_over, raised_rows}
 use Rattle.pfair_table.proofs.TableLaws.{among_first, label, named_from, named_history, after_table, all_ran_is, eligible_apart, rows_apart, same_history}
 use Rattle.pfair_table.proofs.QueueKept.{found_own}
 use Rattle.pfair_table.proofs.Alike.{next_are}

@@ -1,8 +1,5 @@
 -- Logs as a run has them.
-use Rattle.std.proofs.Common.{slice_index_or}
-use Rattle.pfair_table.proofs.Common.{none-some, same_Some, slice_get_within, get_or_from_slice_get, leb-true, lt-ltb, le-leb, and_from, and_parts, One, Torn, entry_eq, Untorn, only, taken, list_all, length-map, take_more, length-take-le, take-length, Logged, Settings, IsLoggedRun, is_short, lists_of, entry_of, contents_of, held_of, replica_of_logs, capacity_of, common_steps, ℕ, zero, suc, ◌+◌, ◌<◌, ◌≤◌, ◌≡◌, true, refl, sym, ap, ◌∙◌, arith, List, [], ◌∷◌, ◌++◌, take, Some, None, Vec, Global, length, slice_get, ◌≢◌, ◌==◌, if◌then◌else◌, Dispatch, LoggedRun, false, replica_of}
-use Rattle.pfair_lattice.specs.Held.{held_join}
-use Rattle.pfair_replica.specs.Laws.{join_none}
+use Rattle.pfair_table.proofs.Common.{none-some, same_Some, slice_get_within, get_or_from_slice_get, leb-true, lt-ltb, le-leb, and_from, and_parts, One, Torn, entry_eq, Untorn, only, taken, list_all, length-map, take_more, length-take-le, take-length, Logged, Settings, IsLoggedRun, is_short, lists_of, entry_of, contents_of, held_of, replica_of_logs, capacity_of, common_steps, ℕ, zero, suc, ◌+◌, ◌<◌, ◌≤◌, ◌≡◌, true, refl, sym, ap, ◌∙◌, arith, List, [], ◌∷◌, ◌++◌, take, Some, None, Vec, Global, length, slice_get, ◌≢◌, ◌==◌, if◌then◌else◌, Dispatch, LoggedRun, false, replica_of, slice_index_or, held_join, join_none}
 use Rattle.std.proofs.Math.Dec.{eqb-suc-zero, eqb-zero-suc, eqb-suc-suc}
 use Rattle.std.proofs.lemmas.List.Folds.{list_all-map}
 

@@ -1,11 +1,8 @@
 -- The proofs of the laws of tables and plans.
-use Rattle.pfair_table.proofs.Common.{NamesApart, apart_nil, Said, Member, announcements, ran, apart_boundary, apart_ran, IsOrigin, Settings, Origin, Table, History, machine, members_at, members_before, slot_of, all_ran, Story, history, world, ℕ, zero, suc, List, [], ◌∷◌, Some, None, arith, Key, first_by_rank, Among, among_contains, contains_among, ◌≤◌, ◌≡◌, length, AllPairs, GoesBefore, cases_lt, length-map, map-append, append_assoc, append-nil, among_below, map_same, apart_filter, apart_map, said, frontier, numbers_below, same_said, mark_le, frontier_le, below_agree, next_key, eligible, is_eligible, chosen, pick, table, Pick, IsFit, IsPrefixOf, OneTable, PlansGoOn, OnePlan, TablesAreOrdered, ◌<◌, refl, sym, ap, ◌∙◌, inl, inr, ◌++◌, min, map, first_names, AllByRecursion, length-append, drop_all, drop-append-le, map-id, nat_list_eq_equiv, among_all, name_eq, Announcement, name_exact, Machine, is_named, newcomer, is_freed, boundary, with_freeing, with_delay, with_quantum, names_task, next_index, counted, counted_one, apart_head, apart_tail, each_filter, each_map, by_boundary, by_effect, each_change, RunsAreCounted, subst, Bool, false, ◌||◌, not, if◌then◌else◌, all_by_recursion_push, sum_by_push, map-map, Share, Name, Queue, Roster, IsQueue, IsSteady, MAX_INDEX, each, Replica, ◌+◌, LAST_SLOT, IsLeftAt}
-use Rattle.pfair_order.specs.Order.{pd2_cmp, AreFirst}
+use Rattle.pfair_table.proofs.Common.{NamesApart, apart_nil, Said, Member, announcements, ran, apart_boundary, apart_ran, IsOrigin, Settings, Origin, Table, History, machine, members_at, members_before, slot_of, all_ran, Story, history, world, ℕ, zero, suc, List, [], ◌∷◌, Some, None, arith, Key, first_by_rank, Among, among_contains, contains_among, ◌≤◌, ◌≡◌, length, AllPairs, GoesBefore, cases_lt, length-map, map-append, append_assoc, append-nil, among_below, map_same, apart_filter, apart_map, said, frontier, numbers_below, same_said, mark_le, frontier_le, below_agree, next_key, eligible, is_eligible, chosen, pick, table, Pick, IsFit, IsPrefixOf, OneTable, PlansGoOn, OnePlan, TablesAreOrdered, ◌<◌, refl, sym, ap, ◌∙◌, inl, inr, ◌++◌, min, map, first_names, AllByRecursion, length-append, drop_all, drop-append-le, map-id, nat_list_eq_equiv, among_all, name_eq, Announcement, name_exact, Machine, is_named, newcomer, is_freed, boundary, with_freeing, with_delay, with_quantum, names_task, next_index, counted, counted_one, apart_head, apart_tail, each_filter, each_map, by_boundary, by_effect, each_change, RunsAreCounted, subst, Bool, false, ◌||◌, not, if◌then◌else◌, all_by_recursion_push, sum_by_push, map-map, Share, Name, Queue, Roster, IsQueue, IsSteady, MAX_INDEX, each, Replica, ◌+◌, LAST_SLOT, IsLeftAt, pd2_cmp, AreFirst, by_rank_first, by_rank_of_same, once_from_names, next_fits}
 use Rattle.pfair_order.proofs.KeyLaws.{keys_total, goes_before}
 use Rattle.pfair_order.proofs.RankLemmas.{place_of, first_pairs, first_within}
-use Rattle.pfair_order.proofs.InOrder.{by_rank_first, by_rank_of_same, once_from_names}
 use Rattle.std.proofs.Common.{filter}
-use Rattle.pfair_admission.proofs.Carrying.{next_fits}
 
 -- No two members have one name, at any slot, and how far their indexes rise.
 

@@ -1,12 +1,7 @@
 -- Keys that stand once can be put in order, so their first by rank are the first.
-use Rattle.std.proofs.Common.{◌==◌, drop, AllPairs}
-use Rattle.pfair_order.proofs.Common.{All, Contains, count_by, slice_get, Ordering, IsTotalOrder, cases_lt, false_from_ne_true, eqb-true, eq-eqb, Contains-append_cases, All-contains, All-contains_itself, All-filter, filter_passes, get_or_from_slice_get, slice_get_within, rank, of_rank, first_by_rank, ◌≡◌, ℕ, zero, suc, ◌+◌, ◌<◌, ◌≤◌, inl, inr, Bool, true, false, cond, List, [], ◌∷◌, ◌++◌, length, take, refl, sym, ap, subst, ◌∙◌, arith, Some, sum_by-IsPermutation, Contains-permutation, sum_by-append, sum_by-cons, AllByRecursion, Less, is_lt, is_eq, true≢false, All-from_recursion, recursion_from_All, same_Some, none-some, AreFirst, EachOnce, ◌⊎◌, IsPermutation, All-permutation, IsPermutation-sym, IsPermutation-trans, bytes_decides, slice_get-get_or, Equal-is, Key, pd2_cmp, ◌≢◌, get_or}
-use Rattle.std.proofs.lemmas.List.Sums.{length-filter}
-use Rattle.std.proofs.lemmas.List.{nil_from_length, append-nil, take_all, take-append-drop, length-take, drop_all}
+use Rattle.pfair_order.proofs.Common.{All, Contains, count_by, slice_get, Ordering, IsTotalOrder, cases_lt, false_from_ne_true, eqb-true, eq-eqb, Contains-append_cases, All-contains, All-contains_itself, All-filter, filter_passes, get_or_from_slice_get, slice_get_within, rank, of_rank, first_by_rank, ◌≡◌, ℕ, zero, suc, ◌+◌, ◌<◌, ◌≤◌, inl, inr, Bool, true, false, cond, List, [], ◌∷◌, ◌++◌, length, take, refl, sym, ap, subst, ◌∙◌, arith, Some, sum_by-IsPermutation, Contains-permutation, sum_by-append, sum_by-cons, AllByRecursion, Less, is_lt, is_eq, true≢false, All-from_recursion, recursion_from_All, same_Some, none-some, AreFirst, EachOnce, ◌⊎◌, IsPermutation, All-permutation, IsPermutation-sym, IsPermutation-trans, bytes_decides, slice_get-get_or, Equal-is, Key, pd2_cmp, ◌≢◌, get_or, ◌==◌, drop, AllPairs, length-filter, nil_from_length, append-nil, take_all, take-append-drop, length-take, drop_all, IsPermutation-refl, IsPermutation-cons, IsPermutation-middle, name_eq, NamesApart}
 use Rattle.std.proofs.Math.Seq.{take-suc}
 use Rattle.pfair_order.proofs.RankLemmas.{IsSplit, place_of, at_place, none_counted, rank_given, rank_rest, each_place, all_map, Rising, first_of_split, first_unique, first_of_permutation, less_of, is_less, is_eq_back, itself_not_before, apart_from_head, count_of_tail, at_each}
-use Rattle.std.proofs.lemmas.List.Sorted.{IsPermutation-refl, IsPermutation-cons, IsPermutation-middle}
-use Rattle.pfair_weight.specs.Name.{name_eq, NamesApart}
 use Rattle.pfair_weight.proofs.NamesApart.{apart_head, apart_tail, pairs_from_apart, apart_from_pairs}
 use Rattle.pfair_order.proofs.KeyLaws.{keys_total, keys_exact}
 

@@ -1,11 +1,8 @@
 -- The order of keys: strict and total, kept if all times come later.
-use Rattle.pfair_order.proofs.Common.{Ordering, Less, Equal, nat_cmp, ordering_then, slice_cmp, Key, pd2_cmp, tie_group_of, GoesBefore, earlier_deadline, greater_b_bit, later_group, smaller_name, smaller_group, ◌≡◌, ◌≢◌, ℕ, ◌<◌, List, arith, sym, ◌∙◌, ◌⊎◌, Greater, is_eq, ordering_reverse, pointwise, IsTotalOrder, tied_itself, refl, ap, inl, inr, nat_cmp_is, cases_order, filter_agree, of_rank, first_by_rank, common_steps, zero, suc, ◌+◌, Bool, ◌∷◌, []}
+use Rattle.pfair_order.proofs.Common.{Ordering, Less, Equal, nat_cmp, ordering_then, slice_cmp, Key, pd2_cmp, tie_group_of, GoesBefore, earlier_deadline, greater_b_bit, later_group, smaller_name, smaller_group, ◌≡◌, ◌≢◌, ℕ, ◌<◌, List, arith, sym, ◌∙◌, ◌⊎◌, Greater, is_eq, ordering_reverse, pointwise, IsTotalOrder, tied_itself, refl, ap, inl, inr, nat_cmp_is, cases_order, filter_agree, of_rank, first_by_rank, common_steps, zero, suc, ◌+◌, Bool, ◌∷◌, [], tied_names, rules, nat_eq, ◌&&◌, map, filter, map-append}
 use Rattle.std.proofs.lemmas.Bool.Decides.{nat_tests}
-use Rattle.pfair_weight.specs.Name.{tied_names}
-use Rattle.std.proofs.Common.{rules, nat_eq, ◌&&◌, map, filter}
 use Rattle.std.specs.Cmp.Rules.{comparing}
 use Rattle.std.specs.FinMap.{IsAntisymmetric}
-use Rattle.std.proofs.lemmas.List.{map-append}
 
 -- The composed order of keys is the order by what differs first.
 

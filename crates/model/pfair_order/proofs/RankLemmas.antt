@@ -1,8 +1,5 @@
 -- What a split of the keys into a rising front and a rest says of ranks.
-use Rattle.std.proofs.Common.{append_assoc, nat_le}
-use Rattle.pfair_order.proofs.Common.{All, AllByRecursion, Contains, count_by, slice_get, Ordering, Less, is_lt, is_eq, ordering_reverse, IsTotalOrder, tied_itself, All-contains, Contains-get_or, Contains-append_left, Contains-append_cases, recursion_from_All, All-from_recursion, All-from_get_or, get_or_from_slice_get, slice_get_within, slice_get-get_or, same_Some, none-some, leb-true, leb-false, rank, AreFirst, EachOnce, common_steps, ◌≡◌, ℕ, zero, suc, ◌+◌, ◌<◌, ◌≤◌, inl, inr, Bool, true, false, cond, List, [], ◌∷◌, ◌++◌, length, refl, sym, ap, subst, ◌∙◌, arith, get_or, Some, IsPermutation, sum_by-IsPermutation, Contains-permutation, IsPermutation-sym, IsPermutation-trans, All-permutation, sum_by-append, sum_by-cons}
-use Rattle.std.specs.List.Sorted.{IsSortedBy}
-use Rattle.std.proofs.lemmas.List.Sorted.{IsPermutation-append_right, sorted_far, ranks_by}
+use Rattle.pfair_order.proofs.Common.{All, AllByRecursion, Contains, count_by, slice_get, Ordering, Less, is_lt, is_eq, ordering_reverse, IsTotalOrder, tied_itself, All-contains, Contains-get_or, Contains-append_left, Contains-append_cases, recursion_from_All, All-from_recursion, All-from_get_or, get_or_from_slice_get, slice_get_within, slice_get-get_or, same_Some, none-some, leb-true, leb-false, rank, AreFirst, EachOnce, common_steps, ◌≡◌, ℕ, zero, suc, ◌+◌, ◌<◌, ◌≤◌, inl, inr, Bool, true, false, cond, List, [], ◌∷◌, ◌++◌, length, refl, sym, ap, subst, ◌∙◌, arith, get_or, Some, IsPermutation, sum_by-IsPermutation, Contains-permutation, IsPermutation-sym, IsPermutation-trans, All-permutation, sum_by-append, sum_by-cons, append_assoc, nat_le, IsSortedBy, IsPermutation-append_right, sorted_far, ranks_by}
 
 -- an element of a list stands at some place, and the other way round
 pub place_of : {A : Type 0} (xs : List A) (x : A) → Contains xs x → (i : ℕ) × (slice_get xs i ≡ Some x)

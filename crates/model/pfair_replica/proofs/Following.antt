@@ -1,10 +1,7 @@
 -- Counters that follow what comes into the rows.
-use Rattle.pfair_replica.proofs.Common.{map-append, get_or_from_slice_get, Beginning, beginning_in, first_mark, least_mark, total_count, Replica, numbers_below, mark, frontier, sound_total, ℕ, zero, suc, ◌+◌, ◌≤◌, ◌≡◌, refl, sym, ap, ◌∙◌, arith, min, List, [], ◌∷◌, length, take, map, Some, fold, slice_get, replicate, common_steps, cases_eq, append-nil, length_push, Flat, One, Torn, Held, HeldBelow, Logged, run_from, last_floor, IsRun, IsPart, IsRunBefore, IsLeftAt, ◌-◌, ◌<◌, subst, inl, inr, ⊎_elim, ◌++◌, None, ◌⊎◌, ◌≢◌, eq-eqb, ne_eqb, length-set, get_or-set_other, length-replicate, get_or-replicate, get_or-set_at, slice_get_within, slice_get-get_or, held_join, below_itself, entry_eq, EntryKey, Contents, IsReplica, sound_beginning, entry_key, only, IsTornAt, IsFirstTornIn, IsEarlier, AreCounters, WereBefore, WereApart, cond, Option, ◌==◌, join_none}
-use Rattle.std.proofs.lemmas.List.Folds.{fold-map, sum_by-replicate}
+use Rattle.pfair_replica.proofs.Common.{map-append, get_or_from_slice_get, Beginning, beginning_in, first_mark, least_mark, total_count, Replica, numbers_below, mark, frontier, sound_total, ℕ, zero, suc, ◌+◌, ◌≤◌, ◌≡◌, refl, sym, ap, ◌∙◌, arith, min, List, [], ◌∷◌, length, take, map, Some, fold, slice_get, replicate, common_steps, cases_eq, append-nil, length_push, Flat, One, Torn, Held, HeldBelow, Logged, run_from, last_floor, IsRun, IsPart, IsRunBefore, IsLeftAt, ◌-◌, ◌<◌, subst, inl, inr, ⊎_elim, ◌++◌, None, ◌⊎◌, ◌≢◌, eq-eqb, ne_eqb, length-set, get_or-set_other, length-replicate, get_or-replicate, get_or-set_at, slice_get_within, slice_get-get_or, held_join, below_itself, entry_eq, EntryKey, Contents, IsReplica, sound_beginning, entry_key, only, IsTornAt, IsFirstTornIn, IsEarlier, AreCounters, WereBefore, WereApart, cond, Option, ◌==◌, join_none, fold-map, sum_by-replicate, set, held_after}
 use Rattle.std.proofs.Math.Seq.{take-length, take-suc}
 use Rattle.pfair_replica.proofs.Marks.{some_at, run_is_run, run_ends, run_more, run_begins, last_more, kept_run, run_room}
-use Rattle.std.proofs.Common.{set}
-use Rattle.pfair_replica.specs.Laws.{held_after}
 use Rattle.pfair_replica.proofs.Merging.{Between, between_below}
 use Rattle.pfair_replica.proofs.FirstTorn.{earlier_first}
 

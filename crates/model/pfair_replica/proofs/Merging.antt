@@ -1,17 +1,11 @@
 -- Rows of entries: written, joined, and compared.
-use Rattle.std.proofs.Common.{OnOk, ◌&&◌, nat_lt, nat_le, if◌then◌else◌, IsTrue, nat_eq}
-use Rattle.pfair_replica.proofs.Common.{nat_cmp, option_and_then, eqb-true, get, MapJoins, MapPartly, Held, held_join, HeldBelow, Flat, One, joins_held, below_itself, join_first, join_assoc, join_idem, Logged, IsEntry, entry_eq, entry_exact, Contents, Replica, IsReplica, only, Row, held_in, IsFull, IsReplicaRows, ◌≡◌, inr, ⊎_elim, arith, ◌⊎◌, ◌<◌, ◌≤◌, ℕ, Option, Some, List, Result, OnErr, FlatJoins, join_none, ltb-true, leb-true, and_parts, Below, contents_join, join, with_entry, OfferedStays, refl, subst, sym, Bool, true, false, cond, ◌==◌, common_steps, eq_by_cmp, cases_Bool, cases_eq, eq-eqb, ne_eqb, none-some, IsOrdered, ◌∙◌, ap, ◌≢◌, None, [], ◌∷◌, IsSome, is_at, nat_cmp_total, exact_unsigned, cases_lt, IsKnownByHeld, IsSomeAnd, IsShape, AreEmptyRows, is_eq, MapBelow, MapOutgrows, none_below, below_held, held_below, inl, ◌↔◌, length}
+use Rattle.pfair_replica.proofs.Common.{nat_cmp, option_and_then, eqb-true, get, MapJoins, MapPartly, Held, held_join, HeldBelow, Flat, One, joins_held, below_itself, join_first, join_assoc, join_idem, Logged, IsEntry, entry_eq, entry_exact, Contents, Replica, IsReplica, only, Row, held_in, IsFull, IsReplicaRows, ◌≡◌, inr, ⊎_elim, arith, ◌⊎◌, ◌<◌, ◌≤◌, ℕ, Option, Some, List, Result, OnErr, FlatJoins, join_none, ltb-true, leb-true, and_parts, Below, contents_join, join, with_entry, OfferedStays, refl, subst, sym, Bool, true, false, cond, ◌==◌, common_steps, eq_by_cmp, cases_Bool, cases_eq, eq-eqb, ne_eqb, none-some, IsOrdered, ◌∙◌, ap, ◌≢◌, None, [], ◌∷◌, IsSome, is_at, nat_cmp_total, exact_unsigned, cases_lt, IsKnownByHeld, IsSomeAnd, IsShape, AreEmptyRows, is_eq, MapBelow, MapOutgrows, none_below, below_held, held_below, inl, ◌↔◌, length, OnOk, ◌&&◌, nat_lt, nat_le, if◌then◌else◌, IsTrue, nat_eq, IsPartlyMerged, has_key, has_shape, taken, absorbed, Equal-is, eq_by_cmp_equiv, tied_itself, same_entries, FlatBelow}
 use Rattle.pfair_lattice.specs.Order.{OptionJoins, OptionPartly, OptionOutgrows}
-use Rattle.pfair_replica.specs.Faults.{IsPartlyMerged}
-use Rattle.pfair_replica.specs.Replica.{has_key, has_shape, taken, absorbed}
 use Rattle.std.specs.Map.{set_value}
-use Rattle.std.specs.Cmp.{Equal-is, eq_by_cmp_equiv, tied_itself}
 use Rattle.std.proofs.lemmas.Map.{lookup-set_value, keys-set_value}
 use Rattle.std.proofs.lemmas.Map.Steps.{set_value_same}
-use Rattle.pfair_lattice.specs.Entries.{same_entries}
 use Rattle.std.specs.List.Sorted.{IsStrictlySortedBy}
 use Rattle.std.proofs.lemmas.Map.Entries.{lookup_head}
-use Rattle.pfair_lattice.specs.Held.{FlatBelow}
 
 -- Rows joined, and what stays true of what they hold.
 

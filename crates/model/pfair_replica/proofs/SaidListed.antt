@@ -1,11 +1,8 @@
 -- What the lists of what is said contain, and in which order the lists stand.
-use Rattle.pfair_replica.proofs.Common.{true≢false, ltb-true, lt-ltb, One, Torn, Held, Logged, EntryKey, Replica, IsReplica, sound_beginning, mark, is_torn, entry_key, numbers_below, numbers_to, torn_in, torn_keys, fallen_at, fallen_in, fallen_keys, IsListed, Among, among_contains, contains_among, among_filter, filter_among, among_map, map_among, among_flat, flat_among, below_among, ℕ, zero, suc, ◌+◌, ◌<◌, ◌≤◌, ◌≡◌, refl, sym, ap, subst, arith, inl, true, cond, [], ◌∷◌, length, Some, filter, Contains, eqb-true, eq-eqb, map-append, said_by, said_in, said, among_left, among_right, among_append, among_at, among_below, ◌∙◌, inr, ⊎_elim, Bool, List, ◌++◌, map, flat_map, slice_get, Option, Announcement, Said, append-nil, drop_all, drop_more, slice_get_within, get_or_from_slice_get, said_behind, None, append_assoc, ◌≢◌, IsSome}
-use Rattle.std.proofs.Common.{get_or, AllPairs, drop}
-use Rattle.pfair_replica.specs.Replica.{IsSaidAt, ComesBefore, key_of, IsSaid}
+use Rattle.pfair_replica.proofs.Common.{true≢false, ltb-true, lt-ltb, One, Torn, Held, Logged, EntryKey, Replica, IsReplica, sound_beginning, mark, is_torn, entry_key, numbers_below, numbers_to, torn_in, torn_keys, fallen_at, fallen_in, fallen_keys, IsListed, Among, among_contains, contains_among, among_filter, filter_among, among_map, map_among, among_flat, flat_among, below_among, ℕ, zero, suc, ◌+◌, ◌<◌, ◌≤◌, ◌≡◌, refl, sym, ap, subst, arith, inl, true, cond, [], ◌∷◌, length, Some, filter, Contains, eqb-true, eq-eqb, map-append, said_by, said_in, said, among_left, among_right, among_append, among_at, among_below, ◌∙◌, inr, ⊎_elim, Bool, List, ◌++◌, map, flat_map, slice_get, Option, Announcement, Said, append-nil, drop_all, drop_more, slice_get_within, get_or_from_slice_get, said_behind, None, append_assoc, ◌≢◌, IsSome, get_or, AllPairs, drop, IsSaidAt, ComesBefore, key_of, IsSaid, held_after}
 use Rattle.pfair_replica.proofs.Marks.{least_join, agreement, below_agree, longest_run, read_by_number, beginnings_grow, least_mark, mark_le, frontier_le, same_said}
 use Rattle.pfair_replica.proofs.Merging.{known_by_held, offered_stays}
 use Rattle.pfair_replica.proofs.TornKeys.{flat_more, no_key_no_torn, untorn_by_test, test_by_untorn}
-use Rattle.pfair_replica.specs.Laws.{held_after}
 
 -- What the lists of torn and of fallen keys contain.
 

@@ -1,8 +1,5 @@
 -- The torn keys, the first of them, and the test that there is one.
-use Rattle.pfair_replica.proofs.Common.{map-append, option_or, Replica, IsLeastMissing, missing, numbers_below, numbers_to, ℕ, zero, suc, ◌+◌, ◌-◌, ◌<◌, ◌≤◌, ◌≡◌, sym, ap, ◌∙◌, subst, arith, Bool, true, false, cond, [], ◌∷◌, ◌++◌, Option, Some, None, find, add-one, option_map, true≢false, or_parts, cases_lt, append-nil, flat_map-append, Held, Torn, Logged, Among, below_among, IsReplica, Untorn, is_torn, has_torn, entry_key, torn_in, torn_keys, refl, inl, inr, List, ◌≢◌, ◌↔◌, map, filter, flat_map, slice_get, is_some}
-use Rattle.std.proofs.lemmas.List.Folds.{find-append}
-use Rattle.std.proofs.Common.{◌||◌}
-use Rattle.std.specs.List.{list_any}
+use Rattle.pfair_replica.proofs.Common.{map-append, option_or, Replica, IsLeastMissing, missing, numbers_below, numbers_to, ℕ, zero, suc, ◌+◌, ◌-◌, ◌<◌, ◌≤◌, ◌≡◌, sym, ap, ◌∙◌, subst, arith, Bool, true, false, cond, [], ◌∷◌, ◌++◌, Option, Some, None, find, add-one, option_map, true≢false, or_parts, cases_lt, append-nil, flat_map-append, Held, Torn, Logged, Among, below_among, IsReplica, Untorn, is_torn, has_torn, entry_key, torn_in, torn_keys, refl, inl, inr, List, ◌≢◌, ◌↔◌, map, filter, flat_map, slice_get, is_some, find-append, ◌||◌, list_any}
 
 -- Numbers gone through one after another.
 

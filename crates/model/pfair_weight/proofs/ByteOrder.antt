@@ -1,10 +1,6 @@
 -- The order of names, by the numbers that their bytes spell, the first of them the highest.
-use Rattle.std.proofs.Common.{◌%◌, length-append}
-use Rattle.pfair_weight.proofs.Common.{w128, byte_at, byte_worth, bytes_high_first, from_be_bytes, to_be_bytes, sum_through, slice_cmp, nat_cmp, ordering_then, MatchOrdering, pow-suc, div-mul-add, mul-add-lt, IsTaskName, before_zero, with_zeros, ℕ, zero, suc, ◌≡◌, ◌+◌, ◌-◌, ◌*◌, ◌/◌, ◌^◌, ◌<◌, List, [], ◌∷◌, ◌++◌, length, refl, sym, ap, subst, ◌∙◌, arith, replicate, slice_index, nat_tests}
+use Rattle.pfair_weight.proofs.Common.{w128, byte_at, byte_worth, bytes_high_first, from_be_bytes, to_be_bytes, sum_through, slice_cmp, nat_cmp, ordering_then, MatchOrdering, pow-suc, div-mul-add, mul-add-lt, IsTaskName, before_zero, with_zeros, ℕ, zero, suc, ◌≡◌, ◌+◌, ◌-◌, ◌*◌, ◌/◌, ◌^◌, ◌<◌, List, [], ◌∷◌, ◌++◌, length, refl, sym, ap, subst, ◌∙◌, arith, replicate, slice_index, nat_tests, ◌%◌, length-append, Greater, ranked, length-replicate}
 use Rattle.std.specs.declared.cmp.Ordering.{Ordering}
-use Rattle.std.specs.declared.cmp.Ordering.TheVariants.{Greater}
-use Rattle.std.proofs.lemmas.Cmp.{ranked}
-use Rattle.std.proofs.lemmas.List.{length-replicate}
 use Rattle.pfair_weight.specs.Name.{number_of, name_of, IsNumber}
 use Rattle.pfair_weight.proofs.Length.{first_apart, AreBytes, name_bytes, read_back, zeros_order}
 

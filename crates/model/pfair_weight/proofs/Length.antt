@@ -1,10 +1,6 @@
 -- The length of a name, by the number that its bytes spell, the first of them the lowest, with the zeros after it.
-use Rattle.std.proofs.Common.{◌==◌, drop}
-use Rattle.pfair_weight.proofs.Common.{slice_cmp, nat_cmp, ordering_then, may_stand, IsTaskName, before_zero, with_zeros, IsPadded, ℕ, zero, suc, ◌≡◌, ◌+◌, ◌-◌, ◌<◌, ◌≤◌, true, false, List, [], ◌∷◌, ◌++◌, length, get_or, sym, ap, ◌∙◌, subst, arith, replicate, slice_index, nat_tests, common_steps, w128, byte_worth, from_le_bytes, leading_zeros, sum_through, leading_top, pow_pos, pow-suc, ◌*◌, ◌/◌, ◌^◌, take, refl}
-use Rattle.std.specs.declared.cmp.Ordering.TheVariants.{Equal}
+use Rattle.pfair_weight.proofs.Common.{slice_cmp, nat_cmp, ordering_then, may_stand, IsTaskName, before_zero, with_zeros, IsPadded, ℕ, zero, suc, ◌≡◌, ◌+◌, ◌-◌, ◌<◌, ◌≤◌, true, false, List, [], ◌∷◌, ◌++◌, length, get_or, sym, ap, ◌∙◌, subst, arith, replicate, slice_index, nat_tests, common_steps, w128, byte_worth, from_le_bytes, leading_zeros, sum_through, leading_top, pow_pos, pow-suc, ◌*◌, ◌/◌, ◌^◌, take, refl, ◌==◌, drop, Equal, nat_list_cmp_total, tied_itself, drop-replicate}
 use Rattle.std.proofs.lemmas.Bool.{ne_eqb, cases_lt}
-use Rattle.std.proofs.lemmas.Cmp.{nat_list_cmp_total, tied_itself}
-use Rattle.std.proofs.lemmas.List.{drop-replicate}
 use Rattle.std.proofs.Math.Pow.{pow-add, pow_mono}
 use Rattle.std.proofs.Math.Seq.{take-append_seam}
 use Rattle.pfair_weight.specs.declared.name.TaskName.TheInside.{Inside}

@@ -1,9 +1,7 @@
 -- Lists in which no two have one name.
-use Rattle.std.proofs.Common.{◌≢◌, Bool, cond, map, filter, AllPairs}
-use Rattle.pfair_weight.proofs.Common.{bytes_decides, NameValue, name_eq, NamesApart, ◌≡◌, true, false, List, [], ◌∷◌, ◌++◌, length, ◌<◌, sym, subst, ◌∙◌, arith}
+use Rattle.pfair_weight.proofs.Common.{bytes_decides, NameValue, name_eq, NamesApart, ◌≡◌, true, false, List, [], ◌∷◌, ◌++◌, length, ◌<◌, sym, subst, ◌∙◌, arith, ◌≢◌, Bool, cond, map, filter, AllPairs, get_or-map, length-map, map_push}
 use Rattle.std.specs.List.{AllByRecursion, IsDistinct}
 use Rattle.std.proofs.SliceLists.{all_by_recursion_push}
-use Rattle.std.proofs.lemmas.List.{get_or-map, length-map, map_push}
 use Rattle.std.proofs.lemmas.Map.Made.{AllPairs-from_IsDistinct, IsDistinct-from_AllPairs}
 
 module _ {A : Type 0} (name : A → NameValue) where

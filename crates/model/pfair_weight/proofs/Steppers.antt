@@ -1,7 +1,5 @@
 -- A stepper's next subtask.
-use Rattle.pfair_weight.proofs.Common.{div_ceil, div_ceil_times, mul-le, le_refl, MAX_CLOSE, ◌≡◌, ℕ, ◌+◌, ◌-◌, ◌*◌, ◌<◌, ◌≤◌, ◌^◌, arith, ap, ◌∙◌, Ratio, MAX_INDEX, ◌/◌, Close}
-use Rattle.pfair_weight.specs.Window.{Share}
-use Rattle.std.proofs.Common.{Option, Some}
+use Rattle.pfair_weight.proofs.Common.{div_ceil, div_ceil_times, mul-le, le_refl, MAX_CLOSE, ◌≡◌, ℕ, ◌+◌, ◌-◌, ◌*◌, ◌<◌, ◌≤◌, ◌^◌, arith, ap, ◌∙◌, Ratio, MAX_INDEX, ◌/◌, Close, Share, Option, Some}
 use Rattle.pfair_weight.specs.declared.stepper.Stepper.TheInside.{Inside}
 use Rattle.pfair_weight.specs.Stepped.{IsStepped, IsCascadeOf}
 

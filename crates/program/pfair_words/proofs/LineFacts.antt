@@ -1,12 +1,10 @@
 -- What the parser makes of words of which none is a flag.
-use Rattle.pfair_words.proofs.Common.{first_value-rows, one_text-rows, App, Kinds, Row, Rule, Text, fault_of, first_of, subcommand_of, walk_stopped, line, cost, count, decisions, lags, period, replay, windows, IsPlain, ◌≡◌, ◌∙◌, ℕ, Bool, true, false, refl, subst, sym, ap, List, [], ◌∷◌, Some, None, codes, arith, bytes_eq, long_of, short_of, idle, nothing_held, one_of, subcommand_met, or_else, step_fault, turn_fault, accepts, IsAmong, ErrorKind, DisplayHelp, DisplayVersion, Named, Begins, IsNamedFirst, ProgramFault, CommandLine, Memory, Option, inl, inr, Result, Ok, Err, IsAnswer, IsAnswerTo, IsAnswerToAny, Asked}
-use Rattle.std.proofs.Common.{◌≢◌, cond, ap₂, nat_eq, rules, zero, suc, true≢false, is_some, length}
+use Rattle.pfair_words.proofs.Common.{first_value-rows, one_text-rows, App, Kinds, Row, Rule, Text, fault_of, first_of, subcommand_of, walk_stopped, line, cost, count, decisions, lags, period, replay, windows, IsPlain, ◌≡◌, ◌∙◌, ℕ, Bool, true, false, refl, subst, sym, ap, List, [], ◌∷◌, Some, None, codes, arith, bytes_eq, long_of, short_of, idle, nothing_held, one_of, subcommand_met, or_else, step_fault, turn_fault, accepts, IsAmong, ErrorKind, DisplayHelp, DisplayVersion, Named, Begins, IsNamedFirst, ProgramFault, CommandLine, Memory, Option, inl, inr, Result, Ok, Err, IsAnswer, IsAnswerTo, IsAnswerToAny, Asked, ◌≢◌, cond, ap₂, nat_eq, rules, zero, suc, true≢false, is_some, length, MissingSubcommand, ValueValidation}
 use Rattle.std.proofs.lemmas.Bool.Decides.{nat_tests}
 use Rattle.clap.specs.Walk.{Names, Walk, arg_by_index, finished, rows_after, settled, to_positional, value, walk_from, walked, Held, Outcome, after_flag, arg_by_long, bundle_met, long_met, plain}
 use Rattle.clap.specs.Simple.{Shape, built, built_leaf, entered, inherited, names_of}
 use Rattle.clap.specs.Faults.{check_fault, defaults_fault, level_fault, settle_fault, walk_fault, flags_fault, long_fault}
 use Rattle.clap.specs.Facts.{parser_of_value}
-use Rattle.clap.specs.declared.error.kind.ErrorKind.TheVariants.{MissingSubcommand, ValueValidation}
 use Rattle.clap.proofs.OnLiterals.{clap_on_literals}
 use Rattle.std.proofs.lemmas.Slice.Eq.{bytes_eq-Decides}
 use Rattle.pfair_words.specs.declared.schedule.Asked.TheVariants.{Help}

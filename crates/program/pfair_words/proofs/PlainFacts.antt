@@ -1,11 +1,8 @@
 -- What is answered to the forms of the commands.
-use Rattle.std.proofs.Common.{IsErrAnd, ◌↔◌, ◌≤◌}
-use Rattle.pfair_words.proofs.Common.{App, Text, subcommand_rows_of, IsParsed, Named, Help, Matches, ProgramFault, CommandLine, Memory, ◌≡◌, subst, sym, inl, inr, List, Result, Ok, Err, IsAmong, Row, fault_of, first_of, subcommand_of, IsFlag, Spells, line, windows, replay, decisions, lags, AskNumbers, HasCount, IsDecisionsAnswer, IsLagsAnswer, IsPlain, IsPlainAnswer, IsRefusal, IsReplayAnswer, IsTextAnswer, IsWindowsAnswer, Weight, ℕ, Bool, true, false, refl, ap, ◌∙◌, arith, [], ◌∷◌, Option, Some, IfOk, codes, one_of, ErrorKind, DisplayHelp, DisplayVersion, accepts, IsAnswer, IsAnswerTo, IsAnswerToAny, IsText, Asked}
-use Rattle.pfair_words.specs.Parse.{ToAny, ToWords, ToUntaken, IsTextKind}
+use Rattle.pfair_words.proofs.Common.{App, Text, subcommand_rows_of, IsParsed, Named, Help, Matches, ProgramFault, CommandLine, Memory, ◌≡◌, subst, sym, inl, inr, List, Result, Ok, Err, IsAmong, Row, fault_of, first_of, subcommand_of, IsFlag, Spells, line, windows, replay, decisions, lags, AskNumbers, HasCount, IsDecisionsAnswer, IsLagsAnswer, IsPlain, IsPlainAnswer, IsRefusal, IsReplayAnswer, IsTextAnswer, IsWindowsAnswer, Weight, ℕ, Bool, true, false, refl, ap, ◌∙◌, arith, [], ◌∷◌, Option, Some, IfOk, codes, one_of, ErrorKind, DisplayHelp, DisplayVersion, accepts, IsAnswer, IsAnswerTo, IsAnswerToAny, IsText, Asked, IsErrAnd, ◌↔◌, ◌≤◌, ToAny, ToWords, ToUntaken, IsTextKind, AskWindows}
 use Rattle.pfair_words.specs.declared.command.Parsed.{Parsed}
 use Rattle.clap.specs.declared.builder.value_parser.ValueParser.TheVariants.{Unsigned}
 use Rattle.clap.proofs.ValueTestLemmas.{Accepts-accepts}
-use Rattle.pfair_words.specs.ScheduleAsked.{AskWindows}
 use Rattle.pfair_words.specs.declared.schedule.Asked.TheVariants.{Windows}
 use Rattle.pfair_words.proofs.LineFacts.{first_answer}
 use Rattle.pfair_words.proofs.LineFacts as line

@@ -1,8 +1,5 @@
 -- How long rows are.
-use Rattle.std.proofs.Common.{length-append}
-use Rattle.pfair_entry_row.proofs.Common.{join_with_byte, decimal, Announcement, Arrive, Depart, Late, IsNamed, IsWellSaid, truth, announced_fields, said_fields, IsSpelled, IsSpelledOut, common_steps, ℕ, Bool, true, false, List, [], ◌∷◌, ◌<◌, ◌≤◌, ◌+◌, ◌^◌, arith, length, Option, None, Some}
-use Rattle.std.proofs.lemmas.Fmt.{length-decimal-le}
-use Rattle.pfair_entry_row.specs.Laws.{RowsAreShort}
+use Rattle.pfair_entry_row.proofs.Common.{join_with_byte, decimal, Announcement, Arrive, Depart, Late, IsNamed, IsWellSaid, truth, announced_fields, said_fields, IsSpelled, IsSpelledOut, common_steps, ℕ, Bool, true, false, List, [], ◌∷◌, ◌<◌, ◌≤◌, ◌+◌, ◌^◌, arith, length, Option, None, Some, length-append, length-decimal-le, RowsAreShort}
 use Rattle.pfair_entry_row.proofs.Refused.{sayable}
 
 -- the bytes of fields, each with a comma

@@ -1,12 +1,7 @@
 -- What a log may have is refused by no rule.
-use Rattle.pfair_entry_row.proofs.Common.{Logged, IsEntry, IsWeighed, IsNamed, IsWellSaid, Announcement, Arrive, Depart, Late, IsEntryAt, IsSayable, IsSpelled, IsSpelledOut, ℕ, ◌≡◌, arith, Option, None, Some, Ok, nat_tests, is_plain-name, All, AllByRecursion, join_with_byte, list_all, list_any, slice_split_at, is_plain-decimal, truth, announced_fields, said_fields, entry_fields, Bool, true, false, List, [], ◌∷◌, ◌≢◌, ◌==◌, refl, length, is_plain, entry_row, sym, ◌∙◌, ap, Err, SaysNothing}
+use Rattle.pfair_entry_row.proofs.Common.{Logged, IsEntry, IsWeighed, IsNamed, IsWellSaid, Announcement, Arrive, Depart, Late, IsEntryAt, IsSayable, IsSpelled, IsSpelledOut, ℕ, ◌≡◌, arith, Option, None, Some, Ok, nat_tests, is_plain-name, All, AllByRecursion, join_with_byte, list_all, list_any, slice_split_at, is_plain-decimal, truth, announced_fields, said_fields, entry_fields, Bool, true, false, List, [], ◌∷◌, ◌≢◌, ◌==◌, refl, length, is_plain, entry_row, sym, ◌∙◌, ap, Err, SaysNothing, keyed, IsRowFaultOf, SaysWhatIsRefused, ◌++◌, zero, suc, append_assoc, not, ◌⊎◌, inl, inr, and_from, and_parts, eqb-false, ne_eqb, not-true, or_parts, is_mark, RowsAreLines, TextsAreRows, RowsAreReadOneWay}
 use Rattle.pfair_entry.proofs.Refusals.{no_refusal}
-use Rattle.pfair_entry_row.specs.Row.{keyed, IsRowFaultOf, SaysWhatIsRefused}
 use Rattle.pfair_entry_row.proofs.RowFields.{Same, no_comma-plain, entry_row_injective}
-use Rattle.std.proofs.Common.{◌++◌, zero, suc, append_assoc, not, ◌⊎◌, inl, inr}
-use Rattle.std.proofs.lemmas.Bool.{and_from, and_parts, eqb-false, ne_eqb, not-true, or_parts}
-use Rattle.pfair_text.specs.Rows.{is_mark}
-use Rattle.pfair_entry_row.specs.Laws.{RowsAreLines, TextsAreRows, RowsAreReadOneWay}
 use Rattle.pfair_entry_row.specs.declared.fault.RowFault.{RowFault}
 use Rattle.pfair_entry_row.specs.declared.fault.RowFault.TheVariants.{NoRow, Refused, NoSuchProcessor, NumberOutOfRange}
 

@@ -1,16 +1,11 @@
 -- The fields of a row are those of what it says, and of nothing else.
-use Rattle.std.proofs.Common.{◌-◌, take, drop, subst, Result, MatchResult}
-use Rattle.pfair_entry_row.proofs.Common.{join_with_byte, position_or_len, slice_split_at, slice_split_first, slice_split_none, HasNoComma, HasNone, ℕ, List, [], ◌∷◌, ◌≡◌, ◌<◌, ◌≤◌, ◌+◌, ◌==◌, arith, length, cond, ltb, Option, Some, None, fails_before_first, nat_tests, common_steps, parts, decimal, is_plain-decimal, ◌^◌, true, is_plain, ◌≢◌, ap, ◌∙◌, sym, Ok, Err, join_with_byte-slice_split, Logged, Announcement, Arrive, Depart, Late, dash, truth, announced_fields, said_fields, entry_fields, entry_row, IsSayable, IsSpelled, IsSpelledOut, Bool, false, refl, SaysNothing}
+use Rattle.pfair_entry_row.proofs.Common.{join_with_byte, position_or_len, slice_split_at, slice_split_first, slice_split_none, HasNoComma, HasNone, ℕ, List, [], ◌∷◌, ◌≡◌, ◌<◌, ◌≤◌, ◌+◌, ◌==◌, arith, length, cond, ltb, Option, Some, None, fails_before_first, nat_tests, common_steps, parts, decimal, is_plain-decimal, ◌^◌, true, is_plain, ◌≢◌, ap, ◌∙◌, sym, Ok, Err, join_with_byte-slice_split, Logged, Announcement, Arrive, Depart, Late, dash, truth, announced_fields, said_fields, entry_fields, entry_row, IsSayable, IsSpelled, IsSpelledOut, Bool, false, refl, SaysNothing, ◌-◌, take, drop, subst, Result, MatchResult, parts_at, texts, both_ways, IsAscii-decimal, parse-decimal, decimal_injective, said_texts, Notes}
 use Rattle.std.proofs.lemmas.List.{get_or-take}
-use Rattle.pfair_entry_row.specs.Row.{parts_at, texts}
-use Rattle.std.proofs.lemmas.Bool.{both_ways}
 use Rattle.std.proofs.lemmas.List.Folds.{list_any_at}
 use Rattle.std.specs.Result.{result_ok}
 use Rattle.std.specs.Str.{IsUtf8}
 use Rattle.std.specs.Str.Parse.{ParsesUnsigned}
-use Rattle.std.proofs.lemmas.Fmt.{IsAscii-decimal, parse-decimal, decimal_injective}
 use Rattle.std.proofs.lemmas.Str.{IsUtf8-from_ascii}
-use Rattle.pfair_entry_row.specs.Line.{said_texts, Notes}
 use Rattle.pfair_entry_row.specs.declared.line.Fields.{Fields}
 
 -- Fields between commas.

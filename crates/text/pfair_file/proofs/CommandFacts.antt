@@ -1,7 +1,5 @@
 -- How a command over a task file ends, whatever it writes.
-use Rattle.pfair_file.proofs.Common.{arith, ℕ, List, Option, None, Some, Result, Ok, Err, ◌≡◌, refl, subst, sym}
-use Rattle.std.proofs.Common.{IfSome, IsErrAnd}
-use Rattle.std.specs.Io.KnownBytes.{Appends, Keeps}
+use Rattle.pfair_file.proofs.Common.{arith, ℕ, List, Option, None, Some, Result, Ok, Err, ◌≡◌, refl, subst, sym, IfSome, IsErrAnd, Appends, Keeps}
 use Rattle.pfair_text.specs.Rows.{TakesPrefix}
 use Rattle.pfair_file.specs.ProgramFaults.{IsCommandOf, TakesOneFile}
 use Rattle.pfair_file.specs.declared.program_fault.ProgramFault.{ProgramFault}

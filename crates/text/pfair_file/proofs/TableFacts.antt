@@ -1,11 +1,10 @@
 -- The tables of an array, one after the other.
 use Rattle.std.proofs.Common.{is_some, append_assoc, append-nil, length-append}
-use Rattle.pfair_file.proofs.Common.{Data, Items, Members, as_table, item, items_view, view, Logs, tables_of, with_entries, with_entry, with_items, FileFault, arith, ℕ, List, [], ◌∷◌, refl, sym, true, Option, None, ◌∙◌, Some, Err, ◌≡◌, ◌+◌, ◌<◌, length, drop, get_or, list_all, length-set, get_or-set_same, get_or-set_other, Logged, empty_logs, logs_after, longer_log, ◌++◌, Result, Ok, ap, common_steps, Made, is_short, lists_of, close_all, closed, Vec, Global, ◌≤◌, vec_len, All}
+use Rattle.pfair_file.proofs.Common.{Data, Items, Members, as_table, item, items_view, view, Logs, tables_of, with_entries, with_entry, with_items, FileFault, arith, ℕ, List, [], ◌∷◌, refl, sym, true, Option, None, ◌∙◌, Some, Err, ◌≡◌, ◌+◌, ◌<◌, length, drop, get_or, list_all, length-set, get_or-set_same, get_or-set_other, Logged, empty_logs, logs_after, longer_log, ◌++◌, Result, Ok, ap, common_steps, Made, is_short, lists_of, close_all, closed, Vec, Global, ◌≤◌, vec_len, All, LogsAreInFileOrder, entries_for, entry_for, entry_list, IsOfFirstTable, FirstTableIsAtFault}
 use Rattle.toml.specs.declared.value.Value.{Value}
 use Rattle.toml.proofs.Views.{items_view-drop}
 use Rattle.pfair_entry.specs.Kinds.{and_then}
 use Rattle.pfair_entry.specs.declared.notice.NoticeFault.{NoticeFault}
-use Rattle.pfair_file.specs.Documents.{LogsAreInFileOrder, entries_for, entry_for, entry_list, IsOfFirstTable, FirstTableIsAtFault}
 use Rattle.std.proofs.lemmas.Bool.{and_from}
 use Rattle.std.proofs.lemmas.List.Elements.{All-head, All-tail}
 use Rattle.std.proofs.lemmas.Bool.Decides.{nat_tests}

@@ -1,6 +1,5 @@
 -- Texts that grow by the rows of one slot after another.
-use Rattle.pfair_output.proofs.Common.{same_Some, first_left, line, lines_text, Table, placed_row, placed_rows_from, ℕ, ◌+◌, ◌<◌, ◌≡◌, arith, List, ◌++◌, Some, length, drop, slice_get, append_assoc, Pick, is_plain, is_plain-decimal, suc, true, ◌∷◌, ℤ, decimal, signed_decimal, to_z-of_z, append-nil, drop_all, IsOpen, TextWriter, text_so_far, lines_text-append, slots_from, ◌≤◌, sym, ap, ◌∙◌}
-use Rattle.std.proofs.Common.{pos, negsuc, FitsSigned}
+use Rattle.pfair_output.proofs.Common.{same_Some, first_left, line, lines_text, Table, placed_row, placed_rows_from, ℕ, ◌+◌, ◌<◌, ◌≡◌, arith, List, ◌++◌, Some, length, drop, slice_get, append_assoc, Pick, is_plain, is_plain-decimal, suc, true, ◌∷◌, ℤ, decimal, signed_decimal, to_z-of_z, append-nil, drop_all, IsOpen, TextWriter, text_so_far, lines_text-append, slots_from, ◌≤◌, sym, ap, ◌∙◌, pos, negsuc, FitsSigned}
 use Rattle.std.specs.Int.{w64}
 use Rattle.std.proofs.lemmas.Bool.{and_parts, ne_eqb}
 use Rattle.pfair_text.proofs.NameFacts.{is_plain-name}

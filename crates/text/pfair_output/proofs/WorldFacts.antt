@@ -1,12 +1,9 @@
 -- A book that is notified of a run's slots has the members that stay, with their lags.
-use Rattle.std.proofs.Common.{Bool, false, cond, filter}
-use Rattle.pfair_output.proofs.Common.{AllByRecursion, flat_map, map-append, append-nil, flat_map-append, Replica, frontier, said, numbers_below, replica_of, Settings, Origin, Story, Table, machine, members_before, names_task, slot_of, history, world, table, decisions, with_decisions, Tally, Book, empty_book, tally_of, has_run, entered_with, slot_more, is_staying, lag_row, lag_rows, booked, all_booked, slot_booked, all_slots_booked, tally_row, book_rows, rows_booked, all_entered, entered_again, first_book, ℕ, zero, suc, ◌+◌, ◌-◌, ◌≤◌, ◌≡◌, refl, sym, ap, ◌∙◌, arith, subst, true, not, List, [], ◌∷◌, ◌++◌, Some, None, map, length, append_assoc, min, NameValue, Share, Announcement, Arrive, Depart, Late, Dispatch, Decision, Member, Pick, Decided, option_map, none-some, same_Some, first_left, ◌<◌, take, slice_get, length-map, lines_text, lines_text-append, decided_rows, slots_from, decided_below}
+use Rattle.pfair_output.proofs.Common.{AllByRecursion, flat_map, map-append, append-nil, flat_map-append, Replica, frontier, said, numbers_below, replica_of, Settings, Origin, Story, Table, machine, members_before, names_task, slot_of, history, world, table, decisions, with_decisions, Tally, Book, empty_book, tally_of, has_run, entered_with, slot_more, is_staying, lag_row, lag_rows, booked, all_booked, slot_booked, all_slots_booked, tally_row, book_rows, rows_booked, all_entered, entered_again, first_book, ℕ, zero, suc, ◌+◌, ◌-◌, ◌≤◌, ◌≡◌, refl, sym, ap, ◌∙◌, arith, subst, true, not, List, [], ◌∷◌, ◌++◌, Some, None, map, length, append_assoc, min, NameValue, Share, Announcement, Arrive, Depart, Late, Dispatch, Decision, Member, Pick, Decided, option_map, none-some, same_Some, first_left, ◌<◌, take, slice_get, length-map, lines_text, lines_text-append, decided_rows, slots_from, decided_below, Bool, false, cond, filter, NamesApart, name_eq, IsWholePlan}
 use Rattle.std.specs.Cmp.Lexicographic.{nat_list_eq_equiv}
 use Rattle.std.specs.Map.{lookup}
-use Rattle.pfair_weight.specs.Name.{NamesApart, name_eq}
 use Rattle.pfair_weight.proofs.NamesApart.{apart_head, apart_nil, apart_tail}
 use Rattle.pfair_entry.specs.declared.entry.Said.{Said}
-use Rattle.pfair_table.specs.Refinement.{IsWholePlan}
 use Rattle.pfair_admission.specs.declared.decision.Decision.TheVariants.{Admitted, Departing, Delayed}
 use Rattle.pfair_admission.specs.Admission.{Machine, member_named, decision, newcomer, with_freeing, with_delay, change, effect, present, all_decided, all_decisions, announcements}
 use Rattle.pfair_admission.proofs.Deciding.{admitted_new}

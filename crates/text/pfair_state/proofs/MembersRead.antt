@@ -1,15 +1,11 @@
 -- What is restored of a state, row after row: members, their late releases, quanta.
-use Rattle.pfair_state.proofs.Common.{ℕ, zero, suc, ◌+◌, ◌<◌, ◌≡◌, arith, refl, ◌∙◌, ap, List, [], ◌∷◌, ◌++◌, Some, None, length, drop, slice_get, Roster, Member, AreLeftAt, sym, subst, Machine, CanBeRestored, name_eq, append-nil, length-append, Delay, as_late, late_said, Row, Late, ◌≢◌, Bool, true, map, append_assoc, not, nat_list_eq_equiv, AllByRecursion, flat_map, length-map, NamesApart, IsBehindMembers, member_of, as_member, member_said, own_said, row_of, MemberRow, ◌%◌, can_add_row, with_row, Carried, Table, names_task, as_quantum, ran_said, Ran, false, ne_eqb, Pick, ArePlacesOf, IsFit}
+use Rattle.pfair_state.proofs.Common.{ℕ, zero, suc, ◌+◌, ◌<◌, ◌≡◌, arith, refl, ◌∙◌, ap, List, [], ◌∷◌, ◌++◌, Some, None, length, drop, slice_get, Roster, Member, AreLeftAt, sym, subst, Machine, CanBeRestored, name_eq, append-nil, length-append, Delay, as_late, late_said, Row, Late, ◌≢◌, Bool, true, map, append_assoc, not, nat_list_eq_equiv, AllByRecursion, flat_map, length-map, NamesApart, IsBehindMembers, member_of, as_member, member_said, own_said, row_of, MemberRow, ◌%◌, can_add_row, with_row, Carried, Table, names_task, as_quantum, ran_said, Ran, false, ne_eqb, Pick, ArePlacesOf, IsFit, MemberIn, and_from, AllDiffer, is_used, IsRestoreFault}
 use Rattle.pfair_weight.proofs.NamesApart.{apart_nil, apart_head, apart_tail}
 use Rattle.pfair_admission.proofs.Restoring.{in_frame_more, left_more, named_more, room_more, in_turn}
 use Rattle.pfair_state.specs.declared.rows.LateRow.{LateRow}
 use Rattle.pfair_admission.specs.Laws.{HaveRoom}
 use Rattle.pfair_admission.specs.Carried.{IsLeftAt}
-use Rattle.pfair_state.specs.declared.rows.Row.TheVariants.{Member as MemberIn}
-use Rattle.std.proofs.lemmas.Bool.{and_from}
 use Rattle.std.proofs.lemmas.Bool.Decides.{nat_tests}
-use Rattle.pfair_table.specs.Places.{AllDiffer, is_used}
-use Rattle.pfair_admission.specs.Carried.{IsRestoreFault}
 use Rattle.pfair_admission.specs.declared.member_state.RestoreFault.{RestoreFault}
 use Rattle.pfair_admission.specs.declared.member_state.RestoreFault.TheVariants.{NotAdmitted, NotLeft, Memory}
 

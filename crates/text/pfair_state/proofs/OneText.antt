@@ -1,6 +1,5 @@
 -- A state follows from its text: rows from lines, and the state from rows.
-use Rattle.pfair_state.proofs.Common.{flat_map, decimal_injective, append_cancel_right, Delay, Carried, Table, lines_text, AreSpelled, IsBehindMembers, IsSpelled, StatesHaveOneText, as_late, fields_of, first_of, late_said, line_of, member_of, member_said, ran_said, row_of, said_of, slot_field, Row, First, Late, Ran, End, ℕ, ◌<◌, ◌≡◌, ◌^◌, refl, sym, ap, ◌∙◌, arith, List, [], ◌∷◌, ◌++◌, Option, Some, None, drop, length, map, slice_get, append_assoc, IfSome, parts}
-use Rattle.pfair_admission.specs.Member.{Member as MemberOf}
+use Rattle.pfair_state.proofs.Common.{flat_map, decimal_injective, append_cancel_right, Delay, Carried, Table, lines_text, AreSpelled, IsBehindMembers, IsSpelled, StatesHaveOneText, as_late, fields_of, first_of, late_said, line_of, member_of, member_said, ran_said, row_of, said_of, slot_field, Row, First, Late, Ran, End, ℕ, ◌<◌, ◌≡◌, ◌^◌, refl, sym, ap, ◌∙◌, arith, List, [], ◌∷◌, ◌++◌, Option, Some, None, drop, length, map, slice_get, append_assoc, IfSome, parts, MemberOf}
 use Rattle.pfair_state.specs.declared.rows.Row.TheVariants.{Member}
 use Rattle.pfair_state.proofs.MembersRead.{no_late}
 use Rattle.pfair_state.proofs.StateRead.{rows_say, behind_members, ends_members, members_there}

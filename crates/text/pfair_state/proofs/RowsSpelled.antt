@@ -1,8 +1,7 @@
 -- The rows that are written of a state are spelled.
-use Rattle.pfair_state.proofs.Common.{is_plain-name, is_plain-decimal, AllByRecursion, flat_map, take_more, get_or_from_slice_get, Member, Delay, IsState, Carried, Table, AreSpelled, IsSpelled, IsSpelledQuantum, IsWritable, first_said, late_said, member_said, own_said, ran_said, said_before_end, End, ℕ, ◌+◌, ◌<◌, ◌≡◌, ◌∙◌, ◌^◌, ap, arith, subst, sym, List, [], ◌∷◌, ◌++◌, min, length, slice_get, take, Some, Result, Ok, Err, OnOk, append-nil, lines_text, fields_of, line_of, Row, refl, Option, map, append_assoc, ◌==◌, parts, parts_at}
+use Rattle.pfair_state.proofs.Common.{is_plain-name, is_plain-decimal, AllByRecursion, flat_map, take_more, get_or_from_slice_get, Member, Delay, IsState, Carried, Table, AreSpelled, IsSpelled, IsSpelledQuantum, IsWritable, first_said, late_said, member_said, own_said, ran_said, said_before_end, End, ℕ, ◌+◌, ◌<◌, ◌≡◌, ◌∙◌, ◌^◌, ap, arith, subst, sym, List, [], ◌∷◌, ◌++◌, min, length, slice_get, take, Some, Result, Ok, Err, OnOk, append-nil, lines_text, fields_of, line_of, Row, refl, Option, map, append_assoc, ◌==◌, parts, parts_at, length-slice_split}
 use Rattle.std.proofs.SliceLists.{all_by_recursion_push}
 use Rattle.pfair_admission.proofs.MemberLists.{each, each_map}
-use Rattle.std.proofs.lemmas.List.Splits.{length-slice_split}
 use Rattle.pfair_state.proofs.Spelled.{parts_of_line, parts_of_text}
 
 -- Numbers and names stand in a line as they are.

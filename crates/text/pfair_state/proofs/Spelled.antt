@@ -1,15 +1,11 @@
 -- Rows that are spelled stand in a text as they are: no field has a comma, and no row a line break.
-use Rattle.pfair_state.proofs.Common.{decimal, AllByRecursion, join_with_byte, list_all, list_any, decimal_by_steps, decimal_injective, IsTaskName, is_plain, lines_text, is_plain-decimal, is_plain-name, IsSpelled, fields_of, line_of, slot_field, MemberRow, Row, First, Late, Ran, End, ℕ, Bool, true, false, List, [], ◌∷◌, ◌++◌, ◌≡◌, ◌≢◌, ◌+◌, ◌%◌, ◌<◌, ◌^◌, ◌∙◌, arith, refl, sym, ap, length, map, Option, None, Some, append_assoc, IfSome, ◌==◌, ne_eqb, parts, parts_at, truth}
-use Rattle.std.proofs.lemmas.Bool.{and_parts}
+use Rattle.pfair_state.proofs.Common.{decimal, AllByRecursion, join_with_byte, list_all, list_any, decimal_by_steps, decimal_injective, IsTaskName, is_plain, lines_text, is_plain-decimal, is_plain-name, IsSpelled, fields_of, line_of, slot_field, MemberRow, Row, First, Late, Ran, End, ℕ, Bool, true, false, List, [], ◌∷◌, ◌++◌, ◌≡◌, ◌≢◌, ◌+◌, ◌%◌, ◌<◌, ◌^◌, ◌∙◌, arith, refl, sym, ap, length, map, Option, None, Some, append_assoc, IfSome, ◌==◌, ne_eqb, parts, parts_at, truth, and_parts, join_with_byte-slice_split, slice_split_at, IsNameFaultOf, dash, HasNone}
 use Rattle.std.proofs.lemmas.List.Folds.{list_any-append}
-use Rattle.std.proofs.lemmas.List.Splits.{join_with_byte-slice_split, slice_split_at}
 use Rattle.pfair_weight.specs.Window.{IsWeight, IsFaultOf as IsWeightFaultOf}
-use Rattle.pfair_weight.specs.Name.{IsFaultOf as IsNameFaultOf}
 use Rattle.pfair_weight.specs.declared.name.NameFault.{NameFault}
 use Rattle.pfair_weight.specs.declared.name.NameFault.TheVariants.{Empty, TooLong, BadByte}
 use Rattle.pfair_weight.specs.declared.weight.WeightFault.{WeightFault}
 use Rattle.pfair_weight.specs.declared.weight.WeightFault.TheVariants.{ZeroCost, CostOverPeriod, PeriodTooLong}
-use Rattle.pfair_entry_row.specs.Row.{dash, HasNone}
 use Rattle.pfair_entry_row.proofs.RowFields.{HaveNoCommas, parts-join, no_comma-plain, truth_injective}
 use Rattle.pfair_entry_row.proofs.Refused.{at_each, joined, truth_is_plain}
 use Rattle.pfair_state.specs.declared.rows.Row.TheVariants.{Member}

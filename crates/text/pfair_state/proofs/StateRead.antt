@@ -1,6 +1,5 @@
 -- The state of rows, from the first to the end.
-use Rattle.std.proofs.Common.{codes, MatchResult}
-use Rattle.pfair_state.proofs.Common.{decimal, flat_map, decimal_digit, length-map, map-append, Member, Delay, Carried, Table, fields_of, first_said, late_said, member_said, ran_said, said_before_end, said_of, first_row, late_row, member_rows, ran_rows, rows_before_end, state_rows, ℕ, ◌≡◌, arith, refl, ap, List, [], ◌∷◌, map, length-append, length-drop, Roster, AreLeftAt, IsBehindMembers, IsWritable, first_of, as_quantum, Row, First, End, ◌+◌, ◌<◌, ◌≤◌, sym, subst, ◌∙◌, ◌++◌, Option, Some, None, Result, Err, length, min, drop, slice_get, append_assoc, ArePlacesOf, IsFit}
+use Rattle.pfair_state.proofs.Common.{decimal, flat_map, decimal_digit, length-map, map-append, Member, Delay, Carried, Table, fields_of, first_said, late_said, member_said, ran_said, said_before_end, said_of, first_row, late_row, member_rows, ran_rows, rows_before_end, state_rows, ℕ, ◌≡◌, arith, refl, ap, List, [], ◌∷◌, map, length-append, length-drop, Roster, AreLeftAt, IsBehindMembers, IsWritable, first_of, as_quantum, Row, First, End, ◌+◌, ◌<◌, ◌≤◌, sym, subst, ◌∙◌, ◌++◌, Option, Some, None, Result, Err, length, min, drop, slice_get, append_assoc, ArePlacesOf, IsFit, codes, MatchResult}
 use Rattle.pfair_state.specs.declared.fault.ReadFault.{ReadFault}
 use Rattle.pfair_state.specs.declared.fault.ReadFault.TheVariants.{Memory}
 use Rattle.pfair_state.specs.declared.rows.FirstRow.{FirstRow}

@@ -1,12 +1,6 @@
 -- The executive as a run: who is which task, and with which offsets in the end.
-use Rattle.std.proofs.Common.{◌≡◌, ℕ, zero, suc, ◌<◌, ◌≤◌, true, cond, Some, arith, ap, refl, sym, ◌∙◌, subst, inl, inr, ◌⊎◌, None, Bool, false, List, [], ◌∷◌, Option, not, ◌&&◌, map, ◌↔◌}
-use Rattle.pfair_in_time.proofs.Common.{cases_eq, Share, release_of, Among, Member, theta, is_departing, Settings, Story, world, Descends, IsSound, find, list_any, true≢false, cases_lt, cases_Bool, NamesApart, apart_head, apart_tail, name_itself, name_eq, Key, among_map, map_among, among_all, next_key, member_named, eligible, named_world, any_among, index_of, apart_map}
+use Rattle.pfair_in_time.proofs.Common.{cases_eq, Share, release_of, Among, Member, theta, is_departing, Settings, Story, world, Descends, IsSound, find, list_any, true≢false, cases_lt, cases_Bool, NamesApart, apart_head, apart_tail, name_itself, name_eq, Key, among_map, map_among, among_all, next_key, member_named, eligible, named_world, any_among, index_of, apart_map, ◌≡◌, ℕ, zero, suc, ◌<◌, ◌≤◌, true, cond, Some, arith, ap, refl, sym, ◌∙◌, subst, inl, inr, ◌⊎◌, None, Bool, false, List, [], ◌∷◌, Option, not, ◌&&◌, map, ◌↔◌, first_names, Task, Subtask, Schedule, is_among, NoneTwice, same_task, same_subtask, is_row, has_run, task_exact, subtask_exact, ran_at, ran_by, ran_more, false_from_ne_true, found_own}
 use Rattle.pfair_in_time.proofs.Worlds.{runs, IsHere, on, on_next, same_member, here, came_from, goes_to, HaveWeights, keys_at, keys_apart, chosen_member, runs_chosen, chosen_runs, next_new, any_from_among}
-use Rattle.pfair_order.proofs.InOrder.{first_names}
-use Rattle.pfair_optimal.specs.Schedule.{Task, Subtask, Schedule, is_among, NoneTwice, same_task, same_subtask, is_row, has_run}
-use Rattle.pfair_optimal.proofs.Past.{task_exact, subtask_exact, ran_at, ran_by, ran_more}
-use Rattle.std.proofs.lemmas.Bool.{false_from_ne_true}
-use Rattle.pfair_table.proofs.QueueKept.{found_own}
 
 -- One incarnation over many slots.
 

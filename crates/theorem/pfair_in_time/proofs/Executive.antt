@@ -1,17 +1,9 @@
 -- The executive keeps the premises of a run, so no admitted task misses.
-use Rattle.std.proofs.Common.{◌≡◌, ℕ, suc, ◌+◌, ◌-◌, ◌*◌, ◌<◌, ◌≤◌, List, length, arith, ap, inl, inr, get_or, if◌then◌else◌, zero, [], ◌∷◌, refl, subst, sym, map, None, sum_by, ◌%◌, true, false, Option, Some, ◌∙◌, ◌⊎◌, not, filter, nat_le, cond}
-use Rattle.pfair_in_time.proofs.Common.{Contains, cases_lt, cases_eq, lt-ltb, le-ltb, slice_get_within, slice_get-get_or, Share, IsWeight, deadline_of, b_bit_of, group_deadline_of, deadline_rises_strictly, b_bit_at_most_one, Key, Member, theta, busy_until, theta_rises, sum_by-cons, units_of, announcements, room_boundary, Settings, machine, counted, counted_one, Story, history, world, world_counted, Among, true≢false, cases_order, and_parts, and_from, not-true, not_from_false, le-leb, length-map, release_of, among_contains, contains_among, filter_among, map_among, is_departing, eligible_from, next_key, eligible, is_eligible, IsSound, any_among, eligible_no_later, same_Some, cases_Bool, leb-true, starts_job_of, eligible_at_job, eligible_not_early}
-use Rattle.pfair_weight.specs.WindowFacts.{group_deadline_light, group_deadline_whole, group_deadline_heavy, group_deadline_not_before, group_deadline_rises, by_kind}
+use Rattle.pfair_in_time.proofs.Common.{Contains, cases_lt, cases_eq, lt-ltb, le-ltb, slice_get_within, slice_get-get_or, Share, IsWeight, deadline_of, b_bit_of, group_deadline_of, deadline_rises_strictly, b_bit_at_most_one, Key, Member, theta, busy_until, theta_rises, sum_by-cons, units_of, announcements, room_boundary, Settings, machine, counted, counted_one, Story, history, world, world_counted, Among, true≢false, cases_order, and_parts, and_from, not-true, not_from_false, le-leb, length-map, release_of, among_contains, contains_among, filter_among, map_among, is_departing, eligible_from, next_key, eligible, is_eligible, IsSound, any_among, eligible_no_later, same_Some, cases_Bool, leb-true, starts_job_of, eligible_at_job, eligible_not_early, ◌≡◌, ℕ, suc, ◌+◌, ◌-◌, ◌*◌, ◌<◌, ◌≤◌, List, length, arith, ap, inl, inr, get_or, if◌then◌else◌, zero, [], ◌∷◌, refl, subst, sym, map, None, sum_by, ◌%◌, true, false, Option, Some, ◌∙◌, ◌⊎◌, not, filter, nat_le, cond, group_deadline_light, group_deadline_whole, group_deadline_heavy, group_deadline_not_before, group_deadline_rises, by_kind, keys_total, goes_before, place_of, at_place, less_by_rank, first_within, by_rank_first, once_from_names, busy_bound_of, Task, Subtask, Schedule, is_among, same_task, release, deadline, b_bit, group_deadline, busy_bound, is_row, has_run, IsNext, GoesFirst, IsRunBelow, task_exact, ran_by, ran_more, ran_at, false_from_ne_true}
 use Rattle.pfair_order.specs.Order.{pd2_cmp, GoesBefore, rank, first_by_rank, EachOnce}
-use Rattle.pfair_order.proofs.KeyLaws.{keys_total, goes_before}
-use Rattle.pfair_order.proofs.RankLemmas.{place_of, at_place, less_by_rank, first_within}
-use Rattle.pfair_order.proofs.InOrder.{by_rank_first, once_from_names}
-use Rattle.pfair_optimal.specs.Schedule.{busy_bound_of, Task, Subtask, Schedule, is_among, same_task, release, deadline, b_bit, group_deadline, busy_bound, is_row, has_run, IsNext, GoesFirst, IsRunBelow}
 use Rattle.pfair_admission.specs.Laws.{HaveRoom}
-use Rattle.pfair_optimal.proofs.Past.{task_exact, ran_by, ran_more, ran_at}
 use Rattle.pfair_in_time.proofs.Worlds.{any_from_among, runs, keys_at, keys_apart, runs_chosen, chosen_runs, here, HaveWeights, same_member, on_next, index_after}
 use Rattle.pfair_in_time.proofs.AsRun.{line_of, back_to, on_to, IsGone, test_among, task_of, subtask_of, is_task, last_of, or_else, weight_in, offset_in, is_running, row_of, as_run, row_member, member_row, rows_apart, IsFinal, final, next_counted, all_before_ran, none_after_ran, find_task}
-use Rattle.std.proofs.lemmas.Bool.{false_from_ne_true}
 use Rattle.pfair_optimal.proofs.Counting.{beginning_none_misses, beginning_in_time}
 
 -- How long a claim is held, and who goes before whom.

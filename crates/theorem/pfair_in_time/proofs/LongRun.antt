@@ -1,22 +1,11 @@
 -- Runs that follow one another, beside the one long run.
-use Rattle.std.proofs.Common.{◌≡◌, ℕ, ◌+◌, ◌-◌, ◌*◌, ◌<◌, ◌≤◌, List, [], ◌∷◌, None, arith, refl, ap, sym, ◌∙◌, subst, inl, inr, ◌||◌, if◌then◌else◌, zero, suc, ◌/◌, ◌%◌, true, cond, length, sum_by, filter, map}
-use Rattle.pfair_in_time.proofs.Common.{list_any, Past, origin_after, table_through, said, cases_lt, lt-ltb, le-ltb, Share, name_eq, Among, among_all, among_map, map_among, Member, next_key, theta, lag_at, HasBegun, IsWeighedStory, both_stories, Settings, Origin, Story, Table, names_task, slot_of, history, world, table, begun_over, long_early, members_paired, names_of, names_same, slot_on, world_at, AllByRecursion, IsReplica, announcements, decided, Machine, machine, apart_nil, label, left_begun, IsBegun, sum_by-cons, sum_by_push, mod-eq-sub-div-mul, div-mul-le_self, mul-suc, mul_comm, NamesApart, IsWeight, units_of, deadline_of, name_exact, numbers_below, apart_filter, length-map, any_among, among_filter}
+use Rattle.pfair_in_time.proofs.Common.{list_any, Past, origin_after, table_through, said, cases_lt, lt-ltb, le-ltb, Share, name_eq, Among, among_all, among_map, map_among, Member, next_key, theta, lag_at, HasBegun, IsWeighedStory, both_stories, Settings, Origin, Story, Table, names_task, slot_of, history, world, table, begun_over, long_early, members_paired, names_of, names_same, slot_on, world_at, AllByRecursion, IsReplica, announcements, decided, Machine, machine, apart_nil, label, left_begun, IsBegun, sum_by-cons, sum_by_push, mod-eq-sub-div-mul, div-mul-le_self, mul-suc, mul_comm, NamesApart, IsWeight, units_of, deadline_of, name_exact, numbers_below, apart_filter, length-map, any_among, among_filter, ◌≡◌, ℕ, ◌+◌, ◌-◌, ◌*◌, ◌<◌, ◌≤◌, List, [], ◌∷◌, None, arith, refl, ap, sym, ◌∙◌, subst, inl, inr, ◌||◌, if◌then◌else◌, zero, suc, ◌/◌, ◌%◌, true, cond, length, sum_by, filter, map, next_key_same, same_history, said_weighed, Said, Announcement, IsWeighed, all_raised, raised, job_due, Arrival, quanta_before, NoneServesMore, length-filter, sum_by-le}
 use Rattle.pfair_ready.specs.Queue.{NameValue as Name}
 use Rattle.pfair_admission.proofs.Beside.{ArePaired, Pair, lag_same, long_of, short_of}
-use Rattle.pfair_admission.proofs.Carrying.{next_key_same}
-use Rattle.pfair_table.proofs.TableLaws.{same_history}
-use Rattle.pfair_table.proofs.NextRuns.{said_weighed}
 use Rattle.pfair_in_time.proofs.Worlds.{here, HaveWeights}
-use Rattle.pfair_entry.specs.declared.entry.Said.{Said}
-use Rattle.pfair_entry.specs.declared.entry.Announcement.{Announcement}
 use Rattle.pfair_entry.specs.declared.entry.Announcement.TheVariants.{Arrive, Depart, Late}
-use Rattle.pfair_entry.specs.Entry.{IsWeighed}
-use Rattle.pfair_admission.specs.Carried.{all_raised, raised}
-use Rattle.pfair_weight.specs.WindowFacts.{job_due}
-use Rattle.pfair_in_time.specs.Schedules.{Arrival, quanta_before, NoneServesMore}
 use Rattle.std.proofs.lemmas.Map.Made.{length-le_from_is_member}
 use Rattle.std.proofs.lemmas.Cmp.{nat_list_eq_equiv}
-use Rattle.std.proofs.lemmas.List.Sums.{length-filter, sum_by-le}
 
 -- ---- what is said in the runs
 

@@ -1,13 +1,5 @@
 -- A static schedule repeats after a common multiple of the periods.
-use Rattle.std.proofs.Common.{◌≡◌, ℕ, zero, suc, ◌+◌, ◌*◌, ◌/◌, ◌%◌, ◌<◌, ◌≤◌, Bool, true, false, cond, List, [], ◌∷◌, map, Option, Some, None, arith, ap, refl, sym, ◌∙◌, inl, inr, ◌||◌, nat_le, filter, option_map, if◌then◌else◌}
-use Rattle.pfair_in_time.proofs.Common.{AllByRecursion, find, list_any, cases_lt, mod-eq-sub-div-mul, div-mul-le_self, mul-mod_left, mul_comm, Share, IsWeight, units_of, release_of, group_deadline_of, window_not_empty, name_eq, Key, Among, among_filter, map_same, Replica, said, Member, is_departing, next_key, member_named, newcomer, Pick, Settings, names_task, next_index, counted_one, is_eligible, eligible, index_of, pick, chosen, table_of, world, table}
-use Rattle.std.proofs.lemmas.Bool.Decides.{nat_tests}
-use Rattle.std.proofs.lemmas.Nat.{div-add-mod'}
-use Rattle.std.proofs.lemmas.Simd.{map-map}
-use Rattle.pfair_weight.specs.WindowFacts.{group_deadline_light, group_deadline_not_before, release_repeats, deadline_repeats, b_bit_repeats, group_deadline_repeats, starts_job_repeats}
-use Rattle.pfair_order.proofs.KeyLaws.{group_later, key_later, filter_mapped, first_later}
-use Rattle.pfair_table.specs.Table.{first_by_rank}
-use Rattle.pfair_in_time.specs.Schedules.{Arrival, SaysOnly, IsCommonMultiple, quanta_in, later_row, TablesRepeat, RepeatsByPeriods}
+use Rattle.pfair_in_time.proofs.Common.{AllByRecursion, find, list_any, cases_lt, mod-eq-sub-div-mul, div-mul-le_self, mul-mod_left, mul_comm, Share, IsWeight, units_of, release_of, group_deadline_of, window_not_empty, name_eq, Key, Among, among_filter, map_same, Replica, said, Member, is_departing, next_key, member_named, newcomer, Pick, Settings, names_task, next_index, counted_one, is_eligible, eligible, index_of, pick, chosen, table_of, world, table, ◌≡◌, ℕ, zero, suc, ◌+◌, ◌*◌, ◌/◌, ◌%◌, ◌<◌, ◌≤◌, Bool, true, false, cond, List, [], ◌∷◌, map, Option, Some, None, arith, ap, refl, sym, ◌∙◌, inl, inr, ◌||◌, nat_le, filter, option_map, if◌then◌else◌, nat_tests, div-add-mod', map-map, group_deadline_light, group_deadline_not_before, release_repeats, deadline_repeats, b_bit_repeats, group_deadline_repeats, starts_job_repeats, group_later, key_later, filter_mapped, first_later, first_by_rank, Arrival, SaysOnly, IsCommonMultiple, quanta_in, later_row, TablesRepeat, RepeatsByPeriods}
 use Rattle.pfair_in_time.proofs.Executive.{none}
 use Rattle.pfair_in_time.proofs.Served.{says_weights, is_first, world_is, member_at}
 use Rattle.pfair_in_time.proofs.Windows.{quanta_passing, no_offset_all}

@@ -1,17 +1,11 @@
 -- Tasks that join at slot 0 are all admitted exactly if there is room for them, and then all are served.
-use Rattle.std.proofs.Common.{◌≡◌, ℕ, zero, suc, ◌+◌, ◌-◌, ◌*◌, ◌%◌, ◌<◌, ◌≤◌, true, false, cond, List, [], ◌∷◌, ◌++◌, length, map, Option, Some, None, arith, ap, refl, sym, ◌∙◌, subst, inl, inr, ⊎_elim, ◌↔◌, not, count_by}
-use Rattle.pfair_in_time.proofs.Common.{AllByRecursion, find, true≢false, cases_eq, cases_Bool, le-ltb, eq-eqb, length-map, append-nil, append_assoc, sum_by-cons, NamesApart, IsWeight, units_of, deadline_of, window_not_empty, apart_head, apart_tail, name_exact, name_itself, name_eq, Among, among_append, among_all, among_map, map_among, Replica, said, Member, Machine, is_named, member_named, claimed, arrival, newcomer, effect, is_freed, present, decided, all_decided, all_decisions, announcements, Settings, machine, counted_one, world, table, with_decisions, decisions, world_counted, one_each, counted, map_same, map-id, among_filter, numbers_below, names_task}
-use Rattle.pfair_entry.specs.declared.entry.Said.{Said}
+use Rattle.pfair_in_time.proofs.Common.{AllByRecursion, find, true≢false, cases_eq, cases_Bool, le-ltb, eq-eqb, length-map, append-nil, append_assoc, sum_by-cons, NamesApart, IsWeight, units_of, deadline_of, window_not_empty, apart_head, apart_tail, name_exact, name_itself, name_eq, Among, among_append, among_all, among_map, map_among, Replica, said, Member, Machine, is_named, member_named, claimed, arrival, newcomer, effect, is_freed, present, decided, all_decided, all_decisions, announcements, Settings, machine, counted_one, world, table, with_decisions, decisions, world_counted, one_each, counted, map_same, map-id, among_filter, numbers_below, names_task, ◌≡◌, ℕ, zero, suc, ◌+◌, ◌-◌, ◌*◌, ◌%◌, ◌<◌, ◌≤◌, true, false, cond, List, [], ◌∷◌, ◌++◌, length, map, Option, Some, None, arith, ap, refl, sym, ◌∙◌, subst, inl, inr, ⊎_elim, ◌↔◌, not, count_by, Said, Admitted, map-map, length-filter, slots_since}
 use Rattle.pfair_admission.specs.declared.decision.Decision.{Decision}
-use Rattle.pfair_admission.specs.declared.decision.Decision.TheVariants.{Admitted}
 use Rattle.pfair_table.specs.declared.slot.Decided.{Decided}
 use Rattle.pfair_in_time.specs.Schedules.{Arrival, announced, AreArrivals, SaysOnly, units_wanted, IsServed, ServedWhereThereIsRoom}
 use Rattle.pfair_admission.proofs.Deciding.{admitted_room, claimed_arrived}
 use Rattle.pfair_in_time.proofs.Windows.{served, no_offset_all, runs_at}
 use Rattle.pfair_in_time.proofs.Worlds.{tables_before, HaveWeights}
-use Rattle.std.proofs.lemmas.Simd.{map-map}
-use Rattle.std.proofs.lemmas.List.Sums.{length-filter}
-use Rattle.pfair_in_time.specs.Runs.{slots_since}
 
 -- ---- those who are there
 

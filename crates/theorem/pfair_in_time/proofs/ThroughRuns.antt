@@ -1,25 +1,15 @@
 -- The slots of all runs in which a member runs are in its windows.
-use Rattle.std.proofs.Common.{◌≡◌, ℕ, zero, suc, ◌+◌, ◌-◌, ◌*◌, ◌<◌, ◌≤◌, Bool, true, false, cond, List, [], length, get_or, max, None, arith, ap, sym, ◌∙◌, subst, inl, inr, is_some, pos, neg_ℤ, ◌<ℤ◌, nat_lt, ◌∷◌, map, Some, refl, ◌⊎◌}
-use Rattle.pfair_in_time.proofs.Common.{cases_lt, release_of, deadline_of, starts_job_of, Among, Replica, said, Member, theta, is_departing, theta_rises, Settings, Story, names_task, slot_of, world, table, Past, origin_after, table_through, IsRunAfter, IsServed, NoneMisses, Pick, Key, name_eq, name_itself, among_map, next_key, pick, chosen, index_of, named_from, history, counted, counted_on, slot_more, Origin, IsWeighedStory, lt-ltb, le_refl, among_filter, among_below, numbers_below, lag_at, HasBegun, counted_one, members_before, all_among, entry_exact, entry_eq, Untorn, Agree, last_places, last_table, left_over, machine, slot_after}
-use Rattle.pfair_weight.specs.WindowFacts.{deadline_repeats, job_due, job_released, release_repeats, starts_after_jobs}
-use Rattle.pfair_lag.specs.Lag.{InWindows, MeetsDeadlines, lag_numerator, LagsKeepWindows, LagsKeepDeadlines}
-use Rattle.pfair_table.proofs.NextRuns.{said_weighed}
-use Rattle.pfair_in_time.specs.Runs.{slots_since, slots_run, KeepsDeadlines, KeepsWindows, DeadlinesAreKept, WindowsAreKept, IsInTime, BooksShowLags, IsWithinOne, LagsStayWithinOne, DispatchersNeverMiss, DispatchersRunOn, NeverMisses, past_of}
+use Rattle.pfair_in_time.proofs.Common.{cases_lt, release_of, deadline_of, starts_job_of, Among, Replica, said, Member, theta, is_departing, theta_rises, Settings, Story, names_task, slot_of, world, table, Past, origin_after, table_through, IsRunAfter, IsServed, NoneMisses, Pick, Key, name_eq, name_itself, among_map, next_key, pick, chosen, index_of, named_from, history, counted, counted_on, slot_more, Origin, IsWeighedStory, lt-ltb, le_refl, among_filter, among_below, numbers_below, lag_at, HasBegun, counted_one, members_before, all_among, entry_exact, entry_eq, Untorn, Agree, last_places, last_table, left_over, machine, slot_after, ◌≡◌, ℕ, zero, suc, ◌+◌, ◌-◌, ◌*◌, ◌<◌, ◌≤◌, Bool, true, false, cond, List, [], length, get_or, max, None, arith, ap, sym, ◌∙◌, subst, inl, inr, is_some, pos, neg_ℤ, ◌<ℤ◌, nat_lt, ◌∷◌, map, Some, refl, ◌⊎◌, deadline_repeats, job_due, job_released, release_repeats, starts_after_jobs, InWindows, MeetsDeadlines, lag_numerator, LagsKeepWindows, LagsKeepDeadlines, said_weighed, slots_since, slots_run, KeepsDeadlines, KeepsWindows, DeadlinesAreKept, WindowsAreKept, IsInTime, BooksShowLags, IsWithinOne, LagsStayWithinOne, DispatchersNeverMiss, DispatchersRunOn, NeverMisses, past_of, found_own, map-map, all_counted, replica_of, carried}
 use Rattle.pfair_in_time.proofs.AsRun.{back_to}
 use Rattle.pfair_in_time.proofs.LongRun.{HasLater, IsLater, long_story, long_weights, runs_long, world_long, each_weight, begun_after, history_long, runs_in_long}
 use Rattle.pfair_in_time.proofs.Windows.{passing, one_more, at_place, passing_rise, fewer_before, runs_at, IsKept, IsUndelayed, kept_at, no_offset_all, served, quanta_passing, slots_of}
 use Rattle.pfair_in_time.proofs.Worlds.{here, HaveWeights, any_from_among, chosen_member, on, tables_before}
 use Rattle.pfair_in_time.proofs.Executive.{none, in_time, open_from}
-use Rattle.pfair_table.proofs.QueueKept.{found_own}
-use Rattle.std.proofs.lemmas.Simd.{map-map}
 use Rattle.pfair_admission.proofs.MemberLists.{each}
 use Rattle.pfair_output.specs.Lags.{first_book}
 use Rattle.pfair_output.proofs.WorldFacts.{HasJoined, after_all, begins_after, over_slots}
-use Rattle.pfair_order.proofs.RankLemmas.{all_counted}
 use Rattle.pfair_lattice.specs.declared.join_map.Flat.TheVariants.{Torn}
 use Rattle.pfair_lattice.specs.Held.{join_least, below_itself}
-use Rattle.pfair_replica.specs.Replica.{replica_of}
-use Rattle.pfair_admission.specs.Carried.{carried}
 use Rattle.pfair_table.specs.Events.{begin_at, run, OneSchedule}
 use Rattle.pfair_table.proofs.Runs.{sound_run, sound_start}
 

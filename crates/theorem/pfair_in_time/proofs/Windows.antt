@@ -1,10 +1,7 @@
 -- The slots in which a member runs are in its windows.
-use Rattle.std.proofs.Common.{◌≡◌, ℕ, zero, suc, ◌+◌, ◌<◌, ◌≤◌, Bool, true, cond, List, [], ◌∷◌, ◌++◌, length, get_or, arith, ap, inl, inr, filter, false, drop, sym, ◌∙◌, nat_le, sum_by, count_by, None, ◌⊎◌}
-use Rattle.pfair_in_time.proofs.Common.{cases_lt, cases_eq, cases_Bool, length-append, get_or_push, get_or_append_left, numbers_below, Share, release_of, deadline_of, starts_job_of, deadline_rises, Among, Member, theta, is_departing, Settings, names_task, quanta, next_index, Story, world, table}
+use Rattle.pfair_in_time.proofs.Common.{cases_lt, cases_eq, cases_Bool, length-append, get_or_push, get_or_append_left, numbers_below, Share, release_of, deadline_of, starts_job_of, deadline_rises, Among, Member, theta, is_departing, Settings, names_task, quanta, next_index, Story, world, table, ◌≡◌, ℕ, zero, suc, ◌+◌, ◌<◌, ◌≤◌, Bool, true, cond, List, [], ◌∷◌, ◌++◌, length, get_or, arith, ap, inl, inr, filter, false, drop, sym, ◌∙◌, nat_le, sum_by, count_by, None, ◌⊎◌, ArePicks, slots_since}
 use Rattle.std.proofs.lemmas.List.Elements.{filter-append}
-use Rattle.pfair_lag.specs.Lag.{ArePicks}
 use Rattle.pfair_admission.specs.declared.delay.Delay.{Delay}
-use Rattle.pfair_in_time.specs.Runs.{slots_since}
 use Rattle.pfair_in_time.proofs.Worlds.{tables_before, runs, next_more, next_new, here, HaveWeights, index_after, runs_chosen}
 use Rattle.pfair_in_time.proofs.AsRun.{IsLine}
 use Rattle.pfair_in_time.proofs.Executive.{none, in_time, open_from}

@@ -1,19 +1,5 @@
 -- The members from one slot to the next.
-use Rattle.std.proofs.Common.{◌≡◌, ◌≢◌, ◌-◌, ℕ, ◌%◌, ◌<◌, ◌≤◌, Bool, true, false, List, [], ◌∷◌, ◌++◌, Option, Some, None, arith, ap, refl, sym, ◌∙◌, subst, inl, inr, ⊎_elim, ◌⊎◌, not, is_some, if◌then◌else◌, zero, suc, ◌+◌, cond, filter, count_by}
-use Rattle.pfair_in_time.proofs.Common.{true≢false, false≢true, cases_lt, cases_Bool, or_parts, ltb-false, leb-true, not_from_false, same_Some, NamesApart, Share, IsWeight, release_of, name_exact, Among, among_left, among_append, among_filter, filter_among, among_map, map_among, Member, theta, is_departing, busy_until, freeing_slot, Machine, is_named, member_named, departure, late_release, decision, newcomer, with_freeing, with_delay, change, effect, is_freed, present, decided, all_decided, boundary, Descends, IsSound, IsNew, theta_earlier, cases_eq, theta_rises, le_refl, list_any, and_parts, not-true, drop_all, drop-append-le, sum_by_push, apart_nil, apart_map, name_eq, name_itself, Key, among_all, among_contains, contains_among, next_key, announcements, Settings, Table, machine, names_task, next_index, counted_one, counted, is_eligible, eligible, pick, chosen, Story, history, world, table, Pick, named_world, IsCounted, counted_world, long_history, world_counted, any_among, label, or_left, or_right}
-use Rattle.pfair_entry.specs.declared.entry.Announcement.{Announcement}
-use Rattle.pfair_entry.specs.Entry.{IsWeighed}
-use Rattle.pfair_admission.specs.declared.decision.Decision.TheVariants.{Departing, Delayed}
-use Rattle.pfair_admission.proofs.Boundaries.{by_effect, apart_effect, apart_present, admitted_in_frame, theta_later}
-use Rattle.pfair_table.proofs.QueueKept.{found_own}
-use Rattle.pfair_in_time.specs.Laws.{AllSound, AllHaveWeights, IsFreed, BoundariesKeepMembers}
-use Rattle.pfair_weight.specs.WindowFacts.{of_released, released}
-use Rattle.std.proofs.lemmas.Nat.{mul-le}
-use Rattle.std.proofs.lemmas.Bool.Decides.{nat_tests}
-use Rattle.pfair_order.proofs.KeyLaws.{keys_total}
-use Rattle.pfair_order.proofs.InOrder.{by_rank_first, once_from_names}
-use Rattle.pfair_order.proofs.RankLemmas.{place_of}
-use Rattle.pfair_table.proofs.TableLaws.{eligible_apart}
+use Rattle.pfair_in_time.proofs.Common.{true≢false, false≢true, cases_lt, cases_Bool, or_parts, ltb-false, leb-true, not_from_false, same_Some, NamesApart, Share, IsWeight, release_of, name_exact, Among, among_left, among_append, among_filter, filter_among, among_map, map_among, Member, theta, is_departing, busy_until, freeing_slot, Machine, is_named, member_named, departure, late_release, decision, newcomer, with_freeing, with_delay, change, effect, is_freed, present, decided, all_decided, boundary, Descends, IsSound, IsNew, theta_earlier, cases_eq, theta_rises, le_refl, list_any, and_parts, not-true, drop_all, drop-append-le, sum_by_push, apart_nil, apart_map, name_eq, name_itself, Key, among_all, among_contains, contains_among, next_key, announcements, Settings, Table, machine, names_task, next_index, counted_one, counted, is_eligible, eligible, pick, chosen, Story, history, world, table, Pick, named_world, IsCounted, counted_world, long_history, world_counted, any_among, label, or_left, or_right, ◌≡◌, ◌≢◌, ◌-◌, ℕ, ◌%◌, ◌<◌, ◌≤◌, Bool, true, false, List, [], ◌∷◌, ◌++◌, Option, Some, None, arith, ap, refl, sym, ◌∙◌, subst, inl, inr, ⊎_elim, ◌⊎◌, not, is_some, if◌then◌else◌, zero, suc, ◌+◌, cond, filter, count_by, Announcement, IsWeighed, Departing, Delayed, by_effect, apart_effect, apart_present, admitted_in_frame, theta_later, found_own, AllSound, AllHaveWeights, IsFreed, BoundariesKeepMembers, of_released, released, mul-le, nat_tests, keys_total, by_rank_first, once_from_names, place_of, eligible_apart}
 
 -- What boundaries make of members.
 

@@ -1,7 +1,6 @@
 -- Where cascades end, and how long a subtask holds its task's weight.
-use Rattle.pfair_optimal.proofs.Common.{le_refl, div-lt_iff_lt-mul, Share, mul_le_of_div, b_bit_of, ◌≡◌, ℕ, ◌+◌, ◌-◌, ◌*◌, ◌/◌, ◌<◌, ◌≤◌, arith, div_ceil, mul-le, windows_overlap, cases_lt, IsWeight, one_less, release_of, deadline_of, fluid_of, share_of, total_before, zero, suc, min, ap, sym, inl, inr, ◌↔◌, release_rises, b_bit_at_most_one, IsHeavy, lt_of_mul, div_ceil_le, le_div_ceil, group_deadline_of, cascade_end, busy_bound_of, ◌∙◌, group_deadline_heavy}
+use Rattle.pfair_optimal.proofs.Common.{le_refl, div-lt_iff_lt-mul, Share, mul_le_of_div, b_bit_of, ◌≡◌, ℕ, ◌+◌, ◌-◌, ◌*◌, ◌/◌, ◌<◌, ◌≤◌, arith, div_ceil, mul-le, windows_overlap, cases_lt, IsWeight, one_less, release_of, deadline_of, fluid_of, share_of, total_before, zero, suc, min, ap, sym, inl, inr, ◌↔◌, release_rises, b_bit_at_most_one, IsHeavy, lt_of_mul, div_ceil_le, le_div_ceil, group_deadline_of, cascade_end, busy_bound_of, ◌∙◌, group_deadline_heavy, group_deadline_light}
 use Rattle.std.proofs.lemmas.Grind.{div_ceil_times}
-use Rattle.pfair_weight.specs.WindowFacts.{group_deadline_light}
 
 -- The ends of windows, by products.
 

@@ -1,13 +1,10 @@
 -- The count: all that the set needed, in units, against the rows that it had. There is no first miss.
-use Rattle.pfair_optimal.proofs.Common.{false≢true, le_refl, lt_of_not-le, units_of, fluid_of, Task, Subtask, is_among, NoneTwice, same_task, same_subtask, Schedule, deadline, is_row, has_run, IsRun, IsNext, IsMiss, IsFirstMiss, ◌≡◌, ℕ, zero, suc, ◌+◌, ◌-◌, ◌*◌, ◌/◌, ◌<◌, ◌≤◌, Bool, true, false, cond, List, [], ◌∷◌, length, arith, ap, refl, sym, ◌∙◌, subst, mul-le, cases_lt, and_parts, and_from, ltb-true, lt-ltb, le-ltb, min, ◌&&◌, nat_lt, ◌↔◌}
+use Rattle.pfair_optimal.proofs.Common.{false≢true, le_refl, lt_of_not-le, units_of, fluid_of, Task, Subtask, is_among, NoneTwice, same_task, same_subtask, Schedule, deadline, is_row, has_run, IsRun, IsNext, IsMiss, IsFirstMiss, ◌≡◌, ℕ, zero, suc, ◌+◌, ◌-◌, ◌*◌, ◌/◌, ◌<◌, ◌≤◌, Bool, true, false, cond, List, [], ◌∷◌, length, arith, ap, refl, sym, ◌∙◌, subst, mul-le, cases_lt, and_parts, and_from, ltb-true, lt-ltb, le-ltb, min, ◌&&◌, nat_lt, ◌↔◌, div-add-mod', ◌||◌, IsRunBelow}
 use Rattle.std.proofs.lemmas.List.{length-append}
-use Rattle.std.proofs.lemmas.Nat.{div-add-mod'}
 use Rattle.pfair_optimal.proofs.BusyBounds.{fluid_none, fluid_whole, fluid_rises}
 use Rattle.pfair_optimal.proofs.Past.{among_here, among_more, among_cases, task_exact, subtask_exact, total, total_sum, total_plus, total_times, total_constant, total_all_le, total_all_same, total_none, total_same, total_among, total_one, ran_at}
 use Rattle.pfair_optimal.proofs.Reasons.{picks, later, reasons, is_full, In, late_row, later_step, later_last, picks_full, full_some, full_rows, full_last, reason_index, reason_due, reason_pick}
 use Rattle.pfair_optimal.proofs.Shares.{share, own_share, shares, carry, carry_full, picked, hole_pays, full_pays}
-use Rattle.std.proofs.Common.{◌||◌}
-use Rattle.pfair_optimal.specs.Schedule.{IsRunBelow}
 
 -- the tasks of some subtasks, each once
 abbrev pub tasks_of : List Subtask → List Task

@@ -1,6 +1,5 @@
 -- A run that fills its processor: two tasks of weight 1/2 that run by turns.
-use Rattle.std.proofs.Common.{◌%◌}
-use Rattle.pfair_optimal.proofs.Common.{false≢true, Task, Subtask, is_among, same_task, same_subtask, Schedule, release, is_row, has_run, IsRun, GoesFirst, ◌≡◌, ℕ, zero, suc, ◌+◌, ◌-◌, ◌*◌, ◌/◌, ◌<◌, ◌≤◌, true, false, [], ◌∷◌, arith, refl, sym, subst, ⊎_elim}
+use Rattle.pfair_optimal.proofs.Common.{false≢true, Task, Subtask, is_among, same_task, same_subtask, Schedule, release, is_row, has_run, IsRun, GoesFirst, ◌≡◌, ℕ, zero, suc, ◌+◌, ◌-◌, ◌*◌, ◌/◌, ◌<◌, ◌≤◌, true, false, [], ◌∷◌, arith, refl, sym, subst, ⊎_elim, ◌%◌}
 use Rattle.pfair_optimal.proofs.Past.{among_here, among_cases, task_exact, subtask_exact, ran_at, ran_by}
 
 -- task k, and its subtask i

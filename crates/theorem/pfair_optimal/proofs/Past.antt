@@ -1,11 +1,9 @@
 -- What ran before a time, in which windows, and sums over it.
-use Rattle.pfair_optimal.proofs.Common.{and_parts, and_from, false_from_ne_true, false≢true, or_cases, or_left, or_right, is_among, NoneTwice, ◌≡◌, Bool, true, List, [], ◌∷◌, ◌++◌, ap, refl, sym, ◌∙◌, inl, inr, ⊎_elim, arith, ◌↔◌, ◌⊎◌, ◌&&◌, filter, list_any, eqb-true, eq-eqb, Task, Subtask, same_task, same_subtask, next_of, previous_of, Schedule, is_row, has_run, IsRun, ℕ, zero, suc, ◌+◌, ◌-◌, ◌<◌, ◌≤◌, false, true≢false, cases_lt, cases_Bool, not_from_false, ◌*◌, cond, not, length, subst, release, deadline, b_bit, busy_bound, GoesFirst, release_rises, deadline_rises_strictly, windows_overlap, b_bit_at_most_one}
+use Rattle.pfair_optimal.proofs.Common.{and_parts, and_from, false_from_ne_true, false≢true, or_cases, or_left, or_right, is_among, NoneTwice, ◌≡◌, Bool, true, List, [], ◌∷◌, ◌++◌, ap, refl, sym, ◌∙◌, inl, inr, ⊎_elim, arith, ◌↔◌, ◌⊎◌, ◌&&◌, filter, list_any, eqb-true, eq-eqb, Task, Subtask, same_task, same_subtask, next_of, previous_of, Schedule, is_row, has_run, IsRun, ℕ, zero, suc, ◌+◌, ◌-◌, ◌<◌, ◌≤◌, false, true≢false, cases_lt, cases_Bool, not_from_false, ◌*◌, cond, not, length, subst, release, deadline, b_bit, busy_bound, GoesFirst, release_rises, deadline_rises_strictly, windows_overlap, b_bit_at_most_one, sum_by, window_not_empty}
 use Rattle.std.proofs.lemmas.List.Folds.{list_any-append}
 use Rattle.std.proofs.lemmas.Map.Views.{any-filter_same}
 use Rattle.std.specs.Cmp.Lexicographic.{bytes_decides}
-use Rattle.std.proofs.Common.{sum_by}
 use Rattle.std.proofs.lemmas.List.Sums.{sum_by-cons}
-use Rattle.pfair_weight.specs.WindowFacts.{window_not_empty}
 
 -- What is among lists, by a test of being the same.
 

@@ -1,7 +1,6 @@
 -- The subtasks that a missed one hangs on. Back from the miss, slot by slot: if one of them waits, all rows of the slot come in;
 -- if none does, those rows come in whose next subtask is one of them and is released by the slot.
-use Rattle.std.proofs.Common.{◌||◌, ◌==◌, nat_le}
-use Rattle.pfair_optimal.proofs.Common.{true≢false, false≢true, and_parts, and_from, leb-true, le-leb, cases_lt, cases_Bool, Subtask, is_among, NoneTwice, same_subtask, next_of, previous_of, Schedule, release, deadline, is_row, has_run, IsRun, IsMiss, IsFirstMiss, GoesFirst, ◌≡◌, ℕ, zero, suc, ◌+◌, ◌-◌, ◌<◌, ◌≤◌, Bool, true, false, cond, not, ◌&&◌, List, [], ◌∷◌, ◌++◌, length, arith, ap, refl, sym, ◌∙◌, subst, inl, inr, ⊎_elim, ◌⊎◌, filter, list_any, ⊎_map}
+use Rattle.pfair_optimal.proofs.Common.{true≢false, false≢true, and_parts, and_from, leb-true, le-leb, cases_lt, cases_Bool, Subtask, is_among, NoneTwice, same_subtask, next_of, previous_of, Schedule, release, deadline, is_row, has_run, IsRun, IsMiss, IsFirstMiss, GoesFirst, ◌≡◌, ℕ, zero, suc, ◌+◌, ◌-◌, ◌<◌, ◌≤◌, Bool, true, false, cond, not, ◌&&◌, List, [], ◌∷◌, ◌++◌, length, arith, ap, refl, sym, ◌∙◌, subst, inl, inr, ⊎_elim, ◌⊎◌, filter, list_any, ⊎_map, ◌||◌, ◌==◌, nat_le}
 use Rattle.pfair_optimal.proofs.Past.{among_here, among_cases, among_left, among_right, among_append, among_filter, filter_among, any_from, any_same, any_some, twice_filter, twice_append, subtask_exact, next_previous, ran_at, ran_by, ran_more, not_ran_less, row_not_before, next_not_run, release_joined, release_before, next_deadline}
 
 -- it is released by slot v, the one before it ran before v, and it has not run by the end of v

@@ -1,16 +1,10 @@
 -- What desks hold and plan while workers run, and the faults with which a run may end.
-use Rattle.pfair_board.proofs.Common.{Settings, ℕ, refl, List, None, AllByRecursion, Table, DeskView, GrownDesk, HasLearned, IsAtWork, arith, ◌∙◌, sym, subst, inl, inr, ⊎_elim, Logged, Dispatch, as_tables, plan, LoggedRun, replica_of_logs, Worked, IsWorkOf, has_kept, ◌≡◌, ◌<◌, [], ◌∷◌, length, slice_get, slice_index_or, Some, Ok, Err, IsOk, IfOk, ap, true≢false, Below, RunFault, BoardFrame, IsGood, ReplicaRows, replica_of, AreWorks, SomeEndsIn, Holds, IsFirstFault, Option, Result, IfErr, IsWorkerFault}
+use Rattle.pfair_board.proofs.Common.{Settings, ℕ, refl, List, None, AllByRecursion, Table, DeskView, GrownDesk, HasLearned, IsAtWork, arith, ◌∙◌, sym, subst, inl, inr, ⊎_elim, Logged, Dispatch, as_tables, plan, LoggedRun, replica_of_logs, Worked, IsWorkOf, has_kept, ◌≡◌, ◌<◌, [], ◌∷◌, length, slice_get, slice_index_or, Some, Ok, Err, IsOk, IfOk, ap, true≢false, Below, RunFault, BoardFrame, IsGood, ReplicaRows, replica_of, AreWorks, SomeEndsIn, Holds, IsFirstFault, Option, Result, IfErr, IsWorkerFault, Torn, HasPublished, IsTaken, log_of, Replica, IsFit, ◌⊎◌, Bool, HoldsScript, IsRunFaultOf}
 use Rattle.pfair_table.specs.Events.{IsOf, OnePlan, OneTable}
 use Rattle.pfair_desk.specs.Steps.{Step, IsStep, empty_board, after_steps, desk_replica, DesksAgree, DesksHoldReplicas}
 use Rattle.pfair_board.specs.Laws.{DesksPlanAlike, DesksShareAPlan}
-use Rattle.pfair_lattice.specs.declared.join_map.Flat.TheVariants.{Torn}
-use Rattle.pfair_board.specs.Works.{HasPublished, IsTaken, log_of}
-use Rattle.pfair_replica.specs.Replica.{Replica}
 use Rattle.pfair_replica.specs.Laws.{IsLeastJoin}
-use Rattle.pfair_table.specs.Places.{IsFit}
-use Rattle.std.proofs.Common.{◌⊎◌, Bool}
 use Rattle.pfair_table.specs.declared.answer.RunFault.TheVariants.{Memory, GateGaveUp, Astray, Stalled}
-use Rattle.pfair_board.specs.RunFaults.{HoldsScript, IsRunFaultOf}
 
 -- What desks plan follows from what they hold.
 

@@ -1,12 +1,9 @@
 -- What desks hold are entries of set cells, as they stand.
-use Rattle.pfair_desk.proofs.Common.{◌≡◌, ℕ, zero, suc, List, [], ◌∷◌, ◌++◌, length, slice_get, Some, subst, One, Torn, Logged, IsEntry, Contents, only, contents_join, IsKey, arith, refl, inl, inr, Option, None, HeldBelow, Flat, entry_eq, entry_exact, Replica, sound_beginning, held, replica_of, DeskView, DeskState, state_of, learned, is_gained, gained_in_row, gained_in_rows, SameDesk, NoGapInRow, ◌+◌, ◌-◌, ◌<◌, ◌≤◌, Bool, false, cond, is_some, is_none, IsSome, sym, ap, ◌∙◌, Held, held_after}
+use Rattle.pfair_desk.proofs.Common.{◌≡◌, ℕ, zero, suc, List, [], ◌∷◌, ◌++◌, length, slice_get, Some, subst, One, Torn, Logged, IsEntry, Contents, only, contents_join, IsKey, arith, refl, inl, inr, Option, None, HeldBelow, Flat, entry_eq, entry_exact, Replica, sound_beginning, held, replica_of, DeskView, DeskState, state_of, learned, is_gained, gained_in_row, gained_in_rows, SameDesk, NoGapInRow, ◌+◌, ◌-◌, ◌<◌, ◌≤◌, Bool, false, cond, is_some, is_none, IsSome, sym, ap, ◌∙◌, Held, held_after, join_least, none_below, below_trans, not, ◌&&◌, IsReadByNumber}
 use Rattle.std.specs.Prelude.{◌⊎◌, ◌≢◌}
 use Rattle.std.specs.List.{AllByRecursion}
-use Rattle.pfair_lattice.specs.Held.{join_least, none_below, below_trans}
 use Rattle.pfair_desk.specs.Steps.{State, Step, IsStep, Set, Get, Meet, empty_board, set_cell, with_cell, with_desk, after_get, after_step, after_steps, one_of, EachDeskBelow, DesksStayBelow, DesksAgree, DesksHoldReplicas}
-use Rattle.std.proofs.Common.{not, ◌&&◌}
 use Rattle.std.proofs.lemmas.Option.{slice_get_cases}
-use Rattle.pfair_replica.specs.Laws.{IsReadByNumber}
 
 -- A fact of each element of a list and its place.
 

@@ -1,10 +1,7 @@
 -- What the notes know of the contents.
-use Rattle.std.proofs.lemmas.Grind.{get_or-set_at}
-use Rattle.pfair_desk.proofs.Common.{get_or_past, length-set, get_or-set_same, get_or-set_other, length-replicate, One, Logged, Replica, with_entry, empty_replica, join, Below, Untorn, ReplicaRows, IsShape, SameShape, IsKey, place_of, DeskView, Keeps, Knowledge, knowing, IsNoted, AllNoted, Grows, KnowMore, IsInOrder, common_steps, ◌≡◌, ⊎_elim, ℕ, ◌+◌, ◌*◌, ◌<◌, ◌≤◌, List, length, Option, Some, None, slice_index_or, slice_set, replicate, sym, ap, ◌∙◌, subst, arith, IfSome, Held, HeldBelow, Flat, entry_eq, entry_exact, held_after, map-append, take_more, replicate_more, get_or-map, length-map, map-set, Agrees, shared, [], ◌∷◌, ◌++◌, map, take}
+use Rattle.pfair_desk.proofs.Common.{get_or_past, length-set, get_or-set_same, get_or-set_other, length-replicate, One, Logged, Replica, with_entry, empty_replica, join, Below, Untorn, ReplicaRows, IsShape, SameShape, IsKey, place_of, DeskView, Keeps, Knowledge, knowing, IsNoted, AllNoted, Grows, KnowMore, IsInOrder, common_steps, ◌≡◌, ⊎_elim, ℕ, ◌+◌, ◌*◌, ◌<◌, ◌≤◌, List, length, Option, Some, None, slice_index_or, slice_set, replicate, sym, ap, ◌∙◌, subst, arith, IfSome, Held, HeldBelow, Flat, entry_eq, entry_exact, held_after, map-append, take_more, replicate_more, get_or-map, length-map, map-set, Agrees, shared, [], ◌∷◌, ◌++◌, map, take, get_or-set_at, held_join, HoldsMore, IsMergeFaultOf}
 use Rattle.std.proofs.lemmas.Nat.{mul-add-lt}
 use Rattle.std.proofs.Math.Nat.{mul_comm}
-use Rattle.pfair_lattice.specs.Held.{held_join}
-use Rattle.pfair_replica.specs.Faults.{HoldsMore, IsMergeFaultOf}
 use Rattle.pfair_replica.specs.declared.answer.MergeFault.{MergeFault}
 use Rattle.pfair_replica.specs.declared.answer.MergeFault.TheVariants.{OtherShape, Memory}
 use Rattle.std.proofs.Math.Seq.{map-set_same}

@@ -1,5 +1,4 @@
-use Rattle.pfair_admission.proofs.Common.{sum_by, ◌≡◌, ◌+◌, take}
-use Rattle.std.proofs.Common.{min}
+use Rattle.pfair_admission.proofs.Common.{sum_by, ◌≡◌, ◌+◌, take, min}
 use Rattle.pfair_admission.proofs.delay.leaves_room.Given as goal
 
 abbrev pub invariant-loop-delay : goal.invariant-loop-delay

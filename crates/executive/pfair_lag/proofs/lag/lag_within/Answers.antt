@@ -1,5 +1,4 @@
-use Rattle.std.proofs.Common.{below_more}
-use Rattle.pfair_lag.proofs.Common.{LagWithin, quanta_before, ◌≡◌, ◌*◌, ℕ, arith, ap, sym, refl}
+use Rattle.pfair_lag.proofs.Common.{LagWithin, quanta_before, ◌≡◌, ◌*◌, ℕ, arith, ap, sym, refl, below_more}
 use Rattle.pfair_lag.proofs.Counts.{quanta_zero, LagAt, lag_at, from_lag_at, lag_within, in_windows}
 use Rattle.pfair_lag.proofs.lag.lag_within.Goals as goal
 use Rattle.pfair_lag.proofs.lag.lag_within.Goals.{Joined-then-due-period, After-loop-time, then-due-period-via-then-due-period, then-due-period-via-else-due-period+then-done-period}

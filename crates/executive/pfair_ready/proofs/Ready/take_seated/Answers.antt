@@ -1,5 +1,4 @@
-use Rattle.pfair_ready.proofs.Common.{length-map, length-take, take_all, take_more, Key, pd2_cmp, first_by_rank, keys_total, first_within, Queue, released, without, ◌≡◌, ◌≤◌, ◌∷◌, ◌++◌, [], OnErr, Ok, Err, List, length, map, refl, take, sym, ap, ◌∙◌, arith}
-use Rattle.pfair_order.proofs.InOrder.{by_rank_first}
+use Rattle.pfair_ready.proofs.Common.{length-map, length-take, take_all, take_more, Key, pd2_cmp, first_by_rank, keys_total, first_within, Queue, released, without, ◌≡◌, ◌≤◌, ◌∷◌, ◌++◌, [], OnErr, Ok, Err, List, length, map, refl, take, sym, ap, ◌∙◌, arith, by_rank_first}
 use Rattle.pfair_ready.proofs.Taking.{without_none, one_more}
 use Rattle.pfair_ready.proofs.Ready.take_seated.Given.{Over}
 use Rattle.pfair_ready.proofs.Ready.take_seated.Goals as goal

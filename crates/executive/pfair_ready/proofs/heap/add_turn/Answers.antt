@@ -1,5 +1,4 @@
-use Rattle.pfair_ready.proofs.Common.{Turn, heap_items, arith, sym, subst, All-permutation, IsNumber, is_number}
-use Rattle.std.proofs.lemmas.List.Elements.{All-cons}
+use Rattle.pfair_ready.proofs.Common.{Turn, heap_items, arith, sym, subst, All-permutation, IsNumber, is_number, All-cons}
 use Rattle.pfair_ready.proofs.CalendarLemmas.{pushed_more, pushed_top}
 use Rattle.pfair_ready.proofs.heap.add_turn.Goals as goal
 

@@ -1,5 +1,4 @@
-use Rattle.std.proofs.Common.{Iter}
-use Rattle.pfair_table.proofs.Common.{nil_from_length, Pick, Table, place_of, ℕ, ◌≡◌, refl, sym, ap, ◌∙◌, arith, inl, inr, List, [], ◌∷◌, length, Some, None, if◌then◌else◌, Name}
+use Rattle.pfair_table.proofs.Common.{nil_from_length, Pick, Table, place_of, ℕ, ◌≡◌, refl, sym, ap, ◌∙◌, arith, inl, inr, List, [], ◌∷◌, length, Some, None, if◌then◌else◌, Name, Iter}
 use Rattle.std.specs.declared.iter.Zip.{Zip}
 use Rattle.pfair_table.proofs.places.find_place.Goals as goal
 

@@ -1,5 +1,4 @@
-use Rattle.pfair_table.proofs.Common.{carried, Roster, IsOrigin, Settings, Origin, Carried, machine, members_before, ◌≡◌, ◌∙◌, ap, map, subst, sym, Some, None, Result, Ok, Err, IfOk}
-use Rattle.pfair_admission.proofs.Restoring.{all_again}
+use Rattle.pfair_table.proofs.Common.{carried, Roster, IsOrigin, Settings, Origin, Carried, machine, members_before, ◌≡◌, ◌∙◌, ap, map, subst, sym, Some, None, Result, Ok, Err, IfOk, all_again}
 use Rattle.pfair_table.proofs.state.first_members.Goals as goal
 
 -- members that a run left stay as they are if they are carried

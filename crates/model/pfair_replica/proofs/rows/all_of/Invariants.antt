@@ -1,5 +1,4 @@
-use Rattle.std.proofs.Common.{◌*◌, ◌^◌}
-use Rattle.pfair_replica.proofs.Common.{Beginning, first_mark, total_count, ℕ, ◌≡◌, ◌≤◌, min, take, fold}
+use Rattle.pfair_replica.proofs.Common.{Beginning, first_mark, total_count, ℕ, ◌≡◌, ◌≤◌, min, take, fold, ◌*◌, ◌^◌}
 use Rattle.pfair_replica.proofs.rows.all_of.Given as goal
 
 abbrev pub invariant-loop-beginning : goal.invariant-loop-beginning

@@ -1,5 +1,4 @@
-use Rattle.std.proofs.Common.{rules, tests}
-use Rattle.pfair_entry_row.proofs.Common.{slice_split_none, fails_before_first, arith, ◌≡◌, ◌==◌, length, cond, ltb, Some, None}
+use Rattle.pfair_entry_row.proofs.Common.{slice_split_none, fails_before_first, arith, ◌≡◌, ◌==◌, length, cond, ltb, Some, None, rules, tests}
 use Rattle.std.proofs.lemmas.Iterator.{YieldsList-from_slice}
 use Rattle.std.proofs.lemmas.Iterator.Search.{position_from_yields_List}
 use Rattle.pfair_entry_row.proofs.RowFields.{cut_there, first_of, no_place}

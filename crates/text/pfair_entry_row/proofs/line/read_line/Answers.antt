@@ -1,5 +1,4 @@
-use Rattle.std.proofs.Common.{option_map}
-use Rattle.pfair_entry_row.proofs.Common.{noticed, arith}
+use Rattle.pfair_entry_row.proofs.Common.{noticed, arith, option_map}
 use Rattle.pfair_entry_row.proofs.RowFields.{says, parts-entry_row, eleven, is_said, no_floor}
 use Rattle.pfair_entry_row.proofs.line.read_line.Goals as goal
 

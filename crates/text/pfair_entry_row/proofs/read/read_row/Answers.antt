@@ -1,6 +1,4 @@
-use Rattle.pfair_entry_row.proofs.Common.{Logged, IsEntryAt, entry_row, arith, common_steps, ℕ, Ok, ◌≡◌, ◌∙◌, sym}
-use Rattle.pfair_entry_row.specs.Row.{keyed}
-use Rattle.pfair_entry_row.specs.Line.{logged}
+use Rattle.pfair_entry_row.proofs.Common.{Logged, IsEntryAt, entry_row, arith, common_steps, ℕ, Ok, ◌≡◌, ◌∙◌, sym, keyed, logged}
 use Rattle.pfair_entry_row.proofs.RowFields.{entry_row_injective}
 use Rattle.pfair_entry_row.proofs.Refused.{read_back, sayable}
 use Rattle.pfair_entry_row.proofs.read.read_row.Goals.{In-Some}

@@ -1,5 +1,4 @@
-use Rattle.pfair_file.proofs.Common.{as_table, items_view, table_view, view, lists_of, with_items, arith, rules, Some, Err, ◌≡◌, ◌≢◌, sym, ◌∙◌, common_steps, Memory}
-use Rattle.pfair_file.specs.Documents.{entries_at}
+use Rattle.pfair_file.proofs.Common.{as_table, items_view, table_view, view, lists_of, with_items, arith, rules, Some, Err, ◌≡◌, ◌≢◌, sym, ◌∙◌, common_steps, Memory, entries_at}
 use Rattle.pfair_file.proofs.TableFacts.{all_tables, left-refused, left_all}
 use Rattle.pfair_file.proofs.tables.add_entries.Goals as goal
 

@@ -1,10 +1,8 @@
 use Rattle.std.proofs.Common.{IfErr, OnOk}
-use Rattle.pfair_file.proofs.Common.{length-map, get_or-map, map-set, Members, table_view, Logged, lists_of, longer_log, with_entry, FileFault, ℕ, Result, Ok, Err, ◌≡◌, ◌∙◌, ◌<◌, [], length, set, sym, ap, arith, get_or, Vec, Global, ◌≢◌, common_steps, made_at, Made, Memory}
-use Rattle.std.proofs.Common.{◌-◌, Option, refl}
+use Rattle.pfair_file.proofs.Common.{length-map, get_or-map, map-set, Members, table_view, Logged, lists_of, longer_log, with_entry, FileFault, ℕ, Result, Ok, Err, ◌≡◌, ◌∙◌, ◌<◌, [], length, set, sym, ap, arith, get_or, Vec, Global, ◌≢◌, common_steps, made_at, Made, Memory, ◌-◌, Option, refl, notice_at}
 use Rattle.pfair_entry.specs.Notice.{checked}
 use Rattle.pfair_entry.specs.declared.entry.Announcement.{Announcement}
 use Rattle.pfair_file.specs.Keys.{natural_at, number_at}
-use Rattle.pfair_file.specs.Tables.{notice_at}
 use Rattle.pfair_file.specs.declared.field.Field.TheVariants as field
 use Rattle.pfair_file.proofs.tables.add_entry.Goals.{After-append}
 use Rattle.pfair_file.proofs.tables.add_entry.Goals as goal

@@ -1,5 +1,4 @@
-use Rattle.std.proofs.Common.{rules, SFits, w64}
-use Rattle.pfair_output.proofs.Common.{common_steps, option_map, line, text_so_far, tally_row, ◌≡◌, ◌<◌, ◌++◌, ◌∷◌, [], ap, sym, ◌∙◌, length, arith, refl, to_z-of_z, decimal, signed_decimal}
+use Rattle.pfair_output.proofs.Common.{common_steps, option_map, line, text_so_far, tally_row, ◌≡◌, ◌<◌, ◌++◌, ◌∷◌, [], ap, sym, ◌∙◌, length, arith, refl, to_z-of_z, decimal, signed_decimal, rules, SFits, w64}
 use Rattle.pfair_output.proofs.BookedFacts.{lag_at, named_at, row_is, task_more}
 use Rattle.pfair_output.proofs.lags.add_lags.Goals as goal
 

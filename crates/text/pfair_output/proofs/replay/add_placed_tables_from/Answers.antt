@@ -1,5 +1,4 @@
-use Rattle.pfair_output.proofs.Common.{common_steps, same_Some, lines_text, text_so_far, placed_rows_from, placed_table_rows, ◌≤◌, ◌≡◌, ◌++◌, ◌∙◌, arith, refl, places_in}
-use Rattle.pfair_output.specs.Replay.{places_at}
+use Rattle.pfair_output.proofs.Common.{common_steps, same_Some, lines_text, text_so_far, placed_rows_from, placed_table_rows, ◌≤◌, ◌≡◌, ◌++◌, ◌∙◌, arith, refl, places_in, places_at}
 use Rattle.pfair_output.proofs.SlotFacts.{at_the_end, on_the_way}
 use Rattle.pfair_output.proofs.replay.add_placed_tables_from.Goals as goal
 

@@ -1,5 +1,4 @@
-use Rattle.std.proofs.Common.{Option}
-use Rattle.pfair_output.proofs.Common.{slice_get_read, line, text_so_far, placed_row, ℕ, ◌≡◌, ◌<◌, ◌∙◌, ◌++◌, ap, arith, length, Some, slice_get, refl}
+use Rattle.pfair_output.proofs.Common.{slice_get_read, line, text_so_far, placed_row, ℕ, ◌≡◌, ◌<◌, ◌∙◌, ◌++◌, ap, arith, length, Some, slice_get, refl, Option}
 use Rattle.pfair_output.proofs.SlotFacts.{row_more}
 use Rattle.pfair_output.proofs.replay.add_table.Goals as goal
 

@@ -1,5 +1,4 @@
-use Rattle.std.proofs.Common.{Vec}
-use Rattle.pfair_output.proofs.Common.{same_Some, slice_get-map, slice_get_read, length-map, option_map, lines_text, text_so_far, placed_rows_from, placed_table_rows, ◌≡◌, ◌<◌, ◌∙◌, sym, ap, subst, refl, arith, length, map, List, ℕ, ◌++◌, Some, slice_get, Pick}
+use Rattle.pfair_output.proofs.Common.{same_Some, slice_get-map, slice_get_read, length-map, option_map, lines_text, text_so_far, placed_rows_from, placed_table_rows, ◌≡◌, ◌<◌, ◌∙◌, sym, ap, subst, refl, arith, length, map, List, ℕ, ◌++◌, Some, slice_get, Pick, Vec}
 use Rattle.std.specs.declared.alloc.Global.{Global}
 use Rattle.pfair_output.proofs.SlotFacts.{slot_more}
 use Rattle.pfair_output.proofs.replay.placed_replay_of.Goals as goal

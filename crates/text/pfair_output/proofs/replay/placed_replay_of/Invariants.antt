@@ -1,5 +1,4 @@
-use Rattle.pfair_output.proofs.Common.{IsOpen, line, lines_text, text_so_far, slots_from, placed_table_rows, ◌≡◌, ◌++◌, drop, map}
-use Rattle.pfair_output.specs.Replay.{placed_header}
+use Rattle.pfair_output.proofs.Common.{IsOpen, line, lines_text, text_so_far, slots_from, placed_table_rows, ◌≡◌, ◌++◌, drop, map, placed_header}
 use Rattle.pfair_output.proofs.replay.placed_replay_of.Given as goal
 
 -- the text so far, with the rows of the slots that are left, is the whole

@@ -1,5 +1,4 @@
-use Rattle.std.proofs.Common.{cond}
-use Rattle.pfair_state.proofs.Common.{slice_get_within, with_row, as_quantum, Ran, ◌≡◌, arith, rules, None, Some, false, true, ap, sym, ◌∙◌}
+use Rattle.pfair_state.proofs.Common.{slice_get_within, with_row, as_quantum, Ran, ◌≡◌, arith, rules, None, Some, false, true, ap, sym, ◌∙◌, cond}
 use Rattle.pfair_state.proofs.MembersRead.{added, all_added, can_be_added}
 use Rattle.pfair_state.proofs.read.read_quanta.Goals as goal
 

@@ -1,5 +1,4 @@
-use Rattle.std.proofs.Common.{slice_index}
-use Rattle.pfair_state.proofs.Common.{slice_get-get_or, slice_get_read, line, text_so_far, ran_row, IsSpelledQuantum, ◌≡◌, ◌<◌, ◌++◌, ◌∙◌, arith, length, Some, slice_get, refl, common_steps}
+use Rattle.pfair_state.proofs.Common.{slice_get-get_or, slice_get_read, line, text_so_far, ran_row, IsSpelledQuantum, ◌≡◌, ◌<◌, ◌++◌, ◌∙◌, arith, length, Some, slice_get, refl, common_steps, slice_index}
 use Rattle.pfair_state.proofs.RowLists.{ran_more}
 use Rattle.pfair_state.proofs.RowsSpelled.{more_taken}
 use Rattle.pfair_state.proofs.write.add_ran.Goals as goal

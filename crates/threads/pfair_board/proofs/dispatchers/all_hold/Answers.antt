@@ -1,5 +1,4 @@
-use Rattle.pfair_board.proofs.Common.{slice_get_read, slice_get_within, get_or_from_slice_get, replica_of, Worked, Holds, ◌≡◌, ◌∙◌, subst, arith, ⊎_elim, Some, slice_get}
-use Rattle.std.proofs.lemmas.Bool.{cases_lt}
+use Rattle.pfair_board.proofs.Common.{slice_get_read, slice_get_within, get_or_from_slice_get, replica_of, Worked, Holds, ◌≡◌, ◌∙◌, subst, arith, ⊎_elim, Some, slice_get, cases_lt}
 use Rattle.pfair_board.proofs.dispatchers.all_hold.Goals as goal
 
 pub returns-then-not-holds-clause-some : goal.returns-then-not-holds-clause-some

@@ -1,5 +1,4 @@
-use Rattle.pfair_board.proofs.Common.{into_iter_items, each_snoc, as_tables, replica_of_logs, plan, has_kept, ◌≡◌, ◌∙◌, sym, ap, ◌+◌, ◌∷◌, rules, arith, subst, add-one, length, slice_get, Some, vec_len, None, common_steps, IsGood, IsFullDesk, IsRunOf}
-use Rattle.pfair_table.specs.Places.{places_in}
+use Rattle.pfair_board.proofs.Common.{into_iter_items, each_snoc, as_tables, replica_of_logs, plan, has_kept, ◌≡◌, ◌∙◌, sym, ap, ◌+◌, ◌∷◌, rules, arith, subst, add-one, length, slice_get, Some, vec_len, None, common_steps, IsGood, IsFullDesk, IsRunOf, places_in}
 use Rattle.pfair_board.proofs.Working.{kept_fit, kept_plan, none_in_empty, not_failed}
 use Rattle.pfair_board.proofs.dispatchers.hand_back.Goals as goal
 

@@ -1,5 +1,4 @@
-use Rattle.std.proofs.Common.{map}
-use Rattle.pfair_board.proofs.Common.{each_snoc, as_tables, ◌≡◌, [], ap, arith}
+use Rattle.pfair_board.proofs.Common.{each_snoc, as_tables, ◌≡◌, [], ap, arith, map}
 use Rattle.pfair_board.proofs.dispatchers.run_dispatchers.Goals as goal
 
 pub loop-preserved : goal.loop-preserved

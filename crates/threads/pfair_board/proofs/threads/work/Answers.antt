@@ -1,5 +1,4 @@
-use Rattle.pfair_board.proofs.Common.{get_or_from_slice_get, replica_of, plan, ◌≡◌, [], sym, subst, OnOk, IfOk, IfErr, Ok, Err, Result, slice_index_or, None, IsWorkerFault}
-use Rattle.pfair_board.specs.Works.{HoldsLog}
+use Rattle.pfair_board.proofs.Common.{get_or_from_slice_get, replica_of, plan, ◌≡◌, [], sym, subst, OnOk, IfOk, IfErr, Ok, Err, Result, slice_index_or, None, IsWorkerFault, HoldsLog}
 use Rattle.pfair_board.proofs.threads.work.Goals as goal
 
 on_ok : {T E A B : Type 0} (r : Result T E) → OnOk r A → (A → B) → OnOk r B

@@ -1,5 +1,4 @@
-use Rattle.pfair_board.proofs.Common.{held, IsDeskOf, GrownDesk, ◌≡◌, ◌+◌, ◌<◌, ℕ, slice_get, Some, Logged}
-use Rattle.pfair_lattice.specs.declared.join_map.Flat.TheVariants.{One}
+use Rattle.pfair_board.proofs.Common.{held, IsDeskOf, GrownDesk, ◌≡◌, ◌+◌, ◌<◌, ℕ, slice_get, Some, Logged, One}
 use Rattle.pfair_board.proofs.worker.publish_log.Given as goal
 
 -- the entries so far are held under the numbers from the old next number on

@@ -1,5 +1,4 @@
-use Rattle.pfair_ready.proofs.Common.{true≢false, apart_push, first_named, ◌≡◌, not, None, sym, ap, ◌∙◌, arith}
-use Rattle.pfair_weight.specs.Window.{nothing}
+use Rattle.pfair_ready.proofs.Common.{true≢false, apart_push, first_named, ◌≡◌, not, None, sym, ap, ◌∙◌, arith, nothing}
 use Rattle.pfair_ready.proofs.WaitingLemmas.{name_of, none_named, contained, queue_of_push}
 use Rattle.pfair_ready.proofs.plain.PlainReadyReady.insert.Goals as goal
 

@@ -1,6 +1,5 @@
-use Rattle.pfair_ready.proofs.Common.{queue_in, rules, ap, ◌∙◌}
+use Rattle.pfair_ready.proofs.Common.{queue_in, rules, ap, ◌∙◌, filter-RetainsPairs}
 use Rattle.std.specs.FinMap as finmap
-use Rattle.indexmap.proofs.CallerLemmas.{filter-RetainsPairs}
 use Rattle.pfair_ready.proofs.WaitingLemmas.{live_kept}
 use Rattle.pfair_ready.proofs.waiting.Waiting.drop_vacant.Goals as goal
 

@@ -1,5 +1,4 @@
-use Rattle.pfair_table.proofs.Common.{Carried, CanBeFollowed, IsFirstLeft, IsNextRunFault, Member, Roster, begin_at, course_of, end_of, left_by, slot_of, Dispatch, AllByRecursion, CanBeCarried, ℕ, ◌+◌, ◌≡◌, ◌≤◌, ◌∙◌, ap, subst, arith, List, LAST_SLOT, Some, IfOk}
-use Rattle.pfair_table.specs.Places.{settings_from, taken_over}
+use Rattle.pfair_table.proofs.Common.{Carried, CanBeFollowed, IsFirstLeft, IsNextRunFault, Member, Roster, begin_at, course_of, end_of, left_by, slot_of, Dispatch, AllByRecursion, CanBeCarried, ℕ, ◌+◌, ◌≡◌, ◌≤◌, ◌∙◌, ap, subst, arith, List, LAST_SLOT, Some, IfOk, settings_from, taken_over}
 use Rattle.pfair_table.proofs.Alike.{memory_only}
 use Rattle.pfair_table.proofs.NextRuns.{fault_seen, finished_seen, left_is, left_seen, left_state}
 use Rattle.pfair_table.proofs.dispatcher.Dispatcher.next_run.Given.{Over}

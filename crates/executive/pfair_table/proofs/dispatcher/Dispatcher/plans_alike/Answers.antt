@@ -1,5 +1,4 @@
-use Rattle.pfair_table.proofs.Common.{Dispatch, HavePlannedAlike, LeaveAlike, subst}
-use Rattle.pfair_table.specs.Refinement.{HavePlacedAlike}
+use Rattle.pfair_table.proofs.Common.{Dispatch, HavePlannedAlike, LeaveAlike, subst, HavePlacedAlike}
 use Rattle.pfair_table.proofs.Alike.{kept_alike, placed_alike}
 use Rattle.pfair_table.proofs.NextRuns.{left_alike}
 use Rattle.pfair_table.proofs.dispatcher.Dispatcher.plans_alike.Goals as goal

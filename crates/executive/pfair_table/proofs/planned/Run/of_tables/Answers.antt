@@ -1,5 +1,4 @@
-use Rattle.std.proofs.Common.{rules, vec_len}
-use Rattle.pfair_table.proofs.Common.{AllByRecursion, get_or-map, length-map, map-append, take-map, take_more, Pick, places_after, places_in, IsFit, as_tables, last_or, Table, apart_nil, ℕ, zero, suc, ◌<◌, ◌≤◌, ◌≡◌, ◌∙◌, refl, sym, ap, subst, arith, get_or, List, [], ◌∷◌, ◌++◌, length, map, take, Vec, Global, None}
+use Rattle.pfair_table.proofs.Common.{AllByRecursion, get_or-map, length-map, map-append, take-map, take_more, Pick, places_after, places_in, IsFit, as_tables, last_or, Table, apart_nil, ℕ, zero, suc, ◌<◌, ◌≤◌, ◌≡◌, ◌∙◌, refl, sym, ap, subst, arith, get_or, List, [], ◌∷◌, ◌++◌, length, map, take, Vec, Global, None, rules, vec_len}
 use Rattle.pfair_table.proofs.Alike.{last_fit, last_places, next_are}
 use Rattle.pfair_table.proofs.planned.Run.of_tables.Goals.{After-new}
 use Rattle.pfair_table.proofs.planned.Run.of_tables.Goals as goal

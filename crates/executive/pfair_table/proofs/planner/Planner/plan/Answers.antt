@@ -1,5 +1,4 @@
-use Rattle.pfair_table.proofs.Common.{AllByRecursion, NamesApart, MAX_INDEX, Said, replica_of, Replica, announcements, member_named, Member, Roster, apart_boundary, queued, is_said, IsSteady, heard_before, all_ran, List, Ok, false, ◌≤◌, ◌<◌, ◌≡◌, ◌+◌, ◌∙◌, sym, ap, subst, arith, suc, length}
-use Rattle.pfair_table.specs.Planning.{rows_at}
+use Rattle.pfair_table.proofs.Common.{AllByRecursion, NamesApart, MAX_INDEX, Said, replica_of, Replica, announcements, member_named, Member, Roster, apart_boundary, queued, is_said, IsSteady, heard_before, all_ran, List, Ok, false, ◌≤◌, ◌<◌, ◌≡◌, ◌+◌, ◌∙◌, sym, ap, subst, arith, suc, length, rows_at}
 use Rattle.pfair_table.proofs.TableLaws.{each_boundary, few_before, in_time, steady_next}
 use Rattle.pfair_table.proofs.QueueKept.{queue_after_boundary}
 use Rattle.pfair_table.proofs.Keeping.{step_after, heard_fits}

@@ -1,5 +1,4 @@
-use Rattle.std.proofs.Common.{max}
-use Rattle.pfair_table.proofs.Common.{capacity_of, lists_of, ◌≡◌, ◌≤◌, drop}
+use Rattle.pfair_table.proofs.Common.{capacity_of, lists_of, ◌≡◌, ◌≤◌, drop, max}
 use Rattle.pfair_table.proofs.script.Script.capacity.Given as goal
 
 abbrev pub invariant-loop-log : goal.invariant-loop-log

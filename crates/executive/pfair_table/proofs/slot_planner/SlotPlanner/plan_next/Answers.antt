@@ -1,5 +1,4 @@
-use Rattle.pfair_table.proofs.Common.{ReplicaRows, replica_of, untorn_by_test, AreReadFrom, tables_to, decided_to, Dispatch, IsInStep, IsKept, IsPlanFault, IsWholePlan, said, Settings, table, decisions, ◌+◌, ◌∙◌, sym, ap, subst, None, refl}
-use Rattle.pfair_table.specs.Refinement.{seeing}
+use Rattle.pfair_table.proofs.Common.{ReplicaRows, replica_of, untorn_by_test, AreReadFrom, tables_to, decided_to, Dispatch, IsInStep, IsKept, IsPlanFault, IsWholePlan, said, Settings, table, decisions, ◌+◌, ◌∙◌, sym, ap, subst, None, refl, seeing}
 use Rattle.pfair_table.proofs.Keeping.{is_of_held, next_planned, next_none}
 use Rattle.pfair_table.proofs.Alike.{at_slot, memory_only, plannable, next_plan, kept_of, step_seen, kept_seen, whole_seen, seen_after}
 use Rattle.pfair_table.proofs.slot_planner.SlotPlanner.plan_next.Goals as goal

@@ -1,5 +1,4 @@
-use Rattle.pfair_replica.proofs.Common.{common_steps, held_in, replica_of, rules, arith}
-use Rattle.pfair_replica.specs.Faults.{HoldsMore}
+use Rattle.pfair_replica.proofs.Common.{common_steps, held_in, replica_of, rules, arith, HoldsMore}
 use Rattle.pfair_replica.proofs.Merging.{rows_outgrown, joined_held, between_held, between_below, partly_merged, merged_rows, partly_rows, between_rows, either_held, on_err_here}
 use Rattle.pfair_replica.proofs.Following.{before_join}
 use Rattle.pfair_replica.proofs.replica.Replica.merge.Goals as goal

@@ -1,5 +1,4 @@
-use Rattle.pfair_replica.proofs.Common.{◌≡◌, common_steps, replica_of, Replica, sound_beginning, said_behind, said_by, ◌+◌, ◌<◌, ◌++◌, refl, sym, ap, ◌∙◌, arith, length, append_assoc, Some, said_at}
-use Rattle.std.proofs.Common.{IsSome}
+use Rattle.pfair_replica.proofs.Common.{◌≡◌, common_steps, replica_of, Replica, sound_beginning, said_behind, said_by, ◌+◌, ◌<◌, ◌++◌, refl, sym, ap, ◌∙◌, arith, length, append_assoc, Some, said_at, IsSome}
 use Rattle.pfair_replica.proofs.Merging.{on_err_here}
 use Rattle.pfair_replica.proofs.Marks.{entry_there, entry_is}
 use Rattle.pfair_replica.proofs.SaidListed.{all_noted, noted_next, some_behind}

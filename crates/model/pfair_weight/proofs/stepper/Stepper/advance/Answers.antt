@@ -1,5 +1,4 @@
-use Rattle.pfair_weight.proofs.Common.{common_steps, div_ceil, MAX_INDEX, div_ceil_rises, arith, ◌≡◌, ◌+◌, ◌*◌, ◌<◌, ◌≤◌, ap}
-use Rattle.pfair_weight.specs.Window.{Position}
+use Rattle.pfair_weight.proofs.Common.{common_steps, div_ceil, MAX_INDEX, div_ceil_rises, arith, ◌≡◌, ◌+◌, ◌*◌, ◌<◌, ◌≤◌, ap, Position}
 use Rattle.pfair_weight.proofs.Steppers.{ceiling_is, cascade_kept, cascade_moves, next_stepped}
 use Rattle.pfair_weight.proofs.stepper.Stepper.advance.Goals as goal
 use Rattle.pfair_weight.proofs.stepper.Stepper.advance.Goals.{After-ceiling, in-Some, in_default}

@@ -1,6 +1,4 @@
-use Rattle.std.proofs.Common.{Result, Err, OnOk, OnErr}
-use Rattle.pfair_desk.proofs.Common.{Replica, Below, join, replica_of, AllNoted, arith, ◌≡◌, ap, sym, refl, ◌∙◌, subst, inl, Ok}
-use Rattle.pfair_replica.specs.Faults.{IsPartlyMerged}
+use Rattle.pfair_desk.proofs.Common.{Replica, Below, join, replica_of, AllNoted, arith, ◌≡◌, ap, sym, refl, ◌∙◌, subst, inl, Ok, Result, Err, OnOk, OnErr, IsPartlyMerged}
 use Rattle.pfair_desk.proofs.NotedLemmas.{all_noted_more, join_noted, below_noted, noted_whole, kept_noted, in_order_met, holds_more}
 use Rattle.pfair_desk.proofs.desk.Desk.meet.Goals.{After-merge}
 use Rattle.pfair_desk.proofs.desk.Desk.meet.Goals as goal

@@ -1,5 +1,4 @@
-use Rattle.std.proofs.Common.{◌++◌}
-use Rattle.pfair_board.proofs.Common.{into_iter_items, slice_get_within, slice_get_read, get_or_from_slice_get, Worked, IsWorkOf, IsWorkplaceOf, each_snoc, sym, rules, arith, ap, refl, ◌∙◌, subst, ◌≡◌, ◌<◌, ◌+◌, ℕ, length, slice_get, Some, [], ◌∷◌, vec_len, add-one, IfOk, OnOk, Ok, Err, common_steps}
+use Rattle.pfair_board.proofs.Common.{into_iter_items, slice_get_within, slice_get_read, get_or_from_slice_get, Worked, IsWorkOf, IsWorkplaceOf, each_snoc, sym, rules, arith, ap, refl, ◌∙◌, subst, ◌≡◌, ◌<◌, ◌+◌, ℕ, length, slice_get, Some, [], ◌∷◌, vec_len, add-one, IfOk, OnOk, Ok, Err, common_steps, ◌++◌}
 use Rattle.std.specs.declared.result.Result.{Result}
 use Rattle.std.specs.declared.thread.PromisedHandle.{PromisedHandle}
 use Rattle.pfair_board.specs.declared.threads.RowOf.{RowOf}
