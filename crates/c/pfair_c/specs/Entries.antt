@@ -5,7 +5,7 @@ use Rattle.std.specs.declared.option.Option.TheVariants.{None, Some}
 use Rattle.pfair_entry.specs.Entry.{Logged}
 use Rattle.pfair_entry.specs.Notice.{announced, checked, notice_fault_number, IsLoggable}
 use Rattle.pfair_entry.specs.declared.notice.Change.{Change}
-use Rattle.pfair_entry.specs.declared.notice.Change.TheVariants.{Arrive, Depart, Late}
+use Rattle.pfair_entry.specs.declared.notice.Change.TheVariants as change
 use Rattle.pfair_c.specs.declared.entry.PfairName.{PfairName}
 use Rattle.pfair_c.specs.declared.entry.PfairEntry.{PfairEntry}
 use Rattle.pfair_entry.specs.declared.entry.Announcement.{Announcement}
@@ -19,9 +19,9 @@ spelled name = take name.length name.bytes
 -- what is announced by an entry of this kind
 abbrev pub change_as : ℕ → PfairEntry → Option Change
 change_as zero e = None
-change_as (suc zero) e = Some (Arrive e.cost e.period (nat_eq e.early 1))
-change_as (suc (suc zero)) e = Some Depart
-change_as (suc (suc (suc n))) e = Some (Late e.index e.by)
+change_as (suc zero) e = Some (change.Arrive e.cost e.period (nat_eq e.early 1))
+change_as (suc (suc zero)) e = Some change.Depart
+change_as (suc (suc (suc n))) e = Some (change.Late e.index e.by)
 
 abbrev pub change_of : PfairEntry → Option Change
 change_of e = change_as e.kind e

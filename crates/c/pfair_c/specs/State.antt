@@ -30,7 +30,7 @@ use Rattle.pfair_c.specs.declared.file.PfairFileFault.{PfairFileFault}
 use Rattle.pfair_state.specs.declared.fault.ReadFault.TheVariants as fault
 use Rattle.pfair_state.specs.declared.fault.Why.TheVariants as why
 use Rattle.pfair_file.specs.declared.field.Field.TheVariants as field
-use Rattle.pfair_file.specs.declared.fault.FileFault.TheVariants as fault
+use Rattle.pfair_file.specs.declared.fault.FileFault.TheVariants as file
 
 abbrev pub began : Dispatch → Carried
 began d = unwrap_or d.origin (first_state d.settings)
@@ -122,10 +122,10 @@ at_key place f = record nowhere { place = place; field = field_number f }
 
 -- where a file is at fault, as C has it
 abbrev pub fault_row : FileFault → PfairFileFault
-fault_row (fault.Missing place f) = at_key place f
-fault_row (fault.WrongKind place f) = at_key place f
-fault_row (fault.Range place f) = at_key place f
-fault_row (fault.Entry processor number cause) = record nowhere { processor = processor; number = number; cause = notice_fault_number cause }
+fault_row (file.Missing place f) = at_key place f
+fault_row (file.WrongKind place f) = at_key place f
+fault_row (file.Range place f) = at_key place f
+fault_row (file.Entry processor number cause) = record nowhere { processor = processor; number = number; cause = notice_fault_number cause }
 fault_row _ = nowhere
 
 -- the file was read, or not for its fault
