@@ -65,6 +65,18 @@ IsGiven f d answer old new = (answer ≡ DONE) × (new ≡ f d)
 abbrev pub IsGivenIf : {A : Type 0} → (Dispatch → ℕ) → (Dispatch → A → A) → Dispatch → (answer : ℕ) → (old new : A) → Type 0
 IsGivenIf answered f d answer old new = (answer ≡ answered d) × (answer ≡ DONE → new ≡ f d old) × ((answer ≡ DONE → ⊥) → new ≡ old)
 
+-- f at the dispatcher d and the output a may give this answer, and leave e and a'
+pub record Writes {F A : Type 0}
+    (g : Once F (MutBor Dispatch × (MutBor A × Unit {0})) (ℕ × (MutBor Dispatch × (MutBor A × Unit {0}))))
+    (f : F) (d e : Dispatch) (answer : ℕ) (a a' : A) : Type 0 where
+  pub shown : MutBor Dispatch
+  pub shown_a : MutBor A
+  pub left : MutBor Dispatch
+  pub left_a : MutBor A
+  pub met : g.post f (shown, (shown_a, tt)) (answer, (left, (left_a, tt)))
+  pub shows : (shown.now ≡ d) × (shown_a.now ≡ a)
+  pub leaves : (left.now ≡ e) × (left_a.now ≡ a')
+
 -- f at the dispatcher d, a and b may give this answer, and leave a' and b'
 pub record GivesRows {F A B : Type 0}
     (g : Once F (Bor Dispatch × (MutBor A × (MutBor B × Unit {0}))) (ℕ × (MutBor A × (MutBor B × Unit {0}))))

@@ -50,7 +50,9 @@ pub extern "C" fn pfair_open(
 pub extern "C" fn pfair_next_run(alloc: Global, handle: &mut Handle, slots: u64) -> u32
     ensures { Changes handle.old.owner.kept handle.new.owner.kept result nothing nothing (λ d e answer _ _. IsNextRunAnswer slots d e answer) }
 {
-    with_open(alloc, handle, |dispatcher| go_on(dispatcher, slots)).unwrap_or(NOT_OPEN)
+    with_open(alloc, handle, &mut (), |dispatcher, _| {
+        go_on(dispatcher, slots)
+    })
 }
 
 fn go_on(dispatcher: &mut Dispatcher<HeapReady>, slots: u64) -> u32

@@ -50,20 +50,16 @@ pub extern "C" fn pfair_settings(
 ) -> u32
     ensures { Reads handle.old.owner.kept handle.new.owner.kept result settings.old settings.new (IsGiven settings_row) }
 {
-    let row = with_open(alloc, handle, |dispatcher| {
+    with_open(alloc, handle, settings, |dispatcher, row| {
         let settings = dispatcher.settings();
-        PfairSettings {
+        *row = PfairSettings {
             processors: settings.processors() as u64,
             frame: settings.frame(),
             slots: settings.slots(),
             capacity: dispatcher.replica().capacity() as u64,
-        }
-    });
-    let Some(row) = row else {
-        return NOT_OPEN;
-    };
-    *settings = row;
-    DONE
+        };
+        DONE
+    })
 }
 
 /// Writes the contents at number `number` (from 1) of the log of `processor` (from 0): 0 nothing, 1
@@ -82,24 +78,21 @@ pub extern "C" fn pfair_held(
 ) -> u32
     ensures { Reads handle.old.owner.kept handle.new.owner.kept result (kind.old, entry.old) (kind.new, entry.new) (IsHeldGiven processor number) }
 {
-    let found = with_open(alloc, handle, |dispatcher| {
-        let replica = dispatcher.replica();
-        match key_answer(replica, processor, number) {
-            DONE => Ok(replica.get(processor, number)),
-            answer => Err(answer),
+    let mut given = (*kind, *entry);
+    let answer = with_open(alloc, handle, &mut given, |dispatcher, given| {
+        let answer = key_answer(dispatcher.replica(), processor, number);
+        if answer == DONE {
+            match dispatcher.replica().get(processor, number) {
+                None => given.0 = 0,
+                Some(Flat::One(held)) => *given = (1, entry_row(&held)),
+                Some(Flat::Torn) => given.0 = 2,
+            }
         }
+        answer
     });
-    *kind = match found {
-        Some(Ok(None)) => 0,
-        Some(Ok(Some(Flat::One(held)))) => {
-            *entry = entry_row(&held);
-            1
-        }
-        Some(Ok(Some(Flat::Torn))) => 2,
-        Some(Err(answer)) => return answer,
-        None => return NOT_OPEN,
-    };
-    DONE
+    *kind = given.0;
+    *entry = given.1;
+    answer
 }
 
 /// Writes the mark of a processor, the floor of the last entry of its sound beginning, and how many
@@ -117,22 +110,21 @@ pub extern "C" fn pfair_mark(
 ) -> u32
     ensures { Reads handle.old.owner.kept handle.new.owner.kept result (slot.old, count.old) (slot.new, count.new) (IsMarkGiven processor) }
 {
-    let found = with_open(alloc, handle, |dispatcher| {
+    let mut given = (*slot, *count);
+    let answer = with_open(alloc, handle, &mut given, |dispatcher, given| {
         let replica = dispatcher.replica();
         if processor >= replica.processors() {
-            return None;
+            return NO_SUCH_PROCESSOR;
         }
-        Some((replica.mark(processor), replica.sound_count(processor)))
+        *given = (
+            replica.mark(processor),
+            replica.sound_count(processor) as u64,
+        );
+        DONE
     });
-    match found {
-        Some(Some((mark, sound))) => {
-            *slot = mark;
-            *count = sound as u64;
-            DONE
-        }
-        Some(None) => NO_SUCH_PROCESSOR,
-        None => NOT_OPEN,
-    }
+    *slot = given.0;
+    *count = given.1;
+    answer
 }
 
 /// Writes the least number of a processor's log at which nothing is held, or 0 if there is none.
@@ -149,21 +141,14 @@ pub extern "C" fn pfair_missing(
 ) -> u32
     ensures { Reads handle.old.owner.kept handle.new.owner.kept result number.old number.new (IsMissingGiven processor) }
 {
-    let found = with_open(alloc, handle, |dispatcher| {
+    with_open(alloc, handle, number, |dispatcher, number| {
         let replica = dispatcher.replica();
         if processor >= replica.processors() {
-            return None;
+            return NO_SUCH_PROCESSOR;
         }
-        Some(replica.missing(processor).unwrap_or(0))
-    });
-    match found {
-        Some(Some(missing)) => {
-            *number = missing as u64;
-            DONE
-        }
-        Some(None) => NO_SUCH_PROCESSOR,
-        None => NOT_OPEN,
-    }
+        *number = replica.missing(processor).unwrap_or(0) as u64;
+        DONE
+    })
 }
 
 /// Writes what is wrong with the logs that are held: the keys that are torn, and after these the
@@ -182,10 +167,14 @@ pub extern "C" fn pfair_faults(
 ) -> u32
     ensures { Reads handle.old.owner.kept handle.new.owner.kept result (torn.old, fallen.old, rows.old) (torn.new, fallen.new, rows.new) AreFaultsGiven }
 {
-    let faults = match with_open(alloc, handle, |dispatcher| dispatcher.replica().faults()) {
-        Some(Ok(faults)) => faults,
-        Some(Err(_)) => return MEMORY,
-        None => return NOT_OPEN,
+    if !handle.is_open() {
+        return NOT_OPEN;
+    }
+    let served = handle.take(alloc);
+    let found = served.dispatcher.replica().faults();
+    handle.put(served);
+    let Ok(faults) = found else {
+        return MEMORY;
     };
     *torn = faults.torn.len() as u64;
     *fallen = faults.fallen.len() as u64;

@@ -3,11 +3,11 @@
 //! Each call that writes rows answers 0 with the number of rows and the rows; 102 if the handle has no
 //! dispatcher; 104 if a slot that is asked for isn't planned, or is forgotten; 103 with the number of
 //! rows wanted, if there are fewer. Nothing else is written.
-ghost use Rattle.std.specs.Prelude.{◌≡◌, Some, None, true, Ok, IsSomeAnd, ◌≤◌, ◌<◌, length, nat_le, if◌then◌else◌};
+ghost use Rattle.std.specs.Prelude.{◌≡◌, Some, None, true, Ok, ◌≤◌, ◌<◌, length, nat_le, if◌then◌else◌};
 ghost use Rattle.std.specs.Fn.{FnOnceReturnsAtMut, FnOnceTakesAtMut};
 ghost use Rattle.pfair_handle.specs.Kept.{is_kept};
 ghost use Rattle.pfair_handle.specs.Behind.{Of, Between};
-ghost use Rattle.pfair_c.specs.Answers.{GivesRows};
+ghost use Rattle.pfair_c.specs.Answers.{GivesRows, Writes};
 ghost use Rattle.pfair_c.specs.RowsGiven.{are_readable};
 
 use crate::answer::{DONE, MEMORY, NO_ROOM, NOT_OPEN};
@@ -16,24 +16,26 @@ use pfair_ready::HeapReady;
 use pfair_table::{Dispatcher, Settings};
 use std::alloc::{AllocError, Global};
 
-/// Calls a function with the dispatcher, and returns what it returns; or `None` if there is no dispatcher.
-pub(crate) fn with_open<T, F: FnOnce(&mut Dispatcher<HeapReady>) -> T>(
+/// Calls a function with the dispatcher and an output, and returns what it answers; or 102 if there
+/// is no dispatcher, and then nothing is written.
+pub(crate) fn with_open<A, F: FnOnce(&mut Dispatcher<HeapReady>, &mut A) -> u32>(
     alloc: Global,
     handle: &mut Handle,
+    output: &mut A,
     called: F,
-) -> Option<T>
+) -> u32
     requires { F.IsAlwaysCallable called }
-    ensures closed { handle.old.owner.kept ≡ None → (result ≡ None) × (handle.new.owner.kept ≡ None) }
+    ensures closed { handle.old.owner.kept ≡ None → (result ≡ NOT_OPEN) × (handle.new.owner.kept ≡ None) × (output.new ≡ output.old) }
     ensures open { is_kept handle.old.owner.kept ≡ true →
-        IsSomeAnd result (λ given. Between handle.old.owner.kept handle.new.owner.kept (λ d e. FnOnceReturnsAtMut F.FnOnce called d given e)) }
+        Between handle.old.owner.kept handle.new.owner.kept (λ d e. Writes F.FnOnce called d e result output.old output.new) }
 {
     if !handle.is_open() {
-        return None;
+        return NOT_OPEN;
     }
     let mut served = handle.take(alloc);
-    let given = called(&mut served.dispatcher);
+    let answer = called(&mut served.dispatcher, output);
     handle.put(served);
-    Some(given)
+    answer
 }
 
 /// Writes rows about the dispatcher and their count, and returns what the function answers; or 102

@@ -4,7 +4,7 @@ ghost use Rattle.pfair_replica.specs.Replica.{replica_of, frontier};
 ghost use Rattle.pfair_table.specs.Refinement.{plan_fault_number};
 ghost use Rattle.pfair_c.specs.Answers.{Reads, Changes, IsGiven, nothing, IsPlannedOn, IsStopOf, IsStoppedBy, IsPlanAnswer, IsPlanToAnswer, IsReopened, forgetting, step_row, fault_row};
 
-use crate::answer::{DONE, MEMORY, NOT_OPEN, OUT_OF_RANGE};
+use crate::answer::{DONE, MEMORY, OUT_OF_RANGE};
 use crate::open::with_open;
 use pfair_handle::Handle;
 use pfair_ready::Ready;
@@ -35,10 +35,9 @@ pub struct PfairStep {
 pub extern "C" fn pfair_plan_next(alloc: Global, handle: &mut Handle, step: &mut PfairStep) -> u32
     ensures { Changes handle.old.owner.kept handle.new.owner.kept result step.old step.new IsPlanAnswer }
 {
-    match with_open(alloc, handle, |dispatcher| dispatcher.plan_next()) {
-        Some(answer) => write_step(answer, step),
-        None => NOT_OPEN,
-    }
+    with_open(alloc, handle, step, |dispatcher, step| {
+        write_step(dispatcher.plan_next(), step)
+    })
 }
 
 /// Plans until `until` slots are planned (1 or more), the next one isn't settled, or none is left.
@@ -56,17 +55,12 @@ pub extern "C" fn pfair_plan_to(
 ) -> u32
     ensures { Changes handle.old.owner.kept handle.new.owner.kept result step.old step.new (IsPlanToAnswer until) }
 {
-    if until < 1 {
-        return if handle.is_open() {
-            OUT_OF_RANGE
-        } else {
-            NOT_OPEN
-        };
-    }
-    match with_open(alloc, handle, |dispatcher| plan_to(dispatcher, until)) {
-        Some(answer) => write_step(answer, step),
-        None => NOT_OPEN,
-    }
+    with_open(alloc, handle, step, |dispatcher, step| {
+        if until < 1 {
+            return OUT_OF_RANGE;
+        }
+        write_step(plan_to(dispatcher, until), step)
+    })
 }
 
 // Plans until `until` slots are planned, the next one isn't settled, or none is left.
@@ -125,14 +119,12 @@ pub extern "C" fn pfair_reserve(alloc: Global, handle: &mut Handle, slots: u64, 
     ensures { Changes handle.old.owner.kept handle.new.owner.kept result nothing nothing
         (λ d e answer _ _. ((answer ≡ DONE) ⊎ (answer ≡ MEMORY)) × (e ≡ d)) }
 {
-    let reserved = with_open(alloc, handle, |dispatcher| {
-        dispatcher.reserve(slots, tasks as usize)
-    });
-    match reserved {
-        Some(Ok(())) => DONE,
-        Some(Err(_)) => MEMORY,
-        None => NOT_OPEN,
-    }
+    with_open(alloc, handle, &mut (), |dispatcher, _| {
+        match dispatcher.reserve(slots, tasks as usize) {
+            Ok(()) => DONE,
+            Err(_) => MEMORY,
+        }
+    })
 }
 
 /// Forgets the tables, places and decisions of the planned slots below `slots`: their memory is
@@ -145,10 +137,10 @@ pub extern "C" fn pfair_forget(alloc: Global, handle: &mut Handle, slots: u64) -
     ensures { Changes handle.old.owner.kept handle.new.owner.kept result nothing nothing
         (λ d e answer _ _. (answer ≡ DONE) × (e ≡ forgetting slots d)) }
 {
-    match with_open(alloc, handle, |dispatcher| dispatcher.forget(slots)) {
-        Some(()) => DONE,
-        None => NOT_OPEN,
-    }
+    with_open(alloc, handle, &mut (), |dispatcher, _| {
+        dispatcher.forget(slots);
+        DONE
+    })
 }
 
 /// Rebuilds everything except the entries and the tables, after which plans go on. Forgotten
@@ -160,11 +152,15 @@ pub extern "C" fn pfair_forget(alloc: Global, handle: &mut Handle, slots: u64) -
 pub extern "C" fn pfair_reopen(alloc: Global, handle: &mut Handle) -> u32
     ensures { Changes handle.old.owner.kept handle.new.owner.kept result nothing nothing (λ d e answer _ _. IsReopened d e answer) }
 {
-    match with_open(alloc, handle, |dispatcher| dispatcher.reopen()) {
-        Some(Ok(())) => DONE,
-        Some(Err(fault)) => fault.number() as u32,
-        None => NOT_OPEN,
-    }
+    with_open(
+        alloc,
+        handle,
+        &mut (),
+        |dispatcher, _| match dispatcher.reopen() {
+            Ok(()) => DONE,
+            Err(fault) => fault.number() as u32,
+        },
+    )
 }
 
 /// Writes the frontier: below this slot every announcement is known. O(processors).
@@ -174,12 +170,10 @@ pub extern "C" fn pfair_reopen(alloc: Global, handle: &mut Handle) -> u32
 pub extern "C" fn pfair_frontier(alloc: Global, handle: &mut Handle, slot: &mut u64) -> u32
     ensures { Reads handle.old.owner.kept handle.new.owner.kept result slot.old slot.new (IsGiven (λ d. frontier (replica_of d.replica))) }
 {
-    let Some(frontier) = with_open(alloc, handle, |dispatcher| dispatcher.replica().frontier())
-    else {
-        return NOT_OPEN;
-    };
-    *slot = frontier;
-    DONE
+    with_open(alloc, handle, slot, |dispatcher, slot| {
+        *slot = dispatcher.replica().frontier();
+        DONE
+    })
 }
 
 /// Writes the slot that is planned next, which is how many are planned. O(1).
@@ -189,9 +183,8 @@ pub extern "C" fn pfair_frontier(alloc: Global, handle: &mut Handle, slot: &mut 
 pub extern "C" fn pfair_next_slot(alloc: Global, handle: &mut Handle, slot: &mut u64) -> u32
     ensures { Reads handle.old.owner.kept handle.new.owner.kept result slot.old slot.new (IsGiven (λ d. length d.tables)) }
 {
-    let Some(next) = with_open(alloc, handle, |dispatcher| dispatcher.next_slot()) else {
-        return NOT_OPEN;
-    };
-    *slot = next;
-    DONE
+    with_open(alloc, handle, slot, |dispatcher, slot| {
+        *slot = dispatcher.next_slot();
+        DONE
+    })
 }

@@ -47,15 +47,9 @@ pub extern "C" fn pfair_take(
 ) -> u32
     ensures { Changes handle.old.owner.kept handle.new.owner.kept result taken.old taken.new (IsTakeAnswer processor number entry.now) }
 {
-    let before = *taken;
-    let done = with_open(alloc, handle, |dispatcher| {
-        take_as(dispatcher, processor, number, entry, before)
-    });
-    let Some((answer, how)) = done else {
-        return NOT_OPEN;
-    };
-    *taken = how;
-    answer
+    with_open(alloc, handle, taken, |dispatcher, taken| {
+        take_as(dispatcher, processor, number, entry, taken)
+    })
 }
 
 fn take_as(
@@ -63,16 +57,17 @@ fn take_as(
     processor: u8,
     number: u32,
     entry: &PfairEntry,
-    before: u64,
-) -> (u32, u64)
-    ensures answer { IsTakeAnswer processor number entry.now dispatcher.old dispatcher.new result.0 before result.1 }
-    ensures open { result.0 ≡ NOT_OPEN → ⊥ }
+    taken: &mut u64,
+) -> u32
+    ensures answer { IsTakeAnswer processor number entry.now dispatcher.old dispatcher.new result taken.old taken.new }
+    ensures open { result ≡ NOT_OPEN → ⊥ }
 {
     match take_one(dispatcher, processor, number, entry) {
-        Ok(Taken::New) => (DONE, 0),
-        Ok(Taken::Known) => (DONE, 1),
-        Ok(Taken::Torn) => (DONE, 2),
-        Err(answer) => (answer, before),
+        Ok(how) => {
+            *taken = how as u64;
+            DONE
+        }
+        Err(answer) => answer,
     }
 }
 
@@ -95,14 +90,9 @@ pub extern "C" fn pfair_take_log(
 ) -> u32
     ensures { Changes handle.old.owner.kept handle.new.owner.kept result counted.old counted.new (IsTakeLogAnswer processor first entries.now) }
 {
-    let taken = with_open(alloc, handle, |dispatcher| {
-        take_log(dispatcher, processor, first, entries)
-    });
-    let Some((answer, taken)) = taken else {
-        return NOT_OPEN;
-    };
-    *counted = taken;
-    answer
+    with_open(alloc, handle, counted, |dispatcher, counted| {
+        take_log(dispatcher, processor, first, entries, counted)
+    })
 }
 
 fn take_log(
@@ -110,24 +100,32 @@ fn take_log(
     processor: u8,
     first: u32,
     entries: &[PfairEntry],
-) -> (u32, PfairTakenLog)
-    ensures answer { IsTakeLogAnswer processor first entries.now dispatcher.old dispatcher.new result.0 result.1 result.1 }
-    ensures open { result.0 ≡ NOT_OPEN → ⊥ }
+    counted: &mut PfairTakenLog,
+) -> u32
+    ensures answer { IsTakeLogAnswer processor first entries.now dispatcher.old dispatcher.new result counted.old counted.new }
+    ensures open { result ≡ NOT_OPEN → ⊥ }
 {
-    let mut counted = PfairTakenLog::default();
+    *counted = PfairTakenLog::default();
     let answer = key_answer(dispatcher.replica(), processor, first);
     if answer != DONE {
-        return (answer, counted);
+        return answer;
     }
     let mut number = first;
     for entry in entries {
         match take_one(dispatcher, processor, number, entry) {
-            Ok(how) => counted = one_more(how, counted),
-            Err(refusal) => return (refusal, counted),
+            Ok(how) => {
+                counted.taken += 1;
+                match how {
+                    Taken::New => counted.fresh += 1,
+                    Taken::Known => counted.known += 1,
+                    Taken::Torn => counted.torn += 1,
+                }
+            }
+            Err(refusal) => return refusal,
         }
         number += 1;
     }
-    (DONE, counted)
+    DONE
 }
 
 fn take_one<R: Ready>(
@@ -142,7 +140,7 @@ fn take_one<R: Ready>(
     ensures offered { OnOk result (replica_of dispatcher.new.replica ≡ offered_to (replica_of dispatcher.old.replica) processor number (logged_of entry.now)) }
     ensures rest { OnOk result (dispatcher.new ≡ record dispatcher.old { replica = dispatcher.new.replica }) }
     ensures refused { IfErr result (IsRefusal dispatcher.old.replica processor number entry.now) }
-    ensures numbered { IfErr result (λ answer. (0 < answer) × (answer ≤ 100)) }
+    ensures numbered { IfErr result (λ answer. (answer ≡ DONE → ⊥) × (answer ≡ NOT_OPEN → ⊥)) }
     ensures unchanged { OnErr result (dispatcher.new ≡ dispatcher.old) }
 {
     // the contract of the capacity bounds every number of a log
@@ -151,21 +149,4 @@ fn take_one<R: Ready>(
     dispatcher
         .take(processor, number, entry)
         .map_err(|fault| fault.number() as u32)
-}
-
-fn one_more(how: Taken, counted: PfairTakenLog) -> PfairTakenLog
-    requires few { counted.taken ≤ Script.LONGEST_LOG }
-    requires each { counted.fresh + counted.known + counted.torn ≡ counted.taken }
-    ensures { result ≡ one_more how counted }
-{
-    let mut more = PfairTakenLog {
-        taken: counted.taken + 1,
-        ..counted
-    };
-    match how {
-        Taken::New => more.fresh += 1,
-        Taken::Known => more.known += 1,
-        Taken::Torn => more.torn += 1,
-    }
-    more
 }
