@@ -39,7 +39,21 @@ pub(crate) fn read_entry(entry: &PfairEntry) -> Result<Entry, u32>
     ensures err { IfErr result (IsEntryFault entry.now) }
     ensures numbered { IfErr result (λ number. (0 < number) × (10 < number → number ≡ 100)) }
 {
-    let notice = match read_change(entry)? {
+    let change = match entry.kind {
+        0 => None,
+        1 if entry.early <= 1 => Some(Change::Arrive {
+            cost: entry.cost,
+            period: entry.period,
+            early: entry.early == 1,
+        }),
+        2 => Some(Change::Depart),
+        3 => Some(Change::Late {
+            index: entry.index,
+            by: entry.by,
+        }),
+        _ => return Err(OUT_OF_RANGE),
+    };
+    let notice = match change {
         None => None,
         Some(change) => {
             if entry.name.length > 16 {
@@ -56,26 +70,6 @@ pub(crate) fn read_entry(entry: &PfairEntry) -> Result<Entry, u32>
     checked_entry(entry.floor, notice).map_err(|fault| fault.number() as u32)
 }
 
-fn read_change(entry: &PfairEntry) -> Result<Option<Change>, u32>
-    ensures ok { IfOk result (λ change. (change ≡ change_of entry.now) × IsInRange entry.now) }
-    ensures err { IfErr result (λ number. (number ≡ OUT_OF_RANGE) × (IsInRange entry.now → ⊥)) }
-{
-    match entry.kind {
-        0 => Ok(None),
-        1 if entry.early <= 1 => Ok(Some(Change::Arrive {
-            cost: entry.cost,
-            period: entry.period,
-            early: entry.early == 1,
-        })),
-        2 => Ok(Some(Change::Depart)),
-        3 => Ok(Some(Change::Late {
-            index: entry.index,
-            by: entry.by,
-        })),
-        _ => Err(OUT_OF_RANGE),
-    }
-}
-
 /// Returns the entry as C has it, with zeros in the fields that its kind doesn't need.
 pub(crate) fn entry_row(entry: &Entry) -> PfairEntry
     ensures { result ≡ entry_row entry.now }
@@ -87,33 +81,25 @@ pub(crate) fn entry_row(entry: &Entry) -> PfairEntry
     let Some((at, announcement)) = entry.said() else {
         return silent;
     };
+    let said = PfairEntry {
+        at,
+        name: name_row(&announcement.name()),
+        ..silent
+    };
     match announcement {
-        Announcement::Arrive {
-            name,
-            weight,
-            early,
-        } => PfairEntry {
+        Announcement::Arrive { weight, early, .. } => PfairEntry {
             kind: 1,
-            at,
-            name: name_row(&name),
             cost: weight.cost(),
             period: weight.period(),
-            early: if early { 1 } else { 0 },
-            ..silent
+            early: early as u64,
+            ..said
         },
-        Announcement::Depart { name } => PfairEntry {
-            kind: 2,
-            at,
-            name: name_row(&name),
-            ..silent
-        },
-        Announcement::Late { name, index, by } => PfairEntry {
+        Announcement::Depart { .. } => PfairEntry { kind: 2, ..said },
+        Announcement::Late { index, by, .. } => PfairEntry {
             kind: 3,
-            at,
-            name: name_row(&name),
             index,
             by,
-            ..silent
+            ..said
         },
     }
 }

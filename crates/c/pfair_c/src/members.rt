@@ -80,27 +80,20 @@ fn write_members(members: &Members, time: u64, rows: &mut [PfairMember])
     ensures { rows.new ≡ written_over (map (member_row time) members.now.members) rows.old }
 {
     for place in 0..members.len() {
-        write_row(members, place, time, rows);
-    }
-}
-
-fn write_row(members: &Members, place: usize, time: u64, rows: &mut [PfairMember])
-    requires { place + 1 ≤ length rows.old }
-    ensures { (member : Member) → slice_get members.now.members place ≡ Some member → rows.new ≡ set rows.old place (member_row time member) }
-{
-    if let Some((_, member)) = members.at(place) {
-        let weight = member.weight();
-        rows[place] = PfairMember {
-            name: name_row(member.name()),
-            cost: weight.cost(),
-            period: weight.period(),
-            early: if member.early() { 1 } else { 0 },
-            joined: member.joined(),
-            next: member.next(),
-            theta: member.theta(member.next()),
-            is_departing: if member.is_departing() { 1 } else { 0 },
-            freed_at: member.freed_at().unwrap_or(0),
-            lag: member.lag(time).clamp(i64::MIN as i128, i64::MAX as i128) as i64,
-        };
+        if let Some((_, member)) = members.at(place) {
+            let weight = member.weight();
+            rows[place] = PfairMember {
+                name: name_row(member.name()),
+                cost: weight.cost(),
+                period: weight.period(),
+                early: if member.early() { 1 } else { 0 },
+                joined: member.joined(),
+                next: member.next(),
+                theta: member.theta(member.next()),
+                is_departing: if member.is_departing() { 1 } else { 0 },
+                freed_at: member.freed_at().unwrap_or(0),
+                lag: member.lag(time).clamp(i64::MIN as i128, i64::MAX as i128) as i64,
+            };
+        }
     }
 }

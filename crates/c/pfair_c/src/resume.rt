@@ -122,9 +122,7 @@ fn began_text(alloc: Global, dispatcher: &Dispatcher<HeapReady>) -> Result<Vec<u
     ensures readable { OnOk result (IsWritable (began dispatcher.now)) }
 {
     let mut writer = new_text(alloc);
-    match dispatcher.state() {
-        Some(state) => add_state(&mut writer, state)?,
-        None => add_state(&mut writer, &State::first(alloc, dispatcher.settings()))?,
-    }
+    let first = State::first(alloc, dispatcher.settings());
+    add_state(&mut writer, dispatcher.state().unwrap_or(&first))?;
     finish(writer)
 }
