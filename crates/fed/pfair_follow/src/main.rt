@@ -30,7 +30,9 @@ fn main(rt: HostRuntime) -> ExitCode {
 fn run(rt: &HostRuntime) -> Result<(), FollowFault> {
     let words = given_words(rt, ProgramFault::CommandLine)?;
     match read_words(rt.alloc(), words.as_slice())? {
-        Asked::Entries { file } => Ok(print_entries(rt, &file)?),
+        Asked::Entries { file } => {
+            Ok(entries(rt.alloc(), &mut opened(rt, &file)?, &mut rt.stdout())?)
+        }
         Asked::Replay { feed, affinity } => {
             let output = if affinity {
                 Output::PlacedTables
@@ -41,67 +43,34 @@ fn run(rt: &HostRuntime) -> Result<(), FollowFault> {
         }
         Asked::Decisions { feed } => run_fed(rt, Output::Decisions, &feed),
         Asked::Lags { feed } => run_fed(rt, Output::Lags, &feed),
-        Asked::Help { text } => Ok(print_text(rt, &text)?),
+        Asked::Help { text } => Ok(send(&mut rt.stdout(), text.as_bytes()).map_err(
+            ProgramFault::from,
+        )?),
     }
 }
 
-// Prints the entries of a task file.
-fn print_entries(rt: &HostRuntime, file: &str) -> Result<(), ProgramFault> {
-    entries(rt.alloc(), &mut opened(rt, file)?, &mut rt.stdout())
-}
-
-// Prints a text about the program.
-fn print_text(rt: &HostRuntime, text: &str) -> Result<(), ProgramFault> {
-    Ok(send(&mut rt.stdout(), text.as_bytes())?)
-}
-
-// Feeds the run that is asked for with the rows of standard input.
+// Feeds the run that is asked for with the rows of standard input, and saves the state that it leaves.
 fn run_fed(rt: &HostRuntime, output: Output, feed: &Feed) -> Result<(), FollowFault> {
     let mut follower = begun(rt, output, feed)?;
-    match &feed.save {
-        Some(file) => follow_and_save(rt, &mut follower, file, feed.is_strict),
-        None => follow_on(rt, &mut follower, feed.is_strict),
-    }
-}
-
-// Feeds a run to the end of its input.
-fn follow_on(
-    rt: &HostRuntime,
-    follower: &mut Follower<HeapReady>,
-    is_strict: bool,
-) -> Result<(), FollowFault>
-    requires { IsFresh follower.old }
-{
-    let mut reader = rt.stdin();
-    let mut writer = rt.stdout();
-    let end = follow_rows(
-        rt.alloc(),
-        follower,
-        &mut reader,
-        &mut writer,
-        &mut rt.stderr(),
-        is_strict,
-    );
-    Ok(end?)
-}
-
-// Feeds a run to its last slot, and saves the state that it leaves.
-fn follow_and_save(
-    rt: &HostRuntime,
-    follower: &mut Follower<HeapReady>,
-    file: &str,
-    is_strict: bool,
-) -> Result<(), FollowFault>
-    requires { IsFresh follower.old }
-{
-    let mut reader = rt.stdin();
-    let mut writer = rt.stdout();
+    let (alloc, is_strict) = (rt.alloc(), feed.is_strict);
+    let (mut reader, mut writer, mut complaints) = (rt.stdin(), rt.stdout(), rt.stderr());
+    let Some(file) = &feed.save else {
+        let end = follow_rows(
+            alloc,
+            &mut follower,
+            &mut reader,
+            &mut writer,
+            &mut complaints,
+            is_strict,
+        );
+        return Ok(end?);
+    };
     let text = follow_and_leave(
-        rt.alloc(),
-        follower,
+        alloc,
+        &mut follower,
         &mut reader,
         &mut writer,
-        &mut rt.stderr(),
+        &mut complaints,
         is_strict,
     )?;
     save(rt, file, &text)
