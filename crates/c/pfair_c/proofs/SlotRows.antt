@@ -1,22 +1,17 @@
 -- The quanta of several slots, row by row and slot by slot.
-use Rattle.pfair_c.proofs.Common.{◌≡◌, ◌∙◌, ◌+◌, ℕ, zero, suc, ◌<◌, ◌≤◌, List, [], ◌∷◌, ◌++◌, Some, map, refl, take, drop, set, slice_get, length, get_or, ap, arith, sym, get_or_from_slice_get, windows_of, first_left, ◌-◌, min, append_assoc, length-append, Table, PfairQuantum, quanta_at, quanta_in, rows_of, slot_of, written_over, length-map, Book, Decided, Dispatch, first_time, none-some, same_Some, book_after, book_rows, lags_at, IsPlannedOn}
+use Rattle.pfair_c.proofs.Common.{◌≡◌, ◌∙◌, ◌+◌, ℕ, zero, suc, ◌<◌, ◌≤◌, List, [], ◌∷◌, ◌++◌, Some, map, refl, take, drop, set, slice_get, length, get_or, ap, arith, sym, get_or_from_slice_get, windows_of, first_left, ◌-◌, min, append_assoc, length-append, Table, PfairQuantum, quanta_at, quanta_in, rows_of, slot_of, written_over, length-map, Book, Decided, Dispatch, first_time, none-some, same_Some, book_after, book_rows, lags_at, IsPlannedOn, window_row, quantum_row, drop-drop, Origin, Settings, max, course_of, IsStepOf}
 use Rattle.pfair_weight.specs.Window.{Share}
 use Rattle.pfair_c.specs.declared.window.PfairWindow.{PfairWindow}
-use Rattle.pfair_c.specs.Rows.{window_row, quantum_row}
-use Rattle.std.proofs.lemmas.List.{drop-drop}
 use Rattle.pfair_table.specs.declared.slot.Pick.{Pick}
-use Rattle.pfair_table.specs.Table.{Origin, Settings}
 use Rattle.std.proofs.Math.Seq.{take-append_seam, drop-append_seam}
 use Rattle.pfair_table.specs.Places.{places_in, IsFit}
 use Rattle.std.specs.List.{AllByRecursion}
 use Rattle.pfair_output.specs.Lags.{slot_booked, all_slots_booked, first_book}
 use Rattle.pfair_output.proofs.BookedFacts.{time-all_booked}
-use Rattle.std.proofs.Common.{max}
 use Rattle.std.proofs.Math.Nat.{le-max_right}
 use Rattle.pfair_table.specs.declared.run.Event.TheVariants.{Plan}
 use Rattle.pfair_table.specs.declared.answer.Step.TheVariants.{Planned}
 use Rattle.pfair_table.specs.Events.{happens, Course}
-use Rattle.pfair_table.specs.Refinement.{course_of, IsStepOf}
 
 -- One row more is written over the first of those that were there.
 

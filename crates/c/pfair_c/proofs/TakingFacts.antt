@@ -1,18 +1,15 @@
 -- One entry more of a log is taken.
-use Rattle.pfair_c.proofs.Common.{◌≡◌, ◌∙◌, ◌+◌, ℕ, zero, suc, ◌<◌, ◌∷◌, [], List, false, length, take, get_or, ap, sym, refl, subst, arith, slice_get, get_or_from_slice_get, Replica, all_taken, untaken, AreOfLog}
-use Rattle.std.proofs.Common.{Bool, true, if◌then◌else◌}
+use Rattle.pfair_c.proofs.Common.{◌≡◌, ◌∙◌, ◌+◌, ℕ, zero, suc, ◌<◌, ◌∷◌, [], List, false, length, take, get_or, ap, sym, refl, subst, arith, slice_get, get_or_from_slice_get, Replica, all_taken, untaken, AreOfLog, Bool, true, if◌then◌else◌, with_entry, ReplicaRows, has_key, taken, met, one_more, Taking, one_taken, IsRefusal, IsRefusedAt}
 use Rattle.pfair_lattice.specs.declared.join_map.Flat.TheVariants.{One, Torn as TornContent}
 use Rattle.std.specs.declared.option.Option.TheVariants.{None, Some}
 use Rattle.pfair_lattice.specs.Held.{Held}
 use Rattle.pfair_entry.specs.Entry.{Logged, entry_exact}
-use Rattle.pfair_replica.specs.Replica.{with_entry, ReplicaRows, has_key, taken}
 use Rattle.pfair_replica.specs.Faults.{IsTakenAs}
 use Rattle.pfair_replica.specs.declared.answer.Taken.{Taken}
 use Rattle.pfair_replica.specs.declared.answer.Taken.TheVariants.{New, Known, Torn}
 use Rattle.pfair_c.specs.Entries.{logged_of, IsMeant}
 use Rattle.pfair_c.specs.declared.entry.PfairEntry.{PfairEntry}
 use Rattle.pfair_c.specs.declared.take.PfairTakenLog.{PfairTakenLog}
-use Rattle.pfair_c.specs.Taking.{met, one_more, Taking, one_taken, IsRefusal, IsRefusedAt}
 
 -- ---- keys are those of the shape, which stays
 

@@ -70,7 +70,6 @@ pub(crate) fn read_entry(entry: &PfairEntry) -> Result<Entry, u32>
     checked_entry(entry.floor, notice).map_err(|fault| fault.number() as u32)
 }
 
-/// Returns the entry as C has it, with zeros in the fields that its kind doesn't need.
 pub(crate) fn entry_row(entry: &Entry) -> PfairEntry
     ensures { result ≡ entry_row entry.now }
 {

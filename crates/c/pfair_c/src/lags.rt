@@ -107,7 +107,6 @@ fn collect_lags<R: Ready>(
     Ok((count, lags))
 }
 
-// Appends the lags of a book, if there are at most `room` then.
 fn push_lags(book: &LagBook, room: usize, lags: &mut Vec<PfairLag>) -> Result<(), AllocError>
     ensures { OnOk result (length lags.old.items + length book.now.entered ≤ room → lags.new.items ≡ lags.old.items ++ book_rows book.now) }
 {

@@ -1,6 +1,5 @@
 //! Who is there after the planned slots, in rows.
 ghost use Rattle.std.specs.Prelude.{◌≡◌, ◌≤◌, ◌+◌, length, map, set, slice_get};
-ghost use Rattle.pfair_admission.specs.Member.{Member};
 ghost use Rattle.pfair_c.specs.Answers.{Reads};
 ghost use Rattle.pfair_c.specs.Rows.{written_over};
 ghost use Rattle.pfair_c.specs.RowsGiven.{AreMembersGiven, member_row, time_of};

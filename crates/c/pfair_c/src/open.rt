@@ -62,9 +62,8 @@ pub(crate) fn give_rows<B, F: FnOnce(&Dispatcher<HeapReady>, &mut u64, &mut [B])
     answer
 }
 
-/// Puts a dispatcher that was made behind a handle that has none.
-///
-/// Returns 0; or 90 if an allocation failed or fails, and then the handle has none.
+/// Puts a dispatcher that was made behind a handle that has none. Returns 0; or 90 if an allocation
+/// failed or fails, and then the handle has none.
 pub(crate) fn put_new(
     alloc: Global,
     handle: &mut Handle,
@@ -84,7 +83,6 @@ pub(crate) fn put_new(
     DONE
 }
 
-/// Whether the slots `from` to `to` - 1 are planned, and none of them is forgotten.
 pub(crate) fn are_readable(dispatcher: &Dispatcher<HeapReady>, from: u64, to: u64) -> bool
     ensures tables { result ≡ are_readable dispatcher.now.forgotten (length dispatcher.now.tables) from to }
     ensures decided { result ≡ are_readable dispatcher.now.forgotten (length dispatcher.now.decided) from to }
@@ -94,9 +92,8 @@ pub(crate) fn are_readable(dispatcher: &Dispatcher<HeapReady>, from: u64, to: u6
     to <= dispatcher.next_slot() && (to <= from || dispatcher.forgotten() <= from)
 }
 
-/// Writes `wanted` to `count`, and the rows if there is room for all.
-///
-/// Returns 0; or 103 if there are fewer rows, and then none is written.
+/// Writes `wanted` to `count`, and the rows if there is room for all. Returns 0; or 103 if there are
+/// fewer rows, and then none is written.
 pub(crate) fn lay_rows<B, W: FnOnce(&mut [B])>(
     wanted: u64,
     count: &mut u64,

@@ -1,15 +1,4 @@
 -- The names that many of these proofs cite, passed on from one place. Declares nothing.
-pub use Rattle.core.proofs.alloc.Calls.{Al, Goes-blank, handle_tells}
-pub use Rattle.core.proofs.atomic.Steps.{fm}
-pub use Rattle.core.proofs.cell.Inside.{Good}
-pub use Rattle.pfair_handle.specs.Kept.{Kept, is_kept}
-pub use Rattle.std.proofs.Common.{refl, sym, ◌≡◌, List, [], ◌∷◌, ◌++◌, subst, true≢false, ap, ◌∙◌}
-pub use Rattle.std.proofs.raw_atomic.Walks.{proved_at, leaves}
-pub use Rattle.std.specs.declared.option.Option.TheVariants.{None, Some}
-pub use Rattle.std_alloc.proofs.BoxSteps.Form.{D, B, word, box_typed}
-pub use Rattle.std_alloc.proofs.BoxSteps.Steps.{box_in, box_out}
-pub use Rattle.std_alloc.proofs.ResultValues.{and_tt}
-pub use Rattle.std_alloc.specs.Box.Ownership.{box_owns}
 pub use base.Fml.{flft, fsep, ftrue}
 pub use base.Logic.{SProp, emp, ent, fst∗, id⊢, never}
 pub use contract.Monad.{fact, fact_i}
@@ -36,3 +25,14 @@ pub use types.Kit.{ !, Goal, Item, Seq, Step, at_ret, await, by, done, drop, feq
 pub use types.Logic.{Logic, sem}
 pub use types.Part.{agg, sub, whole}
 pub use types.Run.{and_then, blocks, enter, exec, first, fld, lit, no_more, of_opd, returns, stop}
+pub use Rattle.core.proofs.alloc.Calls.{Al, Goes-blank, handle_tells}
+pub use Rattle.core.proofs.atomic.Steps.{fm}
+pub use Rattle.core.proofs.cell.Inside.{Good}
+pub use Rattle.pfair_handle.specs.Kept.{Kept, is_kept}
+pub use Rattle.std.proofs.Common.{refl, sym, ◌≡◌, List, [], ◌∷◌, ◌++◌, subst, true≢false, ap, ◌∙◌, ℕ, lit<, w64, true}
+pub use Rattle.std.proofs.raw_atomic.Walks.{proved_at, leaves}
+pub use Rattle.std.specs.declared.option.Option.TheVariants.{None, Some}
+pub use Rattle.std_alloc.proofs.BoxSteps.Form.{D, B, word, box_typed, Bx}
+pub use Rattle.std_alloc.proofs.BoxSteps.Steps.{box_in, box_out}
+pub use Rattle.std_alloc.proofs.ResultValues.{and_tt}
+pub use Rattle.std_alloc.specs.Box.Ownership.{box_owns}

@@ -1,6 +1,5 @@
 -- The machine values of a `Loose`. Assumes `Logic`.
-use Rattle.std.proofs.Common.{ℕ}
-use Rattle.pfair_handle.proofs.Common.{impl, tnil, dnil, Val, vptr, vstruct, vcons, vnil, of_list, has_ty, WT, never, fst∗, Logic, sem, Item, Goal, Seq, Step, step, ‵, ◌$◌, move, drop, fsplit, fjoin, fpick, fpack, feq_i, feq_l, RattleType, Valss, Ptr, block_ptr, null_ptr, ptr_val, in_a_block, nothing, Al, handle_tells, ◌≡◌, List, [], ◌∷◌, ◌++◌, refl, subst, bare, RawPtr, layout, within, shape, Good, box_owns, and_tt}
+use Rattle.pfair_handle.proofs.Common.{impl, tnil, dnil, Val, vptr, vstruct, vcons, vnil, of_list, has_ty, WT, never, fst∗, Logic, sem, Item, Goal, Seq, Step, step, ‵, ◌$◌, move, drop, fsplit, fjoin, fpick, fpack, feq_i, feq_l, RattleType, Valss, Ptr, block_ptr, null_ptr, ptr_val, in_a_block, nothing, Al, handle_tells, ◌≡◌, List, [], ◌∷◌, ◌++◌, refl, subst, bare, RawPtr, layout, within, shape, Good, box_owns, and_tt, ℕ}
 use mathlib.Core.Bool.{true, ◌&&◌}
 use lib.Dec.{T}
 use seplogic.Ra.Ura.{Ura}

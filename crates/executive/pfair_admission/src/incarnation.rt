@@ -1,6 +1,5 @@
 //! One incarnation of a task: from its joining slot to its freeing slot.
 ghost use Rattle.std.specs.Prelude.{◌≡◌, ◌≤◌, ◌<◌, ◌+◌, ◌-◌, ◌*◌, ◌↔◌, IsTrue, Some, IfOk, OnOk, OnErr, nat_lt};
-ghost use Rattle.pfair_weight.specs.Window.{release_of};
 ghost use Rattle.pfair_admission.specs.Member.{IsMember, last_offset, theta, is_departing, lag_at, eligible_from, next_key, busy_until, freeing_slot};
 ghost use Rattle.pfair_admission.specs.Admission.{with_delay, is_freed, departure, late_release, running, quantum_of, seatless, after_departure, after_late_release, after_quantum};
 ghost use Rattle.pfair_admission.specs.Carried.{carried, jobs_done, CanBeCarried, member_in};

@@ -1,7 +1,6 @@
 //! The members of a machine at the boundary of a slot, and the decisions on announcements.
 ghost use Rattle.std.specs.Prelude.{◌≡◌, ℕ, ◌≤◌, ◌<◌, ◌+◌, ◌-◌, ◌*◌, ◌^◌, Bool, true, [], ◌∷◌, ◌++◌, filter, nat_eq, OnOk, OnErr, IfOk, IfErr, IfSome, IfNone, None, Some, length, map, take};
 ghost use Rattle.std.specs.List.{AllByRecursion};
-ghost use Rattle.indexmap.specs.IndexMap.{values, IsUnique};
 ghost use Rattle.pfair_weight.specs.Window.{units_of};
 ghost use Rattle.pfair_entry.specs.Entry.{IsWithinLimits};
 ghost use Rattle.pfair_entry.specs.declared.entry.Announcement.TheVariants.{Arrive, Depart, Late};

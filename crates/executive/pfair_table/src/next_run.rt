@@ -1,10 +1,8 @@
 //! A run after a run, which begins with the members that the last one left.
 ghost use Rattle.std.specs.Prelude.{◌≡◌, ◌≤◌, ◌+◌, false, Some, IfOk, IfErr, OnOk};
-ghost use Rattle.std.specs.List.{AllByRecursion};
 ghost use Rattle.std.specs.Option.{option_map};
 ghost use Rattle.pfair_replica.specs.Replica.{IsShape};
 ghost use Rattle.pfair_admission.specs.declared.members.TheConstants.Members.{LAST_SLOT};
-ghost use Rattle.pfair_admission.specs.Carried.{CanBeCarried};
 ghost use Rattle.pfair_table.specs.Events.{begin_at};
 ghost use Rattle.pfair_table.specs.Places.{IsOrigin, settings_from};
 ghost use Rattle.pfair_table.specs.NextRun.{CanBeFollowed, AreCarriedOf, IsFinished, IsNextRunFault, IsResumeFault, end_of, left_by, members_left, start_after};

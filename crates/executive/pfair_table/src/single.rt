@@ -2,7 +2,6 @@
 ghost use Rattle.std.specs.Prelude.{◌≡◌, ◌+◌, ◌<◌, ◌≤◌, List, [], IfOk, OnOk, Some, None, false, slice_get, length, take};
 ghost use Rattle.pfair_replica.specs.Replica.{replica_of};
 ghost use Rattle.pfair_table.specs.Script.{held_of, replica_of_logs};
-ghost use Rattle.pfair_entry.specs.Entry.{Logged};
 
 use crate::dispatcher::Dispatcher;
 use crate::run::offer;

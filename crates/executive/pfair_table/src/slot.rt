@@ -3,8 +3,6 @@ ghost use Rattle.std.specs.Prelude.{◌≡◌, ◌≤◌, ◌<◌, ◌+◌, Some
 ghost use Rattle.std.specs.Option.{ForSome};
 ghost use Rattle.std.specs.List.{AllByRecursion};
 ghost use Rattle.pfair_weight.specs.Name.{NamesApart};
-ghost use Rattle.pfair_order.specs.declared.Key.{Key};
-ghost use Rattle.pfair_replica.specs.Laws.{Among};
 ghost use Rattle.pfair_entry.specs.Entry.{IsWithinLimits};
 ghost use Rattle.pfair_table.specs.Planning.{decisions_at, world_at, rows_at, IsQueue, IsQueueBut, IsQueueWithout, IsNotifiedOf, MayRun, keys_of};
 ghost use Rattle.pfair_table.specs.Table.{with_decisions, pick, all_ran};

@@ -1,13 +1,7 @@
 -- Followers that go on, and the rows and books of what they plan.
-use Rattle.pfair_feed.proofs.Common.{append-nil, length-append, IsPrefixOf, Dispatch, IsGrown, ◌≡◌, ◌≤◌, sym, ap, ◌∙◌, arith, List, [], ◌++◌, length, append_assoc, length-map, replica_of, frontier, numbers_below, empty_replica, mark, IsWholePlan, course_of, Origin, plan, Settings, plan_decisions, Course, begin_at, ℕ, None, map, min, zero, suc, refl, ◌∷◌, fold, cases_order, drop_all, length-take, take_all, take-append-drop, take-append-le, Table, IsBookIfAny, IsBookOf, KeepsUnwritten, Output, book_before, rows_in, ◌+◌, ◌-◌, subst, take, drop, Option, Some, max, Book, Decided, first_book, rows_booked, Lags, drop-append-le, length-drop, header_of, lines_text, ◌<◌, slice_get, slots_from, Tables, PlacedTables, Decisions, WholeRows, appends-more, Appends, Keeps, Follow, news, HasGoneOn, IsCaughtUp, Result, Ok, Err, IsErrAnd, lines_text-append}
-use Rattle.pfair_table.proofs.Runs.{length_numbers}
-use Rattle.std.proofs.Math.Seq.{take-add, drop-append_seam}
-use Rattle.pfair_output.specs.Lags.{all_slots_booked, slot_booked}
+use Rattle.pfair_feed.proofs.Common.{append-nil, length-append, IsPrefixOf, Dispatch, IsGrown, ◌≡◌, ◌≤◌, sym, ap, ◌∙◌, arith, List, [], ◌++◌, length, append_assoc, length-map, replica_of, frontier, numbers_below, empty_replica, mark, IsWholePlan, course_of, Origin, plan, Settings, plan_decisions, Course, begin_at, ℕ, None, map, min, zero, suc, refl, ◌∷◌, fold, cases_order, drop_all, length-take, take_all, take-append-drop, take-append-le, Table, IsBookIfAny, IsBookOf, KeepsUnwritten, Output, book_before, rows_in, ◌+◌, ◌-◌, subst, take, drop, Option, Some, max, Book, Decided, first_book, rows_booked, Lags, drop-append-le, length-drop, header_of, lines_text, ◌<◌, slice_get, slots_from, Tables, PlacedTables, Decisions, WholeRows, appends-more, Appends, Keeps, Follow, news, HasGoneOn, IsCaughtUp, Result, Ok, Err, IsErrAnd, lines_text-append, length_numbers, take-add, drop-append_seam, all_slots_booked, slot_booked, places_after, places_from, places_in, placed_table_rows, table_rows, decided_rows, RowsGoOn}
 use Rattle.pfair_output.proofs.BookedFacts.{time-all_booked}
 use Rattle.pfair_output.proofs.WorldFacts.{first_time, whole_rows}
-use Rattle.pfair_table.specs.Places.{places_after, places_from, places_in}
-use Rattle.pfair_output.specs.Replay.{placed_table_rows, table_rows, decided_rows}
-use Rattle.pfair_feed.specs.Laws.{RowsGoOn}
 
 -- What plans add to what was planned.
 

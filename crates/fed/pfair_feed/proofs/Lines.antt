@@ -1,13 +1,7 @@
 -- Lines that are fed, byte after byte, where only the first bytes of the open line are kept.
-use Rattle.std.proofs.Common.{◌&&◌, not, nat_lt, drop-cons, IfErr}
-use Rattle.pfair_replica.specs.Laws.{held_after}
-use Rattle.pfair_feed.proofs.Common.{Keeps, TakesPrefix, Logged, replica_of, held, Replica, frontier, has_torn, with_entry, Follow, IsSameRun, IsStopOf, news, IsGrown, HasFailed, HasStood, IsCaughtUp, IsFedLine, IsTakenFrom, and_parts, ltb-true, arith, ℕ, ◌≡◌, ◌≢◌, refl, sym, ap, subst, ◌∙◌, List, Option, Ok, true, false, inl, inr, ◌≤◌, Bool, length, min, None, Some, ◌⊎◌, if◌then◌else◌, taken, ProgramFault, WriteFailed, Memory, is_refusal, One, AllByRecursion, flat_map, Consumes, IsAtEnd, cases_lt, append-nil, length-append, length-drop, length-take, take_all, take-append-le, SameShape, IsPlannedOut, AreFedBytes, AreLines, AreTakenFrom, IsFedTo, IsLeft, IsStopped, IsWelcome, ended, question, suc, ◌+◌, ◌<◌, [], ◌∷◌, ◌++◌, take, drop, get_or, Result, Err, append_assoc, slice_get, IsErrAnd, Keeps-refl, flat_map-append}
+use Rattle.pfair_feed.proofs.Common.{Keeps, TakesPrefix, Logged, replica_of, held, Replica, frontier, has_torn, with_entry, Follow, IsSameRun, IsStopOf, news, IsGrown, HasFailed, HasStood, IsCaughtUp, IsFedLine, IsTakenFrom, and_parts, ltb-true, arith, ℕ, ◌≡◌, ◌≢◌, refl, sym, ap, subst, ◌∙◌, List, Option, Ok, true, false, inl, inr, ◌≤◌, Bool, length, min, None, Some, ◌⊎◌, if◌then◌else◌, taken, ProgramFault, WriteFailed, Memory, is_refusal, One, AllByRecursion, flat_map, Consumes, IsAtEnd, cases_lt, append-nil, length-append, length-drop, length-take, take_all, take-append-le, SameShape, IsPlannedOut, AreFedBytes, AreLines, AreTakenFrom, IsFedTo, IsLeft, IsStopped, IsWelcome, ended, question, suc, ◌+◌, ◌<◌, [], ◌∷◌, ◌++◌, take, drop, get_or, Result, Err, append_assoc, slice_get, IsErrAnd, Keeps-refl, flat_map-append, ◌&&◌, not, nat_lt, drop-cons, IfErr, held_after, has_key, NoSuchProcessor, NumberOutOfRange, Row, ReadFailed, Consumes-nil, Consumes-trans, RowsAreShort}
 use Rattle.pfair_entry_row.specs.Row.{IsReadingOf, Reading, entry_row, IsEntryAt}
-use Rattle.pfair_replica.specs.Replica.{has_key}
-use Rattle.pfair_file.specs.declared.program_fault.ProgramFault.TheVariants.{NoSuchProcessor, NumberOutOfRange, Row, ReadFailed}
 use Rattle.pfair_feed.proofs.Going.{stays, longer, planned, gone_trans}
-use Rattle.std.proofs.KnownBytes.{Consumes-nil, Consumes-trans}
-use Rattle.pfair_entry_row.specs.Laws.{RowsAreShort}
 use Rattle.pfair_feed.proofs.ScriptRows.{all_append}
 
 -- What a line that is read brings.

@@ -1,15 +1,10 @@
 -- Lines that have the rows of a script leave the script.
-use Rattle.pfair_feed.proofs.Common.{appends-more, AllByRecursion, and_parts, leb-true, ltb-true, Logged, Below, Replica, empty_replica, run_of, Course, run, Settings, AreTakenFrom, IsTakenFrom, AreAmong, BringsNothing, HasScheduleOf, Among, IsPlaced, IsScript, Placed, placed_in, replica_with_room, row_of, rows_of, HaveTheRows, line, Output, header_of, Appends, replica_of, news, ℕ, ◌+◌, ◌<◌, ◌≤◌, ◌≡◌, inl, inr, refl, sym, ap, subst, ◌∙◌, arith, List, [], ◌∷◌, map, Some, None, ◌++◌, ◌⊎◌, One, taken, LoggedRun, capacity_of, contents_of, replica_of_logs, entry_eq, entry_exact, text_of}
-use Rattle.pfair_lattice.specs.Held.{HeldBelow, below_antisym}
-use Rattle.pfair_entry_row.specs.Laws.{EachEntryHasItsRow}
-use Rattle.pfair_table.specs.Events.{EventsLeaveTheLeast, IsBroughtBelow}
-use Rattle.pfair_feed.specs.Laws.{EntriesAreTheirRows, EntriesGiveTheirSchedule, OrderIsNothing, WholeText, FedEntriesGiveTheirText}
+use Rattle.pfair_feed.proofs.Common.{appends-more, AllByRecursion, and_parts, leb-true, ltb-true, Logged, Below, Replica, empty_replica, run_of, Course, run, Settings, AreTakenFrom, IsTakenFrom, AreAmong, BringsNothing, HasScheduleOf, Among, IsPlaced, IsScript, Placed, placed_in, replica_with_room, row_of, rows_of, HaveTheRows, line, Output, header_of, Appends, replica_of, news, ℕ, ◌+◌, ◌<◌, ◌≤◌, ◌≡◌, inl, inr, refl, sym, ap, subst, ◌∙◌, arith, List, [], ◌∷◌, map, Some, None, ◌++◌, ◌⊎◌, One, taken, LoggedRun, capacity_of, contents_of, replica_of_logs, entry_eq, entry_exact, text_of, HeldBelow, below_antisym, EachEntryHasItsRow, EventsLeaveTheLeast, IsBroughtBelow, EntriesAreTheirRows, EntriesGiveTheirSchedule, OrderIsNothing, WholeText, FedEntriesGiveTheirText, all_among, among_all, among_map, map_among}
 use Rattle.pfair_feed.proofs.ScriptRows.{all_placed, at_logs, entries_are_lines, in_logs, schedule_with_room, lines_are_one}
 use Rattle.pfair_table.specs.declared.run.Event.{Event}
 use Rattle.pfair_table.specs.declared.run.Event.TheVariants.{Take}
 use Rattle.pfair_feed.proofs.Going.{rows_go_on, whole_texts}
 use Rattle.pfair_admission.proofs.MemberLists.{each, each_map}
-use Rattle.pfair_replica.specs.Laws.{all_among, among_all, among_map, map_among}
 
 -- the contents after some entries
 abbrev pub held_after : Replica → List Placed → Replica

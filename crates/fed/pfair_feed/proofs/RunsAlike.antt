@@ -1,10 +1,8 @@
 -- Two runs whose followers hold what agrees have written texts of which one begins the other.
-use Rattle.pfair_feed.proofs.Common.{cases_order, lines_text, replica_of, Replica, empty_replica, frontier, numbers_below, said, Course, IsOf, IsPrefixOf, Dispatch, HavePlannedAlike, IsWholePlan, Settings, Origin, Table, decisions, table, Output, Follow, news, HaveWrittenAlike, rows_in, AreTakenFrom, IsBegun, same_Some, ℕ, ◌<◌, ◌≡◌, inl, inr, refl, sym, ap, subst, ◌∙◌, arith, List, [], ◌∷◌, ◌++◌, length, map, Some, slice_get, suc, ◌≤◌, ◌⊎◌, max, lines_text-append, Decided}
-use Rattle.pfair_feed.specs.Laws.{RunsWriteAlike}
+use Rattle.pfair_feed.proofs.Common.{cases_order, lines_text, replica_of, Replica, empty_replica, frontier, numbers_below, said, Course, IsOf, IsPrefixOf, Dispatch, HavePlannedAlike, IsWholePlan, Settings, Origin, Table, decisions, table, Output, Follow, news, HaveWrittenAlike, rows_in, AreTakenFrom, IsBegun, same_Some, ℕ, ◌<◌, ◌≡◌, inl, inr, refl, sym, ap, subst, ◌∙◌, arith, List, [], ◌∷◌, ◌++◌, length, map, Some, slice_get, suc, ◌≤◌, ◌⊎◌, max, lines_text-append, Decided, RunsWriteAlike, get_numbers, taken_of}
 use Rattle.pfair_feed.proofs.Going.{even, so_many, rows_go_on}
 use Rattle.pfair_feed.proofs.ScriptRows.{heads}
 use Rattle.pfair_table.proofs.TableLaws.{one_table}
-use Rattle.pfair_table.proofs.Runs.{get_numbers, taken_of}
 
 -- a list whose elements are the first of another
 first_of_other : {A : Type 0} (xs ys : List A) → length xs ≤ length ys → ((t : ℕ) → t < length xs → slice_get xs t ≡ slice_get ys t) → IsPrefixOf xs ys

@@ -1,14 +1,7 @@
 -- The entries of logs: their rows, and where they stand.
 use Rattle.std.proofs.Common.{flat_map, filter}
-use Rattle.pfair_feed.proofs.Common.{AllByRecursion, list_all, and_parts, leb-true, append-nil, map-append, lines_text, Logged, IsLoggable, entries_text, log_rows, numbered_from, AreLines, IsOneLine, ended, Among, IsPlaced, IsScript, Placed, placed_from, placed_in, row_of, rows_of, ℕ, zero, suc, ◌+◌, ◌<◌, ◌≤◌, ◌≡◌, inl, inr, refl, ap, arith, true, List, [], ◌∷◌, ◌++◌, length, map, Some, None, take, slice_get, ◌⊎◌, flat_map-append, lines_text-append, One, slots_from, LoggedRun, capacity_of, contents_of, Replica, frontier, goes_on, last_floor, numbers_below, run_from, run_on, said, said_in, sound_beginning, Settings, decisions, history, plan, table, Output, HasScheduleOf, replica_with_room, min, fold, Held, replica_of_logs, Tables, PlacedTables, Decisions, Lags, text_of, ◌≢◌, sym, ◌∙◌, append_assoc}
-use Rattle.std.proofs.lemmas.List.{take_more}
-use Rattle.std.proofs.lemmas.Option.{get_or_from_slice_get}
+use Rattle.pfair_feed.proofs.Common.{AllByRecursion, list_all, and_parts, leb-true, append-nil, map-append, lines_text, Logged, IsLoggable, entries_text, log_rows, numbered_from, AreLines, IsOneLine, ended, Among, IsPlaced, IsScript, Placed, placed_from, placed_in, row_of, rows_of, ℕ, zero, suc, ◌+◌, ◌<◌, ◌≤◌, ◌≡◌, inl, inr, refl, ap, arith, true, List, [], ◌∷◌, ◌++◌, length, map, Some, None, take, slice_get, ◌⊎◌, flat_map-append, lines_text-append, One, slots_from, LoggedRun, capacity_of, contents_of, Replica, frontier, goes_on, last_floor, numbers_below, run_from, run_on, said, said_in, sound_beginning, Settings, decisions, history, plan, table, Output, HasScheduleOf, replica_with_room, min, fold, Held, replica_of_logs, Tables, PlacedTables, Decisions, Lags, text_of, ◌≢◌, sym, ◌∙◌, append_assoc, take_more, get_or_from_slice_get, among_append, among_left, among_right, entry_of, is_short, decisions_text, placed_replay_text, replay_text, is_staying, lag_row, lags_header, LinesAreOne}
 use Rattle.pfair_entry_row.proofs.Refused.{rows_are_lines}
-use Rattle.pfair_replica.specs.Laws.{among_append, among_left, among_right}
-use Rattle.pfair_table.specs.Script.{entry_of, is_short}
-use Rattle.pfair_output.specs.Replay.{decisions_text, placed_replay_text, replay_text}
-use Rattle.pfair_output.specs.Lags.{is_staying, lag_row, lags_header}
-use Rattle.pfair_feed.specs.Laws.{LinesAreOne}
 
 -- ---- their rows
 

@@ -1,8 +1,7 @@
 -- Texts that are sent piece by piece.
 use Rattle.std.proofs.Common.{flat_map}
 use Rattle.pfair_replica.proofs.TornKeys.{flat_more, flat_next}
-use Rattle.pfair_feed.proofs.Common.{append-nil, appends-more, Appends, cases_lt, length-append, take-append-le, take_all, TakesPrefix, numbers_below, ℕ, zero, suc, ◌+◌, ◌≡◌, ◌<◌, inl, inr, sym, ap, subst, ◌∙◌, arith, List, [], ◌++◌, append_assoc, length, take, Option, Result, Ok, Err, OnErr, OnOk}
-use Rattle.std.proofs.Math.Seq.{take-append-add}
+use Rattle.pfair_feed.proofs.Common.{append-nil, appends-more, Appends, cases_lt, length-append, take-append-le, take_all, TakesPrefix, numbers_below, ℕ, zero, suc, ◌+◌, ◌≡◌, ◌<◌, inl, inr, sym, ap, subst, ◌∙◌, arith, List, [], ◌++◌, append_assoc, length, take, Option, Result, Ok, Err, OnErr, OnOk, take-append-add}
 
 -- a prefix of the first part
 pub prefix_first : (old new : Option (List ℕ)) (xs ys : List ℕ) → TakesPrefix old new xs → TakesPrefix old new (xs ++ ys)

@@ -81,7 +81,6 @@ pub fn report_dropped<R: Ready, E: Write>(
     Ok(())
 }
 
-// Writes the line of one key, behind a word.
 fn report_key<E: Write>(
     complaints: &mut E,
     word: &[u8],

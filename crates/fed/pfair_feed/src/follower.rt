@@ -102,7 +102,6 @@ impl<R: Ready> Follower<R> {
         Ok(Follower::begun(alloc, dispatcher, output, from))
     }
 
-    // A follower of a dispatcher that has forgotten nothing.
     fn begun(alloc: Global, dispatcher: Dispatcher<R>, output: Output, from: u64) -> Self
         requires { dispatcher.forgotten ≡ 0 }
         ensures { result ≡ record { output = output; dispatch = dispatcher; unwritten = from } }
@@ -189,7 +188,6 @@ impl<R: Ready> Follower<R> {
         Ok(taken)
     }
 
-    // Writes the rows of planned slots that aren't written yet.
     fn write_rows<W: Write>(&mut self, writer: &mut W) -> Result<(), ProgramFault>
         ensures ok { OnOk result (self.new ≡ record self.old { unwritten = max self.old.unwritten (length self.old.dispatch.tables) }) }
         ensures stands { OnErr result (self.new ≡ self.old) }

@@ -68,7 +68,6 @@ pub(crate) fn add_rows<R: Ready>(
     Ok(None)
 }
 
-/// Sends a text, and flushes it, unless it is empty.
 pub(crate) fn send_now<W: Write>(writer: &mut W, text: &[u8]) -> Result<(), ProgramFault>
     ensures written { OnOk result (Appends (W.contents writer.old) (W.contents writer.new) text.now) }
     ensures cut { IfErr result (λ _. TakesPrefix (W.contents writer.old) (W.contents writer.new) text.now) }

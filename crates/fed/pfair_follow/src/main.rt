@@ -76,7 +76,6 @@ fn run_fed(rt: &HostRuntime, output: Output, feed: &Feed) -> Result<(), FollowFa
     save(rt, file, &text)
 }
 
-// A follower of the run that is asked for.
 fn begun(rt: &HostRuntime, output: Output, feed: &Feed) -> Result<Follower<HeapReady>, FollowFault>
     ensures { IfOk result IsFresh }
 {

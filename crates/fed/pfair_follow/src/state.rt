@@ -98,7 +98,6 @@ pub fn left_text<R: Ready>(
     }
 }
 
-// The text of the state in which a later run began.
 fn began_text<R: Ready>(alloc: Global, dispatcher: &Dispatcher<R>) -> Result<Vec<u8>, FollowFault>
     ensures text { IfSome dispatcher.now.origin (λ c. IfOk result (λ text. text.items ≡ state_text c)) }
     ensures memory { IfErr result (λ e. e ≡ Program OutOfMemory) }

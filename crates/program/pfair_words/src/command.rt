@@ -58,7 +58,6 @@ fn version<'a>(alloc: Global) -> Arg<'a>
         .action(ArgAction::Version)
 }
 
-/// A program with one more command.
 pub(crate) fn with<'a>(
     program: Command<'a>,
     command: Result<Command<'a>, AllocError>,

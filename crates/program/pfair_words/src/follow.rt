@@ -96,7 +96,6 @@ pub fn read_words(alloc: Global, words: &[String]) -> Result<Asked, ProgramFault
     }
 }
 
-// What the words that `clap` took ask for.
 fn read_matches(alloc: Global, matches: &ArgMatches<'_>) -> Result<Asked, ProgramFault>
     ensures { IsAnswerToAny (subcommand_rows_of matches.now) result }
 {
@@ -121,7 +120,6 @@ fn read_matches(alloc: Global, matches: &ArgMatches<'_>) -> Result<Asked, Progra
     }
 }
 
-// The run that the options tell.
 fn read_feed(alloc: Global, words: &ArgMatches<'_>) -> Result<Feed, ProgramFault>
     ensures { MatchResult result (AskFeed (rows_of (found_of words.now)))
         (λ e. (e ≡ Memory) ⊎ ((e ≡ CommandLine) × AsksNoFeed (rows_of (found_of words.now)))) }
@@ -140,7 +138,6 @@ fn read_feed(alloc: Global, words: &ArgMatches<'_>) -> Result<Feed, ProgramFault
     })
 }
 
-// Where the options tell that the run begins.
 fn read_start(alloc: Global, words: &ArgMatches<'_>) -> Result<Start, ProgramFault>
     ensures { MatchResult result (AskStart (rows_of (found_of words.now)))
         (λ e. (e ≡ Memory) ⊎ ((e ≡ CommandLine) × AsksNoStart (rows_of (found_of words.now)))) }
@@ -167,7 +164,6 @@ fn read_settings(words: &ArgMatches<'_>) -> Result<Settings, ProgramFault>
     Settings::new(processors, frame, slots).ok_or(ProgramFault::CommandLine)
 }
 
-// The command line as `clap` is to read it.
 fn command_line<'a>(alloc: Global) -> Result<Command<'a>, AllocError>
     ensures { IfOk result (IsRead line.line) }
 {
@@ -234,7 +230,6 @@ fn numbered<'a>(
         .value_parser(ValueParser::Unsigned(least, most))
 }
 
-// An option with the name of a file.
 fn worded<'a>(alloc: Global, name: &'a str, help: &'a str) -> Arg<'a>
     ensures rule { rule_of result ≡ line.worded name.now }
     ensures here { result.global ≡ false }

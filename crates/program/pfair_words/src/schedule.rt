@@ -63,7 +63,6 @@ pub fn read_words(alloc: Global, words: &[String]) -> Result<Asked, ProgramFault
     }
 }
 
-// What the words that `clap` took ask for.
 fn read_matches(alloc: Global, matches: &ArgMatches<'_>) -> Result<Asked, ProgramFault>
     ensures { IsAnswerToAny (subcommand_rows_of matches.now) result }
 {
@@ -100,7 +99,6 @@ fn read_windows(words: &ArgMatches<'_>) -> Result<Asked, ProgramFault>
     Ok(Asked::Windows { weight, count })
 }
 
-// The command line as `clap` is to read it.
 fn command_line<'a>(alloc: Global) -> Result<Command<'a>, AllocError>
     ensures { IfOk result (IsRead line.line) }
 {

@@ -60,8 +60,7 @@ pub fn add_decisions_from<R: Ready>(
     Ok(())
 }
 
-/// Adds a row for each announcement that was decided at the boundary of a slot: the slot, the
-/// processor and the number of its entry, the task, and what was decided.
+/// Adds a row for each announcement that was decided at the boundary of a slot.
 pub(crate) fn add_decisions(
     writer: &mut Writer<Vec<u8>>,
     slot: u64,

@@ -127,7 +127,6 @@ pub(crate) fn book_slot(
     Ok(())
 }
 
-/// Adds a row for each task of the book, in order of entering.
 pub(crate) fn add_lags(writer: &mut Writer<Vec<u8>>, book: &LagBook) -> Result<(), AllocError>
     requires { IsOpen writer.old }
     ensures open { OnOk result (IsOpen writer.new) }

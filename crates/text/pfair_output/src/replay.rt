@@ -142,8 +142,7 @@ fn slot_places(places: &[Vec<u8>], slot: usize) -> &[u8]
     }
 }
 
-// Adds a row for each quantum of a slot's table: the slot, the number of the table's row, the task
-// and the index, and the row's place if it has one.
+// Adds a row for each quantum of a slot's table, which ends with its place if it has one.
 fn add_table(
     writer: &mut Writer<Vec<u8>>,
     slot: u64,

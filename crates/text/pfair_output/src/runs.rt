@@ -53,7 +53,6 @@ pub fn lags_of_script<R: Ready>(alloc: Global, script: &Script) -> Result<Vec<u8
     Ok(all_lags(alloc, &replica, &mut planner)?)
 }
 
-// The decisions of all slots of a replica's first run, none of which is planned.
 fn all_decisions<R: Ready>(
     alloc: Global,
     replica: &Replica,
@@ -75,7 +74,6 @@ fn all_decisions<R: Ready>(
     finish(writer)
 }
 
-// The lags in all slots of a replica's first run, none of which is planned: each is recorded in a new book.
 fn all_lags<R: Ready>(
     alloc: Global,
     replica: &Replica,
@@ -102,7 +100,6 @@ fn all_lags<R: Ready>(
     finish(writer)
 }
 
-// Plans the next slot, which is one of a first run.
 fn plan_one<R: Ready>(
     replica: &Replica,
     planner: &mut SlotPlanner<R>,

@@ -80,7 +80,6 @@ pub(crate) fn no_row(at: usize) -> ReadFault {
     }
 }
 
-// The row at a place is refused.
 pub(crate) fn refused(at: usize, why: Why) -> ReadFault {
     ReadFault::Refused {
         line: (at as u64).saturating_add(1),

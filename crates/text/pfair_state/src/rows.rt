@@ -49,7 +49,6 @@ pub(crate) fn row_at(rows: &[Row], at: usize) -> Option<Row>
     rows.get(at).copied()
 }
 
-/// A row of a state.
 #[derive(Clone, Copy)]
 pub(crate) enum Row {
     First(FirstRow),
@@ -88,7 +87,6 @@ pub(crate) struct LateRow {
     pub by: u64,
 }
 
-// What a line says, if it is a row of a state.
 fn read_row(line: &[u8]) -> Option<Row>
     ensures { (row : Row) → IsSpelled row → parts line.now ≡ fields_of row → result ≡ Some row }
 {

@@ -113,7 +113,6 @@ fn slot_field(slot: Option<u64>, buffer: &mut Buffer) -> &str
     }
 }
 
-// Adds the rows of a table and its places.
 fn add_ran(writer: &mut Writer<Vec<u8>>, table: &[Pick], places: &[u8]) -> Result<(), AllocError>
     requires open { IsOpen writer.old }
     requires places { length places.now ≡ length table.now }

@@ -189,7 +189,6 @@ fn some_ends_in<K>(works: &[Worked<K>], fault: RunFault) -> bool
     false
 }
 
-// Whether each worker came to its end and holds what this replica holds.
 fn all_hold<K>(works: &[Worked<K>], replica: &Replica) -> bool
     ensures all { IsTrue result → AllHold works.now (replica_of replica.now) }
     ensures some { result ≡ false → SomeStrays works.now (replica_of replica.now) }
@@ -202,7 +201,6 @@ fn all_hold<K>(works: &[Worked<K>], replica: &Replica) -> bool
     true
 }
 
-// Whether a worker came to its end and holds what this replica holds.
 fn holds<K>(work: &Worked<K>, replica: &Replica) -> bool
     ensures { IsTrue result ↔ Holds work.now (replica_of replica.now) }
 {

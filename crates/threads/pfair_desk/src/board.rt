@@ -3,7 +3,6 @@ ghost use Rattle.std.specs.Prelude.{◌≡◌, ◌<◌, ℕ, IfOk, Some, length,
 ghost use Rattle.once_cell.specs.Once.{cell_name, Agrees};
 ghost use Rattle.pfair_replica.specs.Replica.{IsShape};
 ghost use Rattle.pfair_desk.specs.Desks.{BoardFrame, DeskView, IsDeskOf, state_of, fresh_desk};
-ghost use Rattle.pfair_entry.specs.Entry.{Logged};
 ghost use Rattle.pfair_desk.specs.Noted.{Knowledge, knowing, shared, Grows, KnowMore};
 
 use crate::desk::Desk;

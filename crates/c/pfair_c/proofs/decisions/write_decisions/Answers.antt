@@ -1,5 +1,4 @@
-use Rattle.pfair_c.proofs.Common.{◌≡◌, ◌+◌, ◌-◌, List, ℕ, length, min, arith, rules, refl, sym, length-map, decisions_at, decision_row, rows_of, slot_of, Decided}
-use Rattle.std.proofs.lemmas.Grind.{common_steps}
+use Rattle.pfair_c.proofs.Common.{◌≡◌, ◌+◌, ◌-◌, List, ℕ, length, min, arith, rules, refl, sym, length-map, decisions_at, decision_row, rows_of, slot_of, Decided, common_steps}
 use Rattle.pfair_c.specs.declared.decisions.PfairDecision.{PfairDecision}
 use Rattle.pfair_c.proofs.SlotRows.{counted-within, slot-counted, written-further}
 use Rattle.pfair_c.proofs.decisions.write_decisions.Goals as goal

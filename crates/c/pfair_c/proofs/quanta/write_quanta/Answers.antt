@@ -1,6 +1,4 @@
-use Rattle.pfair_c.proofs.Common.{◌≡◌, ◌≤◌, ap, List, ℕ, arith, rules, sym, length, quanta_at, slot_of, PfairQuantum, Table}
-use Rattle.std.proofs.lemmas.Grind.{common_steps}
-use Rattle.pfair_table.specs.Table.{Settings}
+use Rattle.pfair_c.proofs.Common.{◌≡◌, ◌≤◌, ap, List, ℕ, arith, rules, sym, length, quanta_at, slot_of, PfairQuantum, Table, common_steps, Settings}
 use Rattle.pfair_c.proofs.SlotRows.{as-many-at, rows-fit, slot-counted, written-further}
 use Rattle.pfair_c.proofs.quanta.write_quanta.Goals as goal
 use Rattle.pfair_c.proofs.quanta.write_quanta.Goals.{then-next-rows, else-next-rows}

@@ -1,5 +1,4 @@
-use Rattle.pfair_c.proofs.Common.{◌≡◌, ◌-◌, ◌≤◌, length, quanta_at, rows_of, written_over}
-use Rattle.std.proofs.Common.{◌*◌}
+use Rattle.pfair_c.proofs.Common.{◌≡◌, ◌-◌, ◌≤◌, length, quanta_at, rows_of, written_over, ◌*◌}
 use Rattle.pfair_c.proofs.quanta.write_quanta.Given as goal
 
 abbrev pub invariant-loop-slot : goal.invariant-loop-slot

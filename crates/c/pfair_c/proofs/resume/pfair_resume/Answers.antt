@@ -1,9 +1,7 @@
-use Rattle.pfair_c.proofs.Common.{ℕ, ◌≡◌, ◌≤◌, length, ◌∙◌, true≢false, false, List, Some, ap, arith, rules, sym, subst, refl, same_Some, Dispatch, is_kept, LONGEST_FILE}
-use Rattle.std.proofs.Common.{None, Result, Ok}
+use Rattle.pfair_c.proofs.Common.{ℕ, ◌≡◌, ◌≤◌, length, ◌∙◌, true≢false, false, List, Some, ap, arith, rules, sym, subst, refl, same_Some, Dispatch, is_kept, LONGEST_FILE, None, Result, Ok, Kept}
 use Rattle.std.specs.Result.{result_ok}
 use Rattle.std.specs.declared.alloc.AllocError.{AllocError}
 use Rattle.pfair_handle.specs.Behind.{Of}
-use Rattle.pfair_handle.specs.Kept.{Kept}
 use Rattle.pfair_c.specs.declared.answer.TheConstants.{DONE, MEMORY}
 use Rattle.pfair_c.specs.declared.resume.PfairStateFault.{PfairStateFault}
 use Rattle.pfair_c.specs.State.{IsResumeAnswer, IsResumedFrom, IsRunnable}

@@ -1,6 +1,5 @@
-use Rattle.pfair_c.proofs.Common.{rules, add-one, ◌≡◌, ◌<◌, ◌+◌, length, arith, replica_of, Replica}
+use Rattle.pfair_c.proofs.Common.{rules, add-one, ◌≡◌, ◌<◌, ◌+◌, length, arith, replica_of, Replica, one_more}
 use Rattle.pfair_c.proofs.TakingFacts.{next-taking, of-log-more, same-key, counted-more, refused-at}
-use Rattle.pfair_c.specs.Taking.{one_more}
 use Rattle.pfair_c.proofs.take.take_log.Goals as goal
 use Rattle.pfair_c.proofs.take.take_log.Goals.{in-New, in-Known, in-Torn}
 

@@ -1,5 +1,4 @@
-use Rattle.std.proofs.Common.{codes}
-use Rattle.pfair_feed.proofs.Common.{Appends, ReplicaRows, Settings, held, replica_of, sound_beginning, Dispatch, dropped_line, dropped_of, is_past, key_line, ℕ, List, ◌+◌, ◌≡◌, Bool, true, [], ap, ◌∙◌, arith, length, refl, sym, subst, if◌then◌else◌}
+use Rattle.pfair_feed.proofs.Common.{Appends, ReplicaRows, Settings, held, replica_of, sound_beginning, Dispatch, dropped_line, dropped_of, is_past, key_line, ℕ, List, ◌+◌, ◌≡◌, Bool, true, [], ap, ◌∙◌, arith, length, refl, sym, subst, if◌then◌else◌, codes}
 use Rattle.pfair_feed.proofs.Writing.{on_err, all_inside, cut_inside}
 use Rattle.pfair_feed.proofs.complaint.report_dropped.Goals as goal
 

@@ -1,5 +1,4 @@
-use Rattle.pfair_feed.proofs.Common.{rules, ◌≡◌, ◌∷◌, []}
-use Rattle.std.proofs.Common.{decimal}
+use Rattle.pfair_feed.proofs.Common.{rules, ◌≡◌, ◌∷◌, [], decimal}
 use Rattle.std.proofs.lemmas.Result.{on_err_weaker}
 use Rattle.pfair_feed.proofs.Writing.{on_err, prefix_behind, prefix_first}
 use Rattle.pfair_feed.proofs.complaint.report_key.Goals as goal

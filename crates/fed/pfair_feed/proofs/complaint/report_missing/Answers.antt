@@ -1,5 +1,4 @@
-use Rattle.std.proofs.Common.{codes}
-use Rattle.pfair_feed.proofs.Common.{replica_of, Dispatch, Settings, missing_of, key_line, missing_lines, ℕ, ◌≡◌, ◌<◌, sym, ap, ◌∙◌, arith}
+use Rattle.pfair_feed.proofs.Common.{replica_of, Dispatch, Settings, missing_of, key_line, missing_lines, ℕ, ◌≡◌, ◌<◌, sym, ap, ◌∙◌, arith, codes}
 use Rattle.pfair_feed.proofs.Writing.{on_err, cut_short}
 use Rattle.pfair_feed.proofs.complaint.report_missing.Goals as goal
 

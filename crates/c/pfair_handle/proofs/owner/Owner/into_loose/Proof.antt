@@ -1,6 +1,5 @@
 -- `into_loose` moves two fields, and what they own goes with them.
-use Rattle.pfair_handle.proofs.Common.{Slot, plain, Val, ent, id⊢, ftrue, fsep, WpFn, fact, tables, Item, ‵, raw, ◌⊛◌, ◌$◌, ◌∵◌, !, qed, by, move, drop, use1, join, split, fsplit, fjoin, suffices, done, rewrite, whole, sub, agg, stop, fld, no_more, and_then, of_opd, returns, enter, alloc_all, pass_all, free_all, look_at, get, get_in, sets, yes, heard, nothing, type_at, says, Stays, stay_dropped, walk_of, ends_at, Goes-dropped, box_out, box_in, Kept, is_kept, proved_at, D, B, word, box_typed, refl, sym, subst, List, [], ◌∷◌, ◌++◌, ◌≡◌, true≢false, None, Some}
-use Rattle.std.proofs.Common.{true}
+use Rattle.pfair_handle.proofs.Common.{Slot, plain, Val, ent, id⊢, ftrue, fsep, WpFn, fact, tables, Item, ‵, raw, ◌⊛◌, ◌$◌, ◌∵◌, !, qed, by, move, drop, use1, join, split, fsplit, fjoin, suffices, done, rewrite, whole, sub, agg, stop, fld, no_more, and_then, of_opd, returns, enter, alloc_all, pass_all, free_all, look_at, get, get_in, sets, yes, heard, nothing, type_at, says, Stays, stay_dropped, walk_of, ends_at, Goes-dropped, box_out, box_in, Kept, is_kept, proved_at, D, B, word, box_typed, refl, sym, subst, List, [], ◌∷◌, ◌++◌, ◌≡◌, true≢false, None, Some, true}
 use Rattle.pfair_handle.specs.contracts.owner.Owner.{the_row as From-row}
 use Rattle.pfair_handle.specs.contracts.owner.Served.{the_row as Served}
 use Rattle.pfair_handle.proofs.AsBox.{E}

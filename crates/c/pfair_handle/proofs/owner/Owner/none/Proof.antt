@@ -1,6 +1,5 @@
 -- `none` owns nothing but its handle of the heap.
-use Rattle.std.proofs.Common.{lit<, w64}
-use Rattle.pfair_handle.proofs.Common.{Slot, plain, Val, vint, ent, emp, ftrue, fsep, WpFn, Item, ‵, raw, ◌⊛◌, ◌$◌, ◌∵◌, !, qed, by, move, drop, join, split, fsplit, fjoin, fpack, feq_i, suffices, done, lit, no_more, and_then, returns, enter, agg, alloc_all, pass_all, free_all, look_at, get, sets, tables, yes, RattleType, Valss, null_ptr, ptr_val, nothing, says, Stays, stay_dropped, walk_of, ends_at, Goes-dropped, handle_tells, List, [], ◌∷◌, ◌++◌, refl, sym, subst, within, shape, proved_at, None, and_tt}
+use Rattle.pfair_handle.proofs.Common.{Slot, plain, Val, vint, ent, emp, ftrue, fsep, WpFn, Item, ‵, raw, ◌⊛◌, ◌$◌, ◌∵◌, !, qed, by, move, drop, join, split, fsplit, fjoin, fpack, feq_i, suffices, done, lit, no_more, and_then, returns, enter, agg, alloc_all, pass_all, free_all, look_at, get, sets, tables, yes, RattleType, Valss, null_ptr, ptr_val, nothing, says, Stays, stay_dropped, walk_of, ends_at, Goes-dropped, handle_tells, List, [], ◌∷◌, ◌++◌, refl, sym, subst, within, shape, proved_at, None, and_tt, lit<, w64}
 use denote.Struct.Owning.{to}
 use Rattle.std.specs.contracts.alloc.Global as Heap
 use Rattle.pfair_handle.proofs.AsBox.{E}

@@ -1,5 +1,4 @@
-use Rattle.pfair_feed.proofs.Common.{IsWholePlan, Follow, Some, subst, sym}
-use Rattle.pfair_table.specs.Places.{settings_from}
+use Rattle.pfair_feed.proofs.Common.{IsWholePlan, Follow, Some, subst, sym, settings_from}
 use Rattle.pfair_feed.proofs.Going.{whole_start}
 use Rattle.pfair_feed.proofs.follower.Follower.resume.Goals as goal
 
