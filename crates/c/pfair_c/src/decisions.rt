@@ -56,8 +56,6 @@ pub extern "C" fn pfair_decisions(
     })
 }
 
-// Returns how many decisions the slots `from` to `to` - 1 have, but no more than fit into 64 bits, and writes them over
-// the first rows if there is room for all.
 fn write_decisions<R: Ready>(
     dispatcher: &Dispatcher<R>,
     from: u64,

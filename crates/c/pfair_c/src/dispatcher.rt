@@ -7,7 +7,7 @@ ghost use Rattle.pfair_c.specs.declared.answer.TheConstants.{MEMORY};
 ghost use Rattle.pfair_c.specs.Answers.{Changes, nothing, IsOpenAnswer, IsJoinedTo, IsPartlyJoinedTo, IsNextRunAnswer};
 
 use crate::answer::{DONE, NOT_OPEN, OPEN_ALREADY, OUT_OF_RANGE};
-use crate::open::{put_new, with_open};
+use crate::open::put_new;
 use pfair_handle::Handle;
 use pfair_ready::HeapReady;
 use pfair_table::{Dispatcher, Script, Settings};
@@ -50,14 +50,17 @@ pub extern "C" fn pfair_open(
 pub extern "C" fn pfair_next_run(alloc: Global, handle: &mut Handle, slots: u64) -> u32
     ensures { Changes handle.old.owner.kept handle.new.owner.kept result nothing nothing (λ d e answer _ _. IsNextRunAnswer slots d e answer) }
 {
-    with_open(alloc, handle, &mut (), |dispatcher, _| {
-        go_on(dispatcher, slots)
-    })
+    if !handle.is_open() {
+        return NOT_OPEN;
+    }
+    let mut served = handle.take(alloc);
+    let answer = go_on(&mut served.dispatcher, slots);
+    handle.put(served);
+    answer
 }
 
 fn go_on(dispatcher: &mut Dispatcher<HeapReady>, slots: u64) -> u32
-    ensures answer { IsNextRunAnswer slots dispatcher.old dispatcher.new result }
-    ensures open { result ≡ NOT_OPEN → ⊥ }
+    ensures { IsNextRunAnswer slots dispatcher.old dispatcher.new result }
 {
     if slots < 1 || slots > Settings::MAX_SLOTS {
         return OUT_OF_RANGE;

@@ -4,7 +4,7 @@ ghost use Rattle.pfair_replica.specs.Replica.{replica_of, frontier};
 ghost use Rattle.pfair_table.specs.Refinement.{plan_fault_number};
 ghost use Rattle.pfair_c.specs.Answers.{Reads, Changes, IsGiven, nothing, IsPlannedOn, IsStopOf, IsStoppedBy, IsPlanAnswer, IsPlanToAnswer, IsReopened, forgetting, step_row, fault_row};
 
-use crate::answer::{DONE, MEMORY, OUT_OF_RANGE};
+use crate::answer::{DONE, MEMORY, NOT_OPEN, OUT_OF_RANGE};
 use crate::open::with_open;
 use pfair_handle::Handle;
 use pfair_ready::Ready;
@@ -63,8 +63,6 @@ pub extern "C" fn pfair_plan_to(
     })
 }
 
-// Plans until `until` slots are planned, the next one isn't settled, or none is left.
-// [`Step::Planned`] has the last slot below `until`, also if it was planned before.
 fn plan_to<R: Ready>(dispatcher: &mut Dispatcher<R>, until: u64) -> Result<Step, PlanFault>
     requires { 1 ≤ until }
     ensures planned { OnOk result (IsPlannedOn until dispatcher.old dispatcher.new) }
@@ -119,12 +117,16 @@ pub extern "C" fn pfair_reserve(alloc: Global, handle: &mut Handle, slots: u64, 
     ensures { Changes handle.old.owner.kept handle.new.owner.kept result nothing nothing
         (λ d e answer _ _. ((answer ≡ DONE) ⊎ (answer ≡ MEMORY)) × (e ≡ d)) }
 {
-    with_open(alloc, handle, &mut (), |dispatcher, _| {
-        match dispatcher.reserve(slots, tasks as usize) {
-            Ok(()) => DONE,
-            Err(_) => MEMORY,
-        }
-    })
+    if !handle.is_open() {
+        return NOT_OPEN;
+    }
+    let mut served = handle.take(alloc);
+    let reserved = served.dispatcher.reserve(slots, tasks as usize);
+    handle.put(served);
+    match reserved {
+        Ok(()) => DONE,
+        Err(_) => MEMORY,
+    }
 }
 
 /// Forgets the tables, places and decisions of the planned slots below `slots`: their memory is
@@ -137,10 +139,13 @@ pub extern "C" fn pfair_forget(alloc: Global, handle: &mut Handle, slots: u64) -
     ensures { Changes handle.old.owner.kept handle.new.owner.kept result nothing nothing
         (λ d e answer _ _. (answer ≡ DONE) × (e ≡ forgetting slots d)) }
 {
-    with_open(alloc, handle, &mut (), |dispatcher, _| {
-        dispatcher.forget(slots);
-        DONE
-    })
+    if !handle.is_open() {
+        return NOT_OPEN;
+    }
+    let mut served = handle.take(alloc);
+    served.dispatcher.forget(slots);
+    handle.put(served);
+    DONE
 }
 
 /// Rebuilds everything except the entries and the tables, after which plans go on. Forgotten
@@ -152,15 +157,16 @@ pub extern "C" fn pfair_forget(alloc: Global, handle: &mut Handle, slots: u64) -
 pub extern "C" fn pfair_reopen(alloc: Global, handle: &mut Handle) -> u32
     ensures { Changes handle.old.owner.kept handle.new.owner.kept result nothing nothing (λ d e answer _ _. IsReopened d e answer) }
 {
-    with_open(
-        alloc,
-        handle,
-        &mut (),
-        |dispatcher, _| match dispatcher.reopen() {
-            Ok(()) => DONE,
-            Err(fault) => fault.number() as u32,
-        },
-    )
+    if !handle.is_open() {
+        return NOT_OPEN;
+    }
+    let mut served = handle.take(alloc);
+    let reopened = served.dispatcher.reopen();
+    handle.put(served);
+    match reopened {
+        Ok(()) => DONE,
+        Err(fault) => fault.number() as u32,
+    }
 }
 
 /// Writes the frontier: below this slot every announcement is known. O(processors).

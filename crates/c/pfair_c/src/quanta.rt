@@ -53,7 +53,6 @@ pub extern "C" fn pfair_quanta(
     })
 }
 
-// Returns how many quanta the slots `from` to `to` - 1 have, and writes them over the first rows if there is room for all.
 fn write_quanta<R: Ready>(
     dispatcher: &Dispatcher<R>,
     from: u64,

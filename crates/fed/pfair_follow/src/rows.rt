@@ -122,7 +122,6 @@ fn feed_rows<R: Ready, I: Read, W: Write, E: Write>(
     Ok(())
 }
 
-// Writes the header, unless the run is a later one or rows are left out.
 fn begin<R: Ready, W: Write>(follower: &Follower<R>, writer: &mut W) -> Result<(), ProgramFault>
     ensures written { OnOk result (Appends (W.contents writer.old) (W.contents writer.new)
         (head_from follower.now.dispatch.origin follower.now.output follower.now.unwritten)) }

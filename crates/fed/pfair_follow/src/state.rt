@@ -65,8 +65,6 @@ pub fn later<R: Ready>(
     )
 }
 
-// Whether a run of so many slots can be asked for, and the state has the processors and the frame
-// that are asked for.
 fn is_asked(resumed: &Resumed, state: &State) -> bool
     ensures { IsTrue result ↔ IsAskedOf resumed.now state.now }
 {
