@@ -138,11 +138,14 @@ impl<R: Ready> Planner<R> {
         ensures spent { self.new.spent ≡ is_err result }
     {
         self.spent = true;
-        *self = Planner::new(self.alloc, self.settings, origin)?;
+        self.readings = Readings::new(self.alloc, self.settings.processors())?;
+        self.members = first_members(self.alloc, origin, self.settings)?;
+        self.ready = ready_of(self.alloc, &self.members)?;
         let mut room = Vec::new(self.alloc);
         for slot in 0..slots {
             room = self.plan(origin, replica, slot, room)?.table;
         }
+        self.spent = false;
         Ok(())
     }
 }

@@ -1,11 +1,13 @@
-use Rattle.pfair_table.proofs.Common.{replica_of, IsInStep, subst, arith}
+use Rattle.pfair_table.proofs.Common.{replica_of, IsInStep, refl, subst, sym, ◌∙◌, arith}
+use Rattle.pfair_table.proofs.Keeping.{start_step}
 use Rattle.pfair_table.proofs.planner.Planner.plan_again.Goals as goal
 
 pub loop-slot-init : goal.loop-slot-init
-loop-slot-init g c =
-    let start = c.in_ok-self.ensures in
-    let x = replica_of c.args.replica.now in
-    record { settings = start.settings; step = start.step x; readings = start.readings x c.requires.able.is_of.processors; able = start.able }
+loop-slot-init g c = record {
+  settings = refl;
+  step = start_step c.requires.able.began c.in_ok-self-2.ensures c.in_ok-self-3.ensures.time c.in_ok-self-3.ensures.queue;
+  readings = c.in_ok-self.ensures (replica_of c.args.replica.now) (c.requires.able.is_of.processors ∙ sym c.processors.ensures.value);
+}
 
 pub returns-clause-step : goal.returns-clause-step
 returns-clause-step g c =
