@@ -64,11 +64,11 @@
  *
  *     49,000  pfair_resume
  *     43,500  pfair_state
- *     15,500  pfair_next_run
- *     14,500  pfair_read_file, and 4,000 for each level of nested keys; it reads at most 80 levels
- *      7,700  pfair_open
- *      4,500  pfair_reopen
- *      3,300  pfair_plan_next, pfair_plan_to
+ *     14,500  pfair_next_run
+ *     13,000  pfair_read_file, and 4,000 for each level of nested keys; it reads at most 80 levels
+ *      6,500  pfair_open
+ *      3,600  pfair_reopen
+ *      3,200  pfair_plan_next, pfair_plan_to
  *      2,200  pfair_close
  *      2,000  pfair_take, pfair_take_log, pfair_absorb
  *      1,200  pfair_lags
