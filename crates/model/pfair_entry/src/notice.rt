@@ -1,7 +1,6 @@
 //! Announcements before they are checked, as a file, a row or C has them: their kinds and fields.
-ghost use Rattle.std.specs.Prelude.{◌≡◌, Some, IfOk, IfErr, ◌≢◌, IfNone, IfSome};
-ghost use Rattle.pfair_entry.specs.Notice.{announced_fault, checked, noticed, notice_fault_number, unchecked, IsLoggable, IsNamed};
-ghost use Rattle.pfair_entry.specs.Entry.{IsWeighed};
+ghost use Rattle.std.specs.Prelude.{◌≡◌, IfOk, ◌≢◌, IfNone, IfSome};
+ghost use Rattle.pfair_entry.specs.Notice.{checked, notice_fault_number, unchecked, IsLoggable};
 ghost use Rattle.pfair_entry.specs.Kinds.{change_of, kind_name, kind_named};
 ghost use Rattle.pfair_entry.specs.declared.notice.Kind.{Kind};
 
@@ -86,33 +85,24 @@ pub fn checked_entry(floor: u64, notice: Option<Notice<'_>>) -> Result<Entry, No
     let Some(notice) = notice else {
         return Entry::new(floor, None).map_err(NoticeFault::Entry);
     };
-    let announcement = checked_announcement(&notice)?;
-    Entry::new(floor, Some((notice.at, announcement))).map_err(NoticeFault::Entry)
-}
-
-// The announcement of a notice, or what is wrong with its name or its weight.
-#[tactic(auto, using(crate::proofs::Refusals::first_faults))]
-fn checked_announcement(notice: &Notice<'_>) -> Result<Announcement, NoticeFault>
-    ensures ok { IfOk result (λ a. (a ≡ (noticed notice.now).1) × IsNamed a × IsWeighed a) }
-    ensures err { IfErr result (λ fault. announced_fault (noticed notice.now).1 ≡ Some fault) }
-{
     let name = TaskName::from_bytes(notice.name).map_err(NoticeFault::Name)?;
-    match notice.change {
+    let announcement = match notice.change {
         Change::Arrive {
             cost,
             period,
             early,
         } => {
             let weight = Weight::new(cost, period).map_err(NoticeFault::Weight)?;
-            Ok(Announcement::Arrive {
+            Announcement::Arrive {
                 name,
                 weight,
                 early,
-            })
+            }
         }
-        Change::Depart => Ok(Announcement::Depart { name }),
-        Change::Late { index, by } => Ok(Announcement::Late { name, index, by }),
-    }
+        Change::Depart => Announcement::Depart { name },
+        Change::Late { index, by } => Announcement::Late { name, index, by },
+    };
+    Entry::new(floor, Some((notice.at, announcement))).map_err(NoticeFault::Entry)
 }
 
 /// What is announced of a task.
