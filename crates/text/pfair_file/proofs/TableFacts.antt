@@ -8,6 +8,10 @@ use Rattle.pfair_entry.specs.declared.notice.NoticeFault.{NoticeFault}
 use Rattle.std.proofs.lemmas.Bool.{and_from}
 use Rattle.std.proofs.lemmas.List.Elements.{All-head, All-tail}
 use Rattle.std.proofs.lemmas.Bool.Decides.{nat_tests}
+use Rattle.std.proofs.lemmas.Str.{IsUtf8-from_is_utf8, is_utf8-from_IsUtf8}
+
+-- whether bytes are a text
+pub ruleset texts = (IsUtf8-from_is_utf8, is_utf8-from_IsUtf8)
 
 -- what is left to do at the i-th value, if all are tables
 pub record IsLeft (version : ℕ) (start now : Logs) (items : List Value) (i : ℕ) : Type 0 where

@@ -1,15 +1,13 @@
 //! Task files: their header and their logs.
-ghost use Rattle.std.specs.Prelude.{◌≡◌, ◌≢◌, ◌≤◌, ◌<◌, All, IfOk, IfErr, IsTrue, OnOk, Ok, Err, Some, None, vec_len};
+ghost use Rattle.std.specs.Prelude.{◌≡◌, ◌≢◌, ◌≤◌, IfOk, IfErr, OnOk, Ok, Err};
 ghost use Rattle.toml.specs.View.{table_view};
-ghost use Rattle.pfair_table.specs.Script.{is_short, lists_of};
-ghost use Rattle.std.specs.List.{list_all};
-ghost use Rattle.pfair_file.specs.Documents.{closed, document, empty_logs, entries_at, logs_at, script_of_file};
-ghost use Rattle.pfair_file.specs.declared.fault.FileFault.TheVariants.{Memory, NotToml};
+ghost use Rattle.pfair_file.specs.Documents.{closed, script_of_file};
+ghost use Rattle.pfair_file.specs.declared.fault.FileFault.TheVariants.{Memory};
 ghost use Rattle.pfair_file.specs.Keys.{settings_of};
 
 use crate::fault::FileFault;
 use crate::field::{Field, integer, number, within};
-use crate::tables::{MOST_ENTRIES, add_entries};
+use crate::tables::add_entries;
 use pfair_entry::Entry;
 use pfair_table::{Script, Settings};
 use std::alloc::{AllocError, Global};
@@ -23,55 +21,33 @@ use toml::Table;
 /// `Missing`, `WrongKind` and `Range`, or `Version` for a version that is none of 1 and 2; the
 /// entries table by table, and for each table after its keys `Entry`. [`FileFault::Memory`] only
 /// if an allocation fails.
+#[tactic(auto, using(crate::proofs::TableFacts::texts))]
 pub fn read_file(alloc: Global, bytes: &[u8]) -> Result<Script, FileFault>
     ensures ok { IfOk result (λ script. script_of_file bytes.now ≡ Ok script) }
     ensures fault { IfErr result (λ f. f ≢ Memory → script_of_file bytes.now ≡ Err f) }
 {
-    let table = parse(alloc, bytes)?;
+    let text = std::str::from_utf8(bytes).map_err(|_| FileFault::NotToml)?;
+    let table = match toml::table_from_str(alloc, text) {
+        Ok(table) => table,
+        Err(fault) if fault.is_memory() => return Err(FileFault::Memory),
+        Err(_) => return Err(FileFault::NotToml),
+    };
     let stated = integer(&table, 0, Field::Version)?;
     let version = within(stated, 1, 2, FileFault::Version)?;
     let settings = read_settings(&table)?;
-    let logs = read_logs(alloc, &table, version, settings)?;
-    match Script::new(settings, logs) {
-        Ok(script) => Ok(script),
-        Err(_) => unreachable!(),
-    }
-}
-
-// The table that the bytes are the text of.
-fn parse(alloc: Global, bytes: &[u8]) -> Result<Table, FileFault>
-    ensures ok { IfOk result (λ t. document bytes.now ≡ Some (table_view t)) }
-    ensures fault { IfErr result (λ f. f ≢ Memory → (f ≡ NotToml) × (document bytes.now ≡ None)) }
-{
-    let text = std::str::from_utf8(bytes).map_err(|_| FileFault::NotToml)?;
-    match toml::table_from_str(alloc, text) {
-        Ok(table) => Ok(table),
-        Err(fault) if fault.is_memory() => Err(FileFault::Memory),
-        Err(_) => Err(FileFault::NotToml),
-    }
-}
-
-fn read_logs(
-    alloc: Global,
-    table: &Table,
-    version: u64,
-    settings: Settings,
-) -> Result<Vec<Vec<Entry>>, FileFault>
-    ensures ok { IfOk result (λ logs. logs_at version settings (table_view table.now) ≡ Ok (lists_of logs.items)) }
-    ensures fault { IfErr result (λ f. f ≢ Memory → logs_at version settings (table_view table.now) ≡ Err f) }
-    ensures count { IfOk result (λ logs. vec_len logs ≡ settings.processors) }
-    ensures short { IfOk result (λ logs. IsTrue (list_all is_short (lists_of logs.items))) }
-{
     let mut logs = Vec::new(alloc);
     for _ in 0..settings.processors() {
         logs.push(Vec::new(alloc)).ok().ok_or(FileFault::Memory)?;
     }
-    add_entries(&mut logs, version, table)?;
+    add_entries(&mut logs, version, &table)?;
     let slots = settings.slots();
     for i in 0..logs.len() {
         close_log(&mut logs[i], slots)?;
     }
-    Ok(logs)
+    match Script::new(settings, logs) {
+        Ok(script) => Ok(script),
+        Err(_) => unreachable!(),
+    }
 }
 
 // Adds the entry that closes a log, if its last floor is below the number of slots.
