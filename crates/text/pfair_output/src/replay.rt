@@ -154,48 +154,23 @@ fn add_table(
     ensures text { OnOk result (text_so_far writer.new ≡ text_so_far writer.old ++ lines_text (placed_rows_from places.now slot 0 table.now)) }
 {
     for (row, pick) in table.iter().enumerate() {
-        add_pick(writer, slot, row as u64, pick, row_place(places, row))?;
+        let (mut slot_text, mut row_text, mut index_text) = (
+            Buffer::new(),
+            Buffer::new(),
+            Buffer::new(),
+        );
+        let slot = slot_text.format(slot).as_bytes();
+        let number = row_text.format(row).as_bytes();
+        let task = pick.name.as_bytes();
+        let index = index_text.format(pick.index).as_bytes();
+        match places.get(row) {
+            Some(place) => {
+                let mut place_text = Buffer::new();
+                let place = place_text.format(*place).as_bytes();
+                add_row(writer, &[slot, number, task, index, place])?;
+            }
+            None => add_row(writer, &[slot, number, task, index])?,
+        }
     }
     Ok(())
-}
-
-fn row_place(places: &[u8], row: usize) -> Option<u8>
-    ensures { result ≡ slice_get places.now row }
-{
-    places.get(row).copied()
-}
-
-fn add_pick(
-    writer: &mut Writer<Vec<u8>>,
-    slot: u64,
-    row: u64,
-    pick: &Pick,
-    place: Option<u8>,
-) -> Result<(), AllocError>
-    requires { IsOpen writer.old }
-    ensures open { OnOk result (IsOpen writer.new) }
-    ensures text { OnOk result (text_so_far writer.new ≡ text_so_far writer.old ++ line (placed_row slot row pick.now place)) }
-{
-    let (mut slot_text, mut row_text, mut index_text) = (
-        Buffer::new(),
-        Buffer::new(),
-        Buffer::new(),
-    );
-    let slot = slot_text.format(slot).as_bytes();
-    let row = row_text.format(row).as_bytes();
-    let task = pick.name.as_bytes();
-    let index = index_text.format(pick.index).as_bytes();
-    match place {
-        Some(place) => add_row(
-            writer,
-            &[
-                slot,
-                row,
-                task,
-                index,
-                Buffer::new().format(place).as_bytes(),
-            ],
-        ),
-        None => add_row(writer, &[slot, row, task, index]),
-    }
 }
