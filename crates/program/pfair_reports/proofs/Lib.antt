@@ -1,1 +1,1 @@
-mod RunFacts
+pub mod RunFacts

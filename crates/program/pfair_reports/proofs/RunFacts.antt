@@ -25,15 +25,6 @@ pub output_made : {made shown : List ℕ} (text : LoggedRun → List ℕ) (given
     → script.settings.slots ≤ frontier (replica_of_run script) → made ≡ text script → shown ≡ made → (P : List ℕ → Type 0) → P shown → IfSome given (λ bytes. IsOutputOf text bytes P)
 output_made text given script read far same equal P p = IfSome_then given read (λ bytes is. (script, is, far, subst P (equal ∙ same) p))
 
--- the bytes are known to hold a script of whose plan this has been kept
-abbrev pub HasPlanOf : {K : Type 0} → (has : K → ℕ → List Table → Type 0) → Option (List ℕ) → K → Type 0
-HasPlanOf has given kept = IfSome given (λ bytes. (run : LoggedRun) × (script_of_file bytes ≡ Ok run) × HasPlan has run kept)
-
--- what is known of the text of such a plan is known of the output of the file
-pub output_of_plan : {K : Type 0} {made shown : List ℕ} (has : K → ℕ → List Table → Type 0) (text : LoggedRun → List ℕ) (given : Option (List ℕ)) (kept : K) → HasPlanOf has given kept
-    → ((run : LoggedRun) → HasPlan has run kept → made ≡ text run) → shown ≡ made → (P : List ℕ → Type 0) → P shown → IfSome given (λ bytes. IsOutputOf text bytes P)
-output_of_plan has text given kept known same equal P p = IfSome_then given known (λ bytes (run, read, is). (run, read, is.far_enough, subst P (equal ∙ same run is) p))
-
 pub places_made : (made : Run) (kept : Vec (Vec Pick Global) Global) {tables : List (Vec Pick Global)} {places : List (Vec ℕ Global)} → made.tables ≡ kept → as_places made.places ≡ places_in None (as_tables kept)
     → tables ≡ made.tables.items → places ≡ made.places.items → (run : LoggedRun) → HasPlan has_kept run kept
     → placed_text (map (λ t. t.items) tables) (map (λ p. p.items) places) ≡ placed_replay_of_run run
@@ -57,3 +48,5 @@ refused_by_run has may_give_up given script run.Memory read is = tt
 refused_by_run has may_give_up given script run.GateGaveUp read is = is.0
 refused_by_run has may_give_up given script run.Astray read is = tt
 refused_by_run has may_give_up given script (run.Stalled slot) read is = IfSome_then given read (λ bytes its. (script, its, is.0, is.1))
+
+pub ruleset refusals = (refused_by_file, refused_by_run)

@@ -1,11 +1,7 @@
 //! The command `replay`: the tables of a task file, worked out by a dispatcher for each processor
 //! in a thread of its own, and with `--affinity` the processor that runs each row.
-ghost use Rattle.pfair_file.specs.ProgramFaults.{IsCommandOf, TakesOneFile};
+ghost use Rattle.pfair_file.specs.ProgramFaults.{IsCommandOf};
 ghost use Rattle.pfair_reports.specs.Runs.{IsFaultOfReplay, IsOutputOf, has_rows, placed_replay_of_run, replay_of_run};
-ghost use Rattle.std.specs.Prelude.{◌≡◌, [], Ok, IfErr, IfOk, IfSome};
-ghost use Rattle.pfair_table.specs.Script.{LoggedRun};
-ghost use Rattle.pfair_board.specs.RunFaults.{HasPlan};
-ghost use Rattle.pfair_file.specs.Documents.{script_of_file};
 
 use csv::Writer;
 use pfair_board::{Gate, Sink, run_dispatchers_into};
@@ -39,6 +35,7 @@ use std::thread::Threads;
 /// a worker learned something other than the logs: nothing has then been written.
 /// [`ProgramFault::WriteFailed`] if the writer answered an error, or took nothing; a prefix of the
 /// text has then gone out.
+#[tactic(auto, using(crate::proofs::RunFacts::refusals))]
 pub fn replay<R: Read, W: Write, G: Gate + Sync>(
     rt: &(impl Threads + Wait + Sync),
     alloc: Global,
@@ -51,7 +48,9 @@ pub fn replay<R: Read, W: Write, G: Gate + Sync>(
 {
     let mut header = new_text(alloc);
     add_replay_header(&mut header)?;
-    let rows = first_run(rt, alloc, reader, gate, ReplayRows { writer: header })?;
+    let script = read_script(alloc, reader)?;
+    let sink = ReplayRows { writer: header };
+    let rows = run_dispatchers_into::<HeapReady, _, _>(rt, alloc, &script, gate, sink)?;
     let text = finish(rows.writer)?;
     Ok(send(writer, text.as_slice())?)
 }
@@ -67,6 +66,7 @@ pub fn replay<R: Read, W: Write, G: Gate + Sync>(
 ///
 /// # Errors
 /// Those of [`replay`].
+#[tactic(auto, using(crate::proofs::RunFacts::refusals))]
 pub fn replay_placed<R: Read, W: Write, G: Gate + Sync>(
     rt: &(impl Threads + Wait + Sync),
     alloc: Global,
@@ -77,29 +77,12 @@ pub fn replay_placed<R: Read, W: Write, G: Gate + Sync>(
     ensures { IsCommandOf (IsOutputOf placed_replay_of_run) (IsFaultOfReplay G.may_give_up) result
         (R.remaining reader.old) (R.remaining reader.new) (W.contents writer.old) (W.contents writer.new) }
 {
-    let tables = first_run(rt, alloc, reader, gate, Vec::new(alloc))?;
+    let script = read_script(alloc, reader)?;
+    let sink = Vec::new(alloc);
+    let tables = run_dispatchers_into::<HeapReady, _, _>(rt, alloc, &script, gate, sink)?;
     let run = Run::of_tables(alloc, tables)?;
     let text = placed_replay_of(alloc, run.tables.as_slice(), run.places.as_slice())?;
     Ok(send(writer, text.as_slice())?)
-}
-
-// What a sink has after the tables of the first processor's dispatcher, of the script that a
-// reader's bytes hold.
-fn first_run<R: Read, G: Gate + Sync, K: Sink + Send>(
-    rt: &(impl Threads + Wait + Sync),
-    alloc: Global,
-    reader: &mut R,
-    gate: &G,
-    sink: K,
-) -> Result<K, ProgramFault>
-    requires { K.has sink 0 [] }
-    ensures plan { IfOk result (λ kept. (run : LoggedRun) × HasPlan K.has run kept) }
-    ensures ok { IfOk result (λ kept. IfSome (R.remaining reader.old) (λ bytes. (run : LoggedRun) × (script_of_file bytes ≡ Ok run) × HasPlan K.has run kept)) }
-    ensures refused { IfErr result (IsFaultOfReplay G.may_give_up (R.remaining reader.old)) }
-    ensures taken { TakesOneFile result (R.remaining reader.old) (R.remaining reader.new) }
-{
-    let script = read_script(alloc, reader)?;
-    Ok(run_dispatchers_into::<HeapReady, G, K>(rt, alloc, &script, gate, sink)?)
 }
 
 // Makes the rows of each table, and keeps no table.
