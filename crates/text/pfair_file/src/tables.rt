@@ -4,7 +4,7 @@ ghost use Rattle.std.specs.List.{list_all};
 ghost use Rattle.toml.specs.Data.{as_table};
 ghost use Rattle.toml.specs.View.{table_view, view};
 ghost use Rattle.pfair_table.specs.Script.{lists_of};
-ghost use Rattle.pfair_file.specs.Documents.{with_entry, longer_log, entries_at};
+ghost use Rattle.pfair_file.specs.Documents.{with_entry, entries_at};
 ghost use Rattle.pfair_file.specs.declared.fault.FileFault.TheVariants.{Memory};
 ghost use Rattle.pfair_file.specs.Tables.{early_at, kind_at, notice_at};
 ghost use Rattle.std.specs.Result.{result_map_both};
@@ -35,8 +35,20 @@ fn add_entry(
     let processor = number(table, place, Field::Processor, 0, last)?;
     let floor = natural_number(table, place, Field::Floor)?;
     let notice = read_notice(table, place, version)?;
-    let entry = checked_entry(floor, notice);
-    append(&mut logs[processor as usize], processor as u8, entry)
+    let log = &mut logs[processor as usize];
+    let made = if log.len() >= MOST_ENTRIES {
+        Err(NoticeFault::LogFull)
+    } else {
+        checked_entry(floor, notice)
+    };
+    match made {
+        Ok(entry) => log.push(entry).ok().ok_or(FileFault::Memory),
+        Err(cause) => Err(FileFault::Entry {
+            proc: processor as u8,
+            number: log.len() as u32 + 1,
+            cause,
+        }),
+    }
 }
 
 fn are_tables(items: &[Value]) -> bool
@@ -76,32 +88,6 @@ pub fn add_entries(logs: &mut Vec<Vec<Entry>>, version: u64, table: &Table) -> R
 /// The most entries that a file can hold of one processor: one less than a log has, which the file's
 /// end closes.
 pub(crate) const MOST_ENTRIES: usize = Script::LONGEST_LOG - 1;
-
-// Appends to the log of a processor the entry that a table makes, if it makes one.
-fn append(
-    log: &mut Vec<Entry>,
-    processor: u8,
-    made: Result<Entry, NoticeFault>,
-) -> Result<(), FileFault>
-    requires { vec_len log.old ≤ MOST_ENTRIES }
-    ensures ok { OnOk result (longer_log processor log.old.items made ≡ Ok log.new.items) }
-    ensures fault { IfErr result (λ f. f ≢ Memory → longer_log processor log.old.items made ≡ Err f) }
-    ensures short { vec_len log.new ≤ MOST_ENTRIES }
-{
-    let made = if log.len() >= MOST_ENTRIES {
-        Err(NoticeFault::LogFull)
-    } else {
-        made
-    };
-    match made {
-        Ok(entry) => log.push(entry).ok().ok_or(FileFault::Memory),
-        Err(cause) => Err(FileFault::Entry {
-            proc: processor,
-            number: log.len() as u32 + 1,
-            cause,
-        }),
-    }
-}
 
 // Reads the announcement of a table, if it has a kind, or the first fault of its keys.
 fn read_notice(table: &Table, place: u64, version: u64) -> Result<Option<Notice<'_>>, FileFault>
