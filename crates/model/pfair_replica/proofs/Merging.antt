@@ -175,18 +175,16 @@ module _ {X : Type 0} where
   get_set : (es : List (ℕ × X)) (p : ℕ) (w : X) → IsSome (get nat_cmp es p) → get nat_cmp (set_value (is_at (nat_cmp p)) es w) p ≡ Some w
   get_set es p w h = at_set es p p w h ∙ ap (λ b. cond b (Some w) (get nat_cmp es p)) ((eq_by_cmp_equiv nat_cmp_total).refl p)
 
-pub none_if : {X : Type 0} (o : Option X) → (IsSome o → ⊥) → o ≡ None
+none_if : {X : Type 0} (o : Option X) → (IsSome o → ⊥) → o ≡ None
 none_if o h = grind arith
-
-pub on_err_both : {A E P Q R : Type 0} (r : Result A E) → (P → Q → R) → OnErr r P → OnErr r Q → OnErr r R
-on_err_both r f p q = grind arith
 
 module _ (rows : List (ℕ × Row)) (p : ℕ) (row after : Row) (was : get nat_cmp rows p ≡ Some row) where
   there : IsSome (get nat_cmp rows p)
   there = subst IsSome (sym was) refl
 
-  pub set_same : after ≡ row → set_value (is_at (nat_cmp p)) rows after ≡ rows
-  set_same e = set_value_same (is_at (nat_cmp p)) rows after (was ∙ ap Some (sym e))
+  -- a row that refuses a key is as it was
+  pub set_refused : (n : ℕ) → (IsSome (get nat_cmp row n) → ⊥) → (get nat_cmp row n ≡ None → after ≡ row) → set_value (is_at (nat_cmp p)) rows after ≡ rows
+  set_refused n some none = set_value_same (is_at (nat_cmp p)) rows after (was ∙ ap Some (sym (none (none_if (get nat_cmp row n) some))))
 
   module _ (m : ℕ) (e : Logged) (j : MapJoins nat_cmp FlatJoins row ((m, One e) ∷ []) after) where
     one_joined : (n : ℕ) → get nat_cmp after n ≡ held_join entry_eq (get nat_cmp row n) (if n == m then Some (One e) else None)

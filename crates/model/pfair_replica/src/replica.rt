@@ -14,7 +14,7 @@ ghost use Rattle.pfair_replica.specs.Faults.{IsKeyOf, IsTakenAs, IsTakeFaultOf, 
 
 use crate::agenda::Agenda;
 use crate::answer::{MergeFault, TakeFault, Taken};
-use crate::rows::{Counters, EntryKey, Faults, Rows, held_at, put_entry, row_le};
+use crate::rows::{Counters, EntryKey, Faults, Rows, held_at, row_le};
 use pfair_entry::{Entry, Said};
 use pfair_lattice::{Flat, Join, JoinMap};
 use std::alloc::{AllocError, Global};
@@ -124,7 +124,10 @@ impl Replica {
             Some(held) if held == Flat::One(entry) => Taken::Known,
             Some(_) => Taken::Torn,
         };
-        put_entry(&mut self.rows, proc, number, entry)?;
+        let Some(row) = self.rows.get_mut(&proc) else {
+            unreachable!();
+        };
+        row.put(number, &Flat::One(entry))?;
         self.counters
             .follow_entry(&self.rows, self.capacity, proc, number);
         Ok(taken)

@@ -1,12 +1,10 @@
 //! The rows of a replica, and what is kept beside them so that it is looked up: how far each sound
 //! beginning goes, what all of them come to, and the first torn key.
-ghost use Rattle.std.specs.Prelude.{◌≡◌, ◌↔◌, ℕ, None, Some, IsTrue, IsSome, IfOk, OnOk, OnErr, ◌≤◌, ◌<◌, ◌+◌, ◌^◌, length, replicate, set};
-ghost use Rattle.std.specs.Ordering.{nat_cmp};
-ghost use Rattle.pfair_lattice.specs.Entries.{get};
-ghost use Rattle.pfair_lattice.specs.Held.{held_join, HeldBelow};
+ghost use Rattle.std.specs.Prelude.{◌≡◌, ◌↔◌, ℕ, None, Some, IsTrue, IfOk, ◌≤◌, ◌<◌, ◌+◌, ◌^◌, length, replicate, set};
+ghost use Rattle.pfair_lattice.specs.Held.{HeldBelow};
 ghost use Rattle.pfair_lattice.specs.declared.join_map.Flat.TheVariants.{One};
-ghost use Rattle.pfair_entry.specs.Entry.{Logged, IsEntry, entry_eq};
-ghost use Rattle.pfair_replica.specs.Replica.{only, held_in, IsFull, AreEmptyRows};
+ghost use Rattle.pfair_entry.specs.Entry.{Logged, IsEntry};
+ghost use Rattle.pfair_replica.specs.Replica.{held_in};
 ghost use Rattle.pfair_replica.specs.Counters.{beginning_in, least_mark, total_count, IsPart, IsLeftAt, IsFirstTornIn, IsEarlier, IsTornAt, AreCounters, WereBefore, WereApart};
 
 use pfair_entry::Entry;
@@ -30,25 +28,6 @@ pub struct Faults {
 
 /// The contents of each processor's log.
 pub(crate) type Rows = JoinMap<u8, JoinMap<u32, Flat<Entry>>>;
-
-/// Joins one entry in, in a row that is there.
-pub(crate) fn put_entry(
-    rows: &mut Rows,
-    processor: u8,
-    number: u32,
-    entry: Entry,
-) -> Result<(), AllocError>
-    requires { IsSome (get nat_cmp rows.old processor) }
-    ensures joined { OnOk result ((k n : ℕ) → held_in rows.new k n ≡ held_join entry_eq (held_in rows.old k n) (only processor number entry k n)) }
-    ensures full { (m : ℕ) → IsFull m rows.old → IsFull m rows.new }
-    ensures unchanged { OnErr result (rows.new ≡ rows.old) }
-    ensures missing { OnErr result (held_in rows.old processor number ≡ None) }
-{
-    match rows.get_mut(&processor) {
-        Some(row) => row.put(number, &Flat::One(entry)),
-        None => Ok(()),
-    }
-}
 
 /// The contents at a key.
 pub(crate) fn held_at(rows: &Rows, processor: u8, number: u32) -> Option<Flat<Entry>>
