@@ -146,31 +146,20 @@ impl Desk {
             return Err(PublishFault::RowFull);
         }
         let number = self.next_number;
-        match self.put(board, entry) {
-            Ok(standing) if standing == entry => Ok(number),
-            Ok(standing) => Err(PublishFault::Taken { standing }),
-            Err(_) => Err(PublishFault::Memory),
-        }
-    }
-
-    // Sets the cell of the next number if it is empty, and takes what stands there then.
-    fn put(&mut self, board: &Board, entry: Entry) -> Result<Entry, AllocError>
-        requires own { IsDeskOf self.old board.now }
-        requires room { self.old.next_number ≤ self.old.replica.capacity }
-        ensures ok { IfOk result (λ e. state_of self.new ≡ numbered (state_of self.old) e) }
-        ensures held_now { IfOk result (λ e. held self.new.replica self.old.processor self.old.next_number ≡ Some (One e)) }
-        ensures memory { OnErr result ((held self.old.replica self.old.processor self.old.next_number ≡ None) × (self.new ≡ self.old)) }
-        ensures kept { GrownDesk self.old self.new }
-        ensures own { IsDeskOf self.new board.now }
-    {
-        let number = self.next_number;
         let place = self.place(self.processor, number);
-        let standing = self.notes.set(self.alloc, board.cell(place), place, entry)?;
+        let cell = board.cell(place);
+        let Ok(standing) = self.notes.set(self.alloc, cell, place, entry) else {
+            return Err(PublishFault::Memory);
+        };
         let Ok(_) = self.replica.take(self.processor, number, standing) else {
-            return Err(AllocError);
+            return Err(PublishFault::Memory);
         };
         self.next_number = number + 1;
-        Ok(standing)
+        if standing == entry {
+            Ok(number)
+        } else {
+            Err(PublishFault::Taken { standing })
+        }
     }
 
     // Where the cell of a key stands among those of all keys.
