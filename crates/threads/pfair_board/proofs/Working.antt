@@ -1,5 +1,5 @@
 -- What desks hold and plan while workers run, and the faults with which a run may end.
-use Rattle.pfair_board.proofs.Common.{Settings, ℕ, refl, List, None, AllByRecursion, Table, DeskView, GrownDesk, HasLearned, IsAtWork, arith, ◌∙◌, sym, subst, inl, inr, ⊎_elim, Logged, Dispatch, as_tables, plan, LoggedRun, replica_of_logs, Worked, IsWorkOf, has_kept, ◌≡◌, ◌<◌, [], ◌∷◌, length, slice_get, slice_index_or, Some, Ok, Err, IsOk, IfOk, ap, true≢false, Below, RunFault, BoardFrame, IsGood, ReplicaRows, replica_of, AreWorks, SomeEndsIn, Holds, IsFirstFault, Option, Result, IfErr, IsWorkerFault, Torn, HasPublished, IsTaken, log_of, Replica, IsFit, ◌⊎◌, Bool, HoldsScript, IsRunFaultOf}
+use Rattle.pfair_board.proofs.Common.{held, One, ◌+◌, Settings, ℕ, refl, List, None, AllByRecursion, Table, DeskView, GrownDesk, HasLearned, IsAtWork, arith, ◌∙◌, sym, subst, inl, inr, ⊎_elim, Logged, Dispatch, as_tables, plan, LoggedRun, replica_of_logs, Worked, IsWorkOf, has_kept, ◌≡◌, ◌<◌, [], ◌∷◌, length, slice_get, slice_index_or, Some, Ok, Err, IsOk, IfOk, ap, true≢false, Below, RunFault, BoardFrame, IsGood, ReplicaRows, replica_of, AreWorks, SomeEndsIn, Holds, IsFirstFault, Option, Result, IfErr, IsWorkerFault, Torn, HasPublished, IsTaken, log_of, Replica, IsFit, ◌⊎◌, Bool, HoldsScript, IsRunFaultOf}
 use Rattle.pfair_table.specs.Events.{IsOf, OnePlan, OneTable}
 use Rattle.pfair_desk.specs.Steps.{Step, IsStep, empty_board, after_steps, desk_replica, DesksAgree, DesksHoldReplicas}
 use Rattle.pfair_board.specs.Laws.{DesksPlanAlike, DesksShareAPlan}
@@ -34,6 +34,12 @@ grown_trans a b c p q = grind (arith)
 
 pub learned_trans : (a b c : DeskView) → HasLearned a b → HasLearned b c → HasLearned a c
 learned_trans a b c p q = record { grown = grown_trans a b c p.grown q.grown; next = q.next ∙ p.next }
+
+-- with one more entry of a log published, that many are held
+pub held_more : (first old now : DeskView) (log : List Logged) (n : ℕ) (e : Logged) → GrownDesk first old → GrownDesk old now → old.next_number ≡ first.next_number + n → slice_get log n ≡ Some e
+    → held now.replica old.processor old.next_number ≡ Some (One e) → ((i : ℕ) (f : Logged) → i < n → slice_get log i ≡ Some f → held old.replica first.processor (first.next_number + i) ≡ Some (One f))
+    → (i : ℕ) (f : Logged) → i < n + 1 → slice_get log i ≡ Some f → held now.replica first.processor (first.next_number + i) ≡ Some (One f)
+held_more first old now log n e grown more next at there before i f lt is = grind arith
 
 -- a log that is published is published later, when more was learned
 pub published_later : (a b c : DeskView) (log : List Logged) → HasPublished a b log → HasLearned b c → HasPublished a c log

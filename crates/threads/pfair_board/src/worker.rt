@@ -149,15 +149,23 @@ pub(crate) fn run_into<R: Ready, G: Gate, K: Sink>(
     ensures own { IsDeskOf desk.new board.now }
 {
     let planner = SlotPlanner::<R>::new(alloc, settings, desk.replica())?;
+    let proc = desk.proc();
+    for entry in log {
+        match desk.publish(board, *entry) {
+            Ok(number) => hints.send(rt, Hint { proc, number })?,
+            Err(PublishFault::Memory) => return Err(RunFault::Memory),
+            Err(PublishFault::Taken { .. }) => return Err(RunFault::Astray),
+            Err(PublishFault::RowFull) => unreachable!(),
+        }
+    }
+    // once all workers have published their logs, no hint can come any more
+    hints.senders.clear();
     let mut worker = Worker {
         planner,
         sink,
         room: Vec::new(alloc),
         alloc,
     };
-    publish_log(rt, desk, board, log, &hints)?;
-    // once all workers have, no hint can come any more
-    hints.senders.clear();
     worker.plan_all(rt, desk, board, &hints, gate)?;
     Ok(worker.sink)
 }
@@ -234,31 +242,4 @@ impl<R: Ready, K: Sink> Worker<R, K> {
         prove!(self.planner.next_slot() <= self.planner.settings().slots());
         unreachable!()
     }
-}
-
-// Publishes each entry of a log, and sends a hint of it to each other worker.
-fn publish_log(
-    rt: &impl Wait,
-    desk: &mut Desk,
-    board: &Board,
-    log: &[Entry],
-    hints: &Hints,
-) -> Result<(), RunFault>
-    requires own { IsDeskOf desk.old board.now }
-    requires room { desk.old.next_number + length log.now ≤ board.now.capacity + 1 }
-    ensures grown { GrownDesk desk.old desk.new }
-    ensures log { OnOk result (HasPublished desk.old desk.new log.now) }
-    ensures fault { IfErr result (IsWorkerFault false desk.new desk.old.next_number log.now) }
-    ensures own { IsDeskOf desk.new board.now }
-{
-    let proc = desk.proc();
-    for entry in log {
-        match desk.publish(board, *entry) {
-            Ok(number) => hints.send(rt, Hint { proc, number })?,
-            Err(PublishFault::Memory) => return Err(RunFault::Memory),
-            Err(PublishFault::Taken { .. }) => return Err(RunFault::Astray),
-            Err(PublishFault::RowFull) => unreachable!(),
-        }
-    }
-    Ok(())
 }

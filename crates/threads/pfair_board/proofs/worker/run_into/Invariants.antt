@@ -1,5 +1,5 @@
 use Rattle.pfair_board.proofs.Common.{held, IsDeskOf, GrownDesk, ◌≡◌, ◌+◌, ◌<◌, ℕ, slice_get, Some, Logged, One}
-use Rattle.pfair_board.proofs.worker.publish_log.Given as goal
+use Rattle.pfair_board.proofs.worker.run_into.Given as goal
 
 -- the entries so far are held under the numbers from the old next number on
 abbrev pub invariant-loop-entry : goal.invariant-loop-entry
