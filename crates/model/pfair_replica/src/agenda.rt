@@ -63,30 +63,16 @@ impl Agenda {
         ensures ok { OnOk result ((t : ℕ) → listed_at self.new.lists t ≡ listed_at self.old.lists t ++ one_at slot said t) }
         ensures err { OnErr result ((t : ℕ) → listed_at self.new.lists t ≡ listed_at self.old.lists t) }
     {
-        // a value made here: rattle's borrow checker doesn't build a proof that passes the given one on
-        push_at(self.alloc, &mut self.lists, slot, Said { ..said })?;
+        // not by `push`, for which rattle's borrow checker builds no proof here
+        match self.lists.get_mut(&slot) {
+            Some(list) => list.extend_from_slice(&[said])?,
+            None => {
+                let mut list = Vec::with_capacity(self.alloc, 1)?;
+                list.extend_from_slice(&[said])?;
+                self.lists.insert(slot, list)?;
+            }
+        }
         self.last = self.last.max(slot);
         Ok(())
     }
-}
-
-// Adds a value behind those that are listed under a key.
-fn push_at<T: Drop>(
-    alloc: Global,
-    lists: &mut BTreeMap<u64, Vec<T>>,
-    key: u64,
-    value: T,
-) -> Result<(), AllocError>
-    ensures ok { OnOk result ((t : ℕ) → listed_at lists.new t ≡ listed_at lists.old t ++ one_at key value t) }
-    ensures err { OnErr result ((t : ℕ) → listed_at lists.new t ≡ listed_at lists.old t) }
-{
-    match lists.get_mut(&key) {
-        Some(list) => list.push(value)?,
-        None => {
-            let mut list = Vec::with_capacity(alloc, 1)?;
-            list.push(value)?;
-            lists.insert(key, list)?;
-        }
-    }
-    Ok(())
 }
