@@ -1,5 +1,5 @@
 //! Dispatchers in threads of their own, and the fault with which their run ends.
-ghost use Rattle.std.specs.Prelude.{◌≡◌, ◌≤◌, ℕ, [], IfOk, IfErr, OnOk, Some, Vec, slice_get, vec_len, ◌↔◌, IsTrue, false};
+ghost use Rattle.std.specs.Prelude.{◌≡◌, ◌≤◌, ℕ, [], IfOk, IfErr, Some, Vec, slice_get, vec_len, ◌↔◌, IsTrue, false};
 ghost use Rattle.std.specs.declared.alloc.Global.{Global};
 ghost use Rattle.pfair_replica.specs.Replica.{frontier, replica_of};
 ghost use Rattle.pfair_table.specs.Script.{capacity_of, replica_of_logs};
@@ -8,13 +8,12 @@ ghost use Rattle.pfair_board.specs.RunFaults.{IsFinished, IsGood, HasPlan, IsRun
 ghost use Rattle.pfair_board.specs.Works.{has_first, has_kept};
 ghost use Rattle.pfair_board.specs.declared.threads.Worked.{Worked};
 
-use crate::threads::{Worked, run_all};
+use crate::threads::{Worked, run_on};
 use crate::worker::{Gate, Sink};
 use pfair_desk::{Board, Desk};
 use pfair_ready::Ready;
 use pfair_replica::Replica;
-use pfair_replica::laws::least_join;
-use pfair_table::{Pick, Run, RunFault, Script, take_script};
+use pfair_table::{Pick, Run, RunFault, Script};
 use std::alloc::{AllocError, Global};
 use std::sync::Wait;
 use std::thread::Threads;
@@ -100,36 +99,6 @@ pub fn run_dispatchers_into<R: Ready + Send, G: Gate + Sync, K: Sink + Send>(
     Ok(sink)
 }
 
-// Runs a dispatcher for each row of a board, the k-th of which has the k-th of these sinks. Fails
-// with the first fault of the workers, if they have one.
-fn run_on<R: Ready + Send, G: Gate + Sync, K: Sink + Send>(
-    rt: &(impl Threads + Wait + Sync),
-    alloc: Global,
-    script: &Script,
-    board: &Board,
-    gate: &G,
-    sinks: Vec<K>,
-) -> Result<Vec<Worked<K>>, RunFault>
-    requires processors { board.now.processors ≡ script.now.settings.processors }
-    requires capacity { board.now.capacity ≡ capacity_of script.now.logs }
-    requires count { vec_len sinks ≡ board.now.processors }
-    requires empty { (k : ℕ) (sink : K) → slice_get sinks.items k ≡ Some sink → K.has sink k [] }
-    ensures count { IfOk result (λ works. vec_len works ≡ script.now.settings.processors) }
-    ensures good { IfOk result (λ works. (k : ℕ) (w : Worked K) → slice_get works.items k ≡ Some w → IsGood K.has script.now board.now k w) }
-    ensures far_enough { OnOk result (script.now.settings.slots ≤ frontier (replica_of_logs script.now.logs)) }
-    ensures fault { IfErr result (IsRunFaultOf K.has G.may_give_up script.now) }
-{
-    least_join();
-    // the board has a row for each log of the script
-    prove!(script.settings().processors() == board.processors());
-    let works = run_all::<R, G, K>(rt, alloc, script, board, gate, sinks)?;
-    let whole = take_script::<R>(alloc, script)?.into_replica();
-    match first_fault(&works, &whole, script.settings().slots()) {
-        Some(fault) => Err(fault),
-        None => Ok(works),
-    }
-}
-
 // Takes the works apart: their desks, and the runs of the tables that they kept.
 fn hand_back(
     alloc: Global,
@@ -156,8 +125,8 @@ fn hand_back(
     Ok(Finished { board, desks, runs })
 }
 
-// Returns the first fault of these workers, each of whom should hold the whole script.
-fn first_fault<K>(works: &[Worked<K>], whole: &Replica, slots: u64) -> Option<RunFault>
+/// Returns the first fault of these workers, each of whom should hold the whole script.
+pub(crate) fn first_fault<K>(works: &[Worked<K>], whole: &Replica, slots: u64) -> Option<RunFault>
     ensures { IsFirstFault works.now (replica_of whole.now) slots result }
 {
     if some_ends_in(works, RunFault::Memory) {

@@ -1,14 +1,18 @@
 //! The threads of a run, one for each processor, and what they tell each other.
-ghost use Rattle.std.specs.Prelude.{◌≡◌, ℕ, [], IfOk, OnOk, Some, slice_get, vec_len};
+ghost use Rattle.std.specs.Prelude.{◌≡◌, ◌≤◌, ℕ, [], IfOk, IfErr, OnOk, Some, slice_get, vec_len};
 ghost use Rattle.std.specs.PromisedHandle.{KeepsEach};
-ghost use Rattle.pfair_table.specs.Script.{capacity_of};
+ghost use Rattle.pfair_replica.specs.Replica.{frontier};
+ghost use Rattle.pfair_table.specs.Script.{capacity_of, replica_of_logs};
+ghost use Rattle.pfair_board.specs.RunFaults.{IsGood, IsRunFaultOf};
 ghost use Rattle.pfair_board.specs.Works.{AreWorkplaces, AreWorks, IsWorkOf, IsWorkplaceOf};
 
+use crate::dispatchers::first_fault;
 use crate::worker::{Gate, Sink, run_into};
 use crossbeam_channel::{Receiver, Sender};
 use pfair_desk::{Board, Desk};
 use pfair_ready::Ready;
-use pfair_table::{RunFault, Script};
+use pfair_replica::laws::least_join;
+use pfair_table::{RunFault, Script, take_script};
 use std::alloc::{AllocError, Global};
 use std::marker::PhantomData;
 use std::snapshot::Snapshot;
@@ -45,24 +49,30 @@ impl<G: Gate, K: Sink> Promise<Worked<K>> for RowOf<G> {
     ghost kept_by = { λ p r. IsWorkOf K.has G.may_give_up p.board.value p.script.value p.processor r };
 }
 
-/// Starts a thread for each row of a board and joins them all. Each has one of these sinks, that of
-/// processor k the k-th.
-pub(crate) fn run_all<R: Ready + Send, G: Gate + Sync, K: Sink + Send>(
+/// Runs a dispatcher for each row of a board in a thread of its own, the k-th of which has the k-th
+/// of these sinks, and joins them all. Fails with the first fault of the workers, if they have one.
+pub(crate) fn run_on<R: Ready + Send, G: Gate + Sync, K: Sink + Send>(
     rt: &(impl Threads + Wait + Sync),
     alloc: Global,
     script: &Script,
     board: &Board,
     gate: &G,
     sinks: Vec<K>,
-) -> Result<Vec<Worked<K>>, AllocError>
+) -> Result<Vec<Worked<K>>, RunFault>
     requires processors { board.now.processors ≡ script.now.settings.processors }
     requires capacity { board.now.capacity ≡ capacity_of script.now.logs }
     requires count { vec_len sinks ≡ board.now.processors }
     requires empty { (k : ℕ) (sink : K) → slice_get sinks.items k ≡ Some sink → K.has sink k [] }
-    ensures { IfOk result (λ works. AreWorks K.has G.may_give_up board.now script.now works.items) }
+    ensures count { IfOk result (λ works. vec_len works ≡ script.now.settings.processors) }
+    ensures good { IfOk result (λ works. (k : ℕ) (w : Worked K) → slice_get works.items k ≡ Some w → IsGood K.has script.now board.now k w) }
+    ensures far_enough { OnOk result (script.now.settings.slots ≤ frontier (replica_of_logs script.now.logs)) }
+    ensures fault { IfErr result (IsRunFaultOf K.has G.may_give_up script.now) }
 {
+    least_join();
+    // the board has a row for each log of the script
+    prove!(script.settings().processors() == board.processors());
     let workplaces = workplaces::<R, K>(alloc, board, sinks)?;
-    thread::scope(
+    let works = thread::scope(
         thread::scope_env(),
         rt,
         move |scope| -> Result<Vec<Worked<K>>, AllocError>
@@ -95,7 +105,12 @@ pub(crate) fn run_all<R: Ready + Send, G: Gate + Sync, K: Sink + Send>(
             // by now no workplace is left whose hints a worker would wait for
             join_all(rt, threads, board.processors())
         },
-    )
+    )?;
+    let whole = take_script::<R>(alloc, script)?.into_replica();
+    match first_fault(&works, &whole, script.settings().slots()) {
+        Some(fault) => Err(fault),
+        None => Ok(works),
+    }
 }
 
 // The workplace of each row of a board, that of processor k at place k, with the k-th of these

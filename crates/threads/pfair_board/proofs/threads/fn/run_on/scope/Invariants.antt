@@ -1,5 +1,5 @@
 use Rattle.pfair_board.proofs.Common.{into_iter_items, into_iter_len, IsWorkplaceOf, ◌≡◌, ◌≤◌, ◌+◌, ℕ, slice_get, Some, vec_len, vec_capacity}
-use Rattle.pfair_board.proofs.threads.fn.run_all.scope.Given as goal
+use Rattle.pfair_board.proofs.threads.fn.run_on.scope.Given as goal
 
 -- the threads so far are those of the first rows, and the workplaces that are left are those of the next ones
 abbrev pub invariant-loop-workplace : goal.invariant-loop-workplace

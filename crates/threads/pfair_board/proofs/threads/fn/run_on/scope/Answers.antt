@@ -3,7 +3,7 @@ use Rattle.std.specs.declared.result.Result.{Result}
 use Rattle.std.specs.declared.thread.PromisedHandle.{PromisedHandle}
 use Rattle.pfair_board.specs.declared.threads.RowOf.{RowOf}
 use Rattle.pfair_board.proofs.Working.{none_in_empty, work_moves}
-use Rattle.pfair_board.proofs.threads.fn.run_all.scope.Goals as goal
+use Rattle.pfair_board.proofs.threads.fn.run_on.scope.Goals as goal
 
 -- the workplace that comes is the first that was left
 pub spawn_with-started-requires-clause-runs : goal.spawn_with-started-requires-clause-runs
