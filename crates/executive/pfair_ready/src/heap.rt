@@ -4,8 +4,7 @@ ghost use Rattle.std.specs.BinaryHeap.{heap_items};
 ghost use Rattle.pfair_order.specs.declared.Key.{Key};
 ghost use Rattle.pfair_order.specs.Order.{pd2_cmp, first_by_rank};
 ghost use Rattle.pfair_ready.specs.Queue.{Content, content_code, released, without};
-ghost use Rattle.pfair_ready.specs.Waiting.{HasTurn, IsCovered, KeepsTurns, turn_of};
-ghost use Rattle.pfair_weight.specs.Name.{IsTaskName};
+ghost use Rattle.pfair_ready.specs.Waiting.{HasTurn, IsCovered, KeepsTurns};
 
 use crate::calendar::{Calendar, Date};
 use crate::waiting::Waiting;
@@ -194,21 +193,6 @@ pub(crate) struct Turn {
     pub name: Reverse<u128>,
 }
 
-impl Turn {
-    fn of(key: &Key, hint: usize) -> Turn
-        ensures turn { result ≡ turn_of key.now hint }
-        ensures name { IsTaskName key.now.name }
-    {
-        Turn {
-            d: Reverse(key.d),
-            b: key.b,
-            group: if key.b == 1 { key.group } else { 0 },
-            hint,
-            name: Reverse(key.name.number()),
-        }
-    }
-}
-
 /// Adds the turn of a key to a heap of turns.
 pub(crate) fn add_turn(
     turns: &mut BinaryHeap<Turn>,
@@ -218,6 +202,13 @@ pub(crate) fn add_turn(
     ensures keeps { KeepsTurns (heap_items turns.old) (heap_items turns.new) }
     ensures there { OnOk result (HasTurn (heap_items turns.new) key.now) }
 {
-    turns.push(Turn::of(key, hint))?;
+    let group = if key.b == 1 { key.group } else { 0 };
+    turns.push(Turn {
+        d: Reverse(key.d),
+        b: key.b,
+        group,
+        hint,
+        name: Reverse(key.name.number()),
+    })?;
     Ok(())
 }
