@@ -237,20 +237,20 @@ module _ (es : Entries) (name : NameValue) (h : IsDistinct name_eq (keys_of es))
   pub absent : at es name ≡ None → finmap.contains_key (queue_in es) name ≡ false
   absent none = ap is_some (none_there es name h none)
 
-set_same : (es : Entries) (i : ℕ) (w : Entry) → Some w ≡ slice_get (map (λ e. e.1) es) i → set_value_at es i w ≡ es
+set_same : (es : Entries) (i : ℕ) (w : Entry) → slice_get (map (λ e. e.1) es) i ≡ Some w → set_value_at es i w ≡ es
 set_same [] i w e = refl
-set_same (e ∷ es) zero w at = ap (λ (x : Entry). (e.0, x) ∷ es) (same_Some w e.1 at)
+set_same (e ∷ es) zero w at = ap (λ (x : Entry). (e.0, x) ∷ es) (sym (same_Some e.1 w at))
 set_same (e ∷ es) (suc i) w at = ap (λ l. e ∷ l) (set_same es i w at)
 
 module _ {S : Type 0} (m : IndexMap NameValue Entry S) (i : ℕ) (name : NameValue) (unique : IsUnique name_eq m) (there : IsEntryOf m.entries name i) where
   -- what the entry has that is read at the index waits under its name
-  pub entry_read : (w : Entry) → Some w ≡ slice_get (values m) i → finmap.get (queue_in m.entries) name ≡ held_under name w.held
+  pub entry_read : (w : Entry) → slice_get (values m) i ≡ Some w → finmap.get (queue_in m.entries) name ≡ held_under name w.held
   entry_read w e =
-      let same : there.0 ≡ w = same_Some there.0 w (sym (e ∙ slice_get-map (λ e. e.1) m.entries i ∙ ap (option_map (λ e. e.1)) there.1)) in
+      let same : there.0 ≡ w = same_Some there.0 w (sym (slice_get-map (λ e. e.1) m.entries i ∙ ap (option_map (λ e. e.1)) there.1) ∙ e) in
       held_there m.entries name unique there.0 (hash_map_get_place nat_list_eq_equiv m i name there.0 unique there.1) ∙ ap (λ (e : Entry). held_under name e.held) same
 
   -- if it is written back nothing changes
-  pub entry_kept : (w : Entry) → Some w ≡ slice_get (values m) i → queue_in (with_value_at m i w).entries ≡ queue_in m.entries
+  pub entry_kept : (w : Entry) → slice_get (values m) i ≡ Some w → queue_in (with_value_at m i w).entries ≡ queue_in m.entries
   entry_kept w e = ap queue_in (set_same m.entries i w e)
 
   still_unique : (w : Entry) → IsUnique name_eq (with_value_at m i w)

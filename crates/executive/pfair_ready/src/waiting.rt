@@ -1,5 +1,5 @@
 //! What waits under each name.
-ghost use Rattle.std.specs.Prelude.{◌≡◌, IfOk, IfSome, IfNone, OnErr, OnOk, None, Some, false, is_some, not, if◌then◌else◌};
+ghost use Rattle.std.specs.Prelude.{◌≡◌, IfOk, IfSome, IfNone, OnErr, None, Some, false, is_some, not, if◌then◌else◌};
 ghost use Rattle.std.specs.FinMap as finmap;
 ghost use Rattle.indexmap.specs.IndexMap.{get as at_name, IsUnique};
 ghost use Rattle.pfair_ready.specs.Queue.{NameValue, Queue, name_eq, queue_code};
@@ -24,17 +24,6 @@ struct HeldKey {
 }
 
 impl HeldKey {
-    fn of(release: u64, key: &Key) -> HeldKey
-        ensures { result ≡ record { release = release; d = key.now.d; b = key.now.b; group = key.now.group } }
-    {
-        HeldKey {
-            release,
-            d: key.d,
-            b: key.b,
-            group: key.group,
-        }
-    }
-
     fn key(&self, name: TaskName) -> Key
         ensures { result ≡ key_under name self.now }
     {
@@ -118,26 +107,31 @@ impl Waiting {
         ensures same { OnErr result (self.new ≡ self.old) }
         ensures vacant { OnErr result (finmap.contains_key self.old key.now.name ≡ false) }
     {
-        let Some(index) = find(&self.entries, seats.ready, &key.name) else {
-            return Ok(Some(self.put_new(seats.member, release, key)?));
+        let held = Some(HeldKey {
+            release,
+            d: key.d,
+            b: key.b,
+            group: key.group,
+        });
+        let entry = Entry {
+            held,
+            member: seats.member,
         };
-        Ok(fill(&mut self.entries, index, seats.member, release, key).then_some(index))
-    }
-
-    // The same of a name that has no entry.
-    fn put_new(&mut self, member: usize, release: u64, key: &Key) -> Result<usize, AllocError>
-        ensures put { OnOk result (self.new ≡ finmap.insert self.old key.now.name (release, key.now)) }
-        ensures same { OnErr result (self.new ≡ self.old) }
-    {
+        if let Some(index) = find(&self.entries, seats.ready, &key.name) {
+            let there = &mut self.entries[index];
+            if there.held.is_some() {
+                return Ok(None);
+            }
+            *there = entry;
+            return Ok(Some(index));
+        }
         self.drop_vacant();
         // no name stands twice
         prove!(self.entries.len() < usize::MAX);
         let index = self.entries.len();
-        let name = key.name;
-        let held = Some(HeldKey::of(release, key));
-        self.entries.insert(name, Entry { held, member })?;
+        self.entries.insert(key.name, entry)?;
         self.added = self.added.saturating_add(1);
-        Ok(index)
+        Ok(Some(index))
     }
 
     /// Removes the key under a turn's name if the turn is that key's, and the key released by the slot.
@@ -147,8 +141,26 @@ impl Waiting {
         ensures key { IfSome result (λ seated. IsKeyIn self.old (name_of turn.now.name.0) seated.key) }
         ensures content { self.new ≡ (if is_some result then finmap.remove self.old (name_of turn.now.name.0) else self.old) }
     {
-        let ready = find_turn(&self.entries, turn)?;
-        vacate(&mut self.entries, ready, slot, turn)
+        // no name stands twice
+        prove!(self.entries.len() < usize::MAX);
+        let (ready, name) = match self.entries.get_index(turn.hint) {
+            Some((there, _)) if there.number() == turn.name.0 => (turn.hint, *there),
+            _ => {
+                let name = TaskName::of_number(turn.name.0);
+                (self.entries.get_index_of(&name)?, name)
+            }
+        };
+        let entry = &mut self.entries[ready];
+        let held = entry.held?;
+        if !held.is_due(slot, turn) {
+            return None;
+        }
+        entry.held = None;
+        let member = entry.member;
+        Some(Seated {
+            key: held.key(name),
+            seats: Seats { ready, member },
+        })
     }
 
     /// Removes what waits under a name, and returns whether there was something.
@@ -200,60 +212,4 @@ fn find(entries: &Entries, hint: usize, name: &TaskName) -> Option<usize>
         Some((there, _)) if there == name => Some(hint),
         _ => entries.get_index_of(name),
     }
-}
-
-// Puts a release and a key under the key's name, whose entry is at the index, unless something waits
-// there. Returns whether it did.
-fn fill(entries: &mut Entries, index: usize, member: usize, release: u64, key: &Key) -> bool
-    requires { IsEntryOf entries.old.entries key.now.name index }
-    ensures answer { finmap.contains_key (queue_in entries.old.entries) key.now.name ≡ not result }
-    ensures content { queue_in entries.new.entries ≡
-        (if result then finmap.insert (queue_in entries.old.entries) key.now.name (release, key.now) else queue_in entries.old.entries) }
-{
-    let Some(entry) = entries.get_index_mut(index) else {
-        return false;
-    };
-    if entry.held.is_some() {
-        return false;
-    }
-    let held = Some(HeldKey::of(release, key));
-    *entry = Entry { held, member };
-    true
-}
-
-fn find_turn(entries: &Entries, turn: &Turn) -> Option<usize>
-    requires { IsNumber turn.now.name.0 }
-    ensures some { IfSome result (IsEntryOf entries.now.entries (name_of turn.now.name.0)) }
-    ensures none { IfNone result (at_name name_eq entries.now (name_of turn.now.name.0) ≡ None) }
-    ensures unique { IsUnique name_eq entries.now }
-{
-    // no name stands twice
-    prove!(entries.len() < usize::MAX);
-    match entries.get_index(turn.hint) {
-        Some((there, _)) if there.number() == turn.name.0 => Some(turn.hint),
-        _ => entries.get_index_of(&TaskName::of_number(turn.name.0)),
-    }
-}
-
-// Takes out what waits under a turn's name, whose entry is at the index, if the turn is that key's, and
-// the key released by the slot.
-fn vacate(entries: &mut Entries, ready: usize, slot: u64, turn: &Turn) -> Option<Seated>
-    requires { IsEntryOf entries.old.entries (name_of turn.now.name.0) ready }
-    ensures answer { is_some result ≡ is_due turn.now slot (finmap.get (queue_in entries.old.entries) (name_of turn.now.name.0)) }
-    ensures key { IfSome result (λ seated. IsKeyIn (queue_in entries.old.entries) (name_of turn.now.name.0) seated.key) }
-    ensures content { queue_in entries.new.entries ≡
-        (if is_some result then finmap.remove (queue_in entries.old.entries) (name_of turn.now.name.0) else queue_in entries.old.entries) }
-{
-    let name = *entries.get_index(ready)?.0;
-    let entry = entries.get_index_mut(ready)?;
-    let held = entry.held?;
-    if !held.is_due(slot, turn) {
-        return None;
-    }
-    entry.held = None;
-    let member = entry.member;
-    Some(Seated {
-        key: held.key(name),
-        seats: Seats { ready, member },
-    })
 }
