@@ -158,22 +158,31 @@ none_noted c near far d noted = grind arith
 
 -- ---- what moves
 
--- the list of a slot that has come was emptied, or a part of it
-pub moves_bucket : (slot s : ℕ) (Was : Date → Type 0) (c c' : Calendar) (b b' : Vec Date Global) (turns0 turns turns' : Turned) → Moves slot Was (IsNoted c) turns0 turns
-    → c.turned < s → s ≤ c.turned + 64 → s ≤ slot → in_bucket (slice_get c.near.items (s % 64)) ≡ b.items → Moves slot (λ d. (d.release ≤ slot) × Contains b.items d) (Contains b'.items) turns turns'
-    → c'.turned ≡ c.turned → c'.near.items ≡ slice_set c.near.items (s % 64) b' → c'.far ≡ c.far
+-- the date stands at a place of a list, or behind it
+abbrev pub IsFrom : List Date → ℕ → Date → Type 0
+IsFrom dates place d = (k : ℕ) × (place ≤ k) × (k < length dates) × (slice_index_or dates k d ≡ d)
+
+pub from_next : (dates : List Date) (place : ℕ) (date : Date) → date ≡ slice_index_or dates place date → (d : Date) → IsFrom dates place d → (date ≡ d) ⊎ IsFrom dates (place + 1) d
+from_next dates place date at d h = grind (arith, at, slice_get-get_or, same_Some, cases_order)
+
+-- the list of a slot that has come was emptied
+pub moves_bucket : (slot s : ℕ) (Was : Date → Type 0) (c c' : Calendar) (dates : List Date) (place : ℕ) (b : Vec Date Global) (turns0 turns turns' : Turned) → Moves slot Was (IsNoted c) turns0 turns
+    → c.turned < s → s ≤ c.turned + 64 → s ≤ slot → in_bucket (slice_get c.near.items (s % 64)) ≡ dates → Moves slot (λ d. (d.release ≤ slot) × Contains dates d) (IsFrom dates place) turns turns' → length dates ≤ place
+    → c'.turned ≡ c.turned → c'.near.items ≡ slice_set c.near.items (s % 64) b → c'.far ≡ c.far
     → Moves slot Was (IsNoted c') turns0 turns'
-moves_bucket slot s Was c c' b b' turns0 turns turns' m after until come here e turned near far =
+moves_bucket slot s Was c c' dates place b turns0 turns turns' m after until come here e past turned near far =
     record {
       keeps = keeps_both m.keeps e.keeps;
       moved = λ d was. elim (m.moved d was) [
         | inl noted ↦ elim noted [
           | inl n ↦
-              let there = stays_or c.near.items (s % 64) (d.release % 64) d b' ((d.release ≤ slot) × HasTurn turns' d.key)
+              let there = stays_or c.near.items (s % 64) (d.release % 64) d b ((d.release ≤ slot) × HasTurn turns' d.key)
               (λ same h.
               let is : d.release ≡ s = same_slot c.turned d.release s n.after n.within after until (sym same) in
-              let due : d.release ≤ slot = omega (arith, is, come) in
-              e.moved d (due, subst (λ (l : List Date). Contains l d) here h)) n.there in
+              elim (e.moved d (omega (arith, is, come), subst (λ (l : List Date). Contains l d) here h)) [
+                | inl from ↦ absurd (omega (arith, from.1, from.2, past))
+                | inr gone ↦ inr gone
+              ]) n.there in
               elim there [
                 | inl stays ↦ inl (inl (still_near _ _ _ _ d turned (subst (λ (x : Buckets). Contains (under x d.release) d) (sym near) stays) n))
                 | inr gone ↦ inr gone
@@ -183,18 +192,6 @@ moves_bucket slot s Was c c' b b' turns0 turns turns' m after until come here e 
         | inr gone ↦ inr (gone.0, kept_turn e.keeps gone.1)
       ];
     }
-
--- the near slots are those after a later one, if the lists up to that are empty
-pub moves_turned : (slot : ℕ) (Was : Date → Type 0) (c c' : Calendar) (turns turns' : Turned) → Moves slot Was (IsNoted c) turns turns' → c.turned ≤ slot → ((s : ℕ) → c.turned < s → s ≤ c.turned + 64 → s ≤ slot → under c.near.items s ≡ [])
-    → c'.turned ≡ slot → c'.near.items ≡ c.near.items → c'.far ≡ c.far → Moves slot Was (IsNoted c') turns turns'
-moves_turned slot Was c c' turns turns' m later empty turned near far = grind (arith, leb-true, leb-false)
-
--- the date stands at a place of a list, or behind it
-abbrev pub IsFrom : List Date → ℕ → Date → Type 0
-IsFrom dates place d = (k : ℕ) × (place ≤ k) × (k < length dates) × (slice_index_or dates k d ≡ d)
-
-pub from_next : (dates : List Date) (place : ℕ) (date : Date) → date ≡ slice_index_or dates place date → (d : Date) → IsFrom dates place d → (date ≡ d) ⊎ IsFrom dates (place + 1) d
-from_next dates place date at d h = grind (arith, at, slice_get-get_or, same_Some, cases_order)
 
 -- ---- the lists of one slot after another
 

@@ -4,7 +4,7 @@ pub use Rattle.itertools.specs.Extremes.{IsKLeast, by_cmp}
 pub use Rattle.pfair_order.proofs.InOrder.{by_rank_of_split, once_from_names, each_trivial, by_rank_first}
 pub use Rattle.pfair_order.proofs.KeyLaws.{keys_exact, keys_total}
 pub use Rattle.pfair_order.proofs.RankLemmas.{IsSplit, at_place, first_within, less_of, place_of, split_from_least, split_more, split_of_permutation, all_map}
-pub use Rattle.pfair_order.specs.Order.{pd2_cmp, tie_group_of, first_by_rank}
+pub use Rattle.pfair_order.specs.Order.{pd2_cmp, first_by_rank}
 pub use Rattle.pfair_order.specs.declared.Key.{Key}
 pub use Rattle.pfair_ready.specs.Queue.{NameValue, name_cmp, name_eq, Content, Queue, released, without}
 pub use Rattle.pfair_ready.specs.Waiting.{IsAmong, IsCovered, IsNear, IsNoted, Keeps, Moves, in_bucket, later_cmp, under, first_named, queue_of, AreTurns, HasTurn, KeepsTurns, turn_cmp, turn_of, Entries, IsEntryOf, IsKeyIn, held_under, is_due, is_turn_of, key_under, live, queue_in, with_entry}

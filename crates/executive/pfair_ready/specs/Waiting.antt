@@ -1,5 +1,5 @@
 -- What waits under names, as a map of entries has it.
-use Rattle.std.specs.Prelude.{ℕ, List, All, Contains, ◌≡◌, Bool, false, ◌&&◌, nat_eq, nat_le, Option, Some, None, [], ◌∷◌, slice_get, ◌+◌, ◌%◌, ◌≤◌, ◌<◌, ◌⊎◌, Vec, length, slice_index_or, map, find}
+use Rattle.std.specs.Prelude.{ℕ, List, All, Contains, ◌≡◌, Bool, false, ◌&&◌, nat_eq, nat_le, Option, Some, None, [], ◌∷◌, slice_get, ◌+◌, ◌%◌, ◌≤◌, ◌<◌, ◌⊎◌, Vec, map, find}
 use Rattle.std.specs.declared.cmp.Ordering.{Ordering}
 use Rattle.std.specs.BinaryHeap.{IsHeap, KeepsHeap, heap_items}
 use Rattle.std.specs.Ordering.{nat_cmp, ordering_then}
@@ -97,12 +97,6 @@ date_cmp a b = ordering_then (nat_cmp a.release b.release) (ordering_then (nat_c
 
 abbrev pub later_cmp : Reverse Date → Reverse Date → Ordering
 later_cmp a b = date_cmp b.0 a.0
-
--- the date is on top of the heap, and has come
-pub record IsFirstDate (slot : ℕ) (dates : List (Reverse Date)) (date : Date) : Type 0 where
-  pub due : date.release ≤ slot
-  pub some : 0 < length dates
-  pub top : record { 0 = date } ≡ slice_index_or dates 0 (record { 0 = date })
 
 -- the dates in the list of a near slot
 abbrev pub in_bucket : Option (Vec Date Global) → List Date

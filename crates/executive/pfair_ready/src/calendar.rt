@@ -1,7 +1,7 @@
 //! When the keys that wait are released.
-ghost use Rattle.std.specs.Prelude.{◌≡◌, ◌≤◌, ◌<◌, ◌%◌, ◌+◌, [], Contains, All, IfNone, IfSome, OnOk, OnSome, length};
+ghost use Rattle.std.specs.Prelude.{◌≡◌, ◌≤◌, ◌<◌, ◌%◌, ◌+◌, IfSome, OnOk, OnSome, length};
 ghost use Rattle.pfair_ready.specs.declared.calendar.Date.{Date};
-ghost use Rattle.pfair_ready.specs.Waiting.{IsFirstDate, IsNoted, Keeps, Moves, later_cmp, under};
+ghost use Rattle.pfair_ready.specs.Waiting.{IsNoted, Keeps, Moves, later_cmp, under};
 ghost use Rattle.std.specs.BinaryHeap.{heap_items, IsHeap};
 
 use crate::heap::{Turn, add_turn};
@@ -101,48 +101,25 @@ impl Calendar {
         ensures order { IsHeap later_cmp (heap_items self.new.far) }
         ensures done { OnOk result ((d : Date) → IsNoted self.new d → slot < d.release) }
     {
-        self.turn(released, slot)?;
-        while let Some(date) = first_come(&self.far, slot) {
+        let from = self.turned;
+        for ahead in 0..(slot - from).min(NEAR) {
+            let bucket = ((from + 1 + ahead) % NEAR) as usize;
+            if bucket < self.near.len() {
+                for date in self.near[bucket].iter() {
+                    add_turn(released, &date.key, date.hint)?;
+                }
+                self.near[bucket].clear();
+            }
+        }
+        self.turned = slot;
+        while let Some(Reverse(date)) = self.far.peek()
+            && date.release <= slot
+        {
             add_turn(released, &date.key, date.hint)?;
             let _ = self.far.pop();
         }
         Ok(())
     }
-
-    // Empties the lists of all slots up to one.
-    fn turn(&mut self, released: &mut BinaryHeap<Turn>, slot: u64) -> Result<(), AllocError>
-        requires turned { self.old.turned ≤ slot }
-        ensures moves { Moves slot (IsNoted self.old) (IsNoted self.new) (heap_items released.old) (heap_items released.new) }
-        ensures turned { self.new.turned ≤ slot }
-        ensures done { OnOk result (self.new.turned ≡ slot) }
-        ensures far { self.new.far ≡ self.old.far }
-    {
-        let from = self.turned;
-        for ahead in 0..(slot - from).min(NEAR) {
-            let bucket = ((from + 1 + ahead) % NEAR) as usize;
-            if bucket < self.near.len() {
-                release_all(&mut self.near[bucket], released, slot)?;
-            }
-        }
-        self.turned = slot;
-        Ok(())
-    }
-}
-
-// Moves the keys of a list of dates that have come to the heap.
-fn release_all(
-    dates: &mut Vec<Date>,
-    released: &mut BinaryHeap<Turn>,
-    slot: u64,
-) -> Result<(), AllocError>
-    ensures moves { Moves slot (λ d. (d.release ≤ slot) × Contains dates.old.items d) (Contains dates.new.items) (heap_items released.old) (heap_items released.new) }
-    ensures done { OnOk result (dates.new.items ≡ []) }
-{
-    for date in dates.iter() {
-        add_turn(released, &date.key, date.hint)?;
-    }
-    dates.clear();
-    Ok(())
 }
 
 /// A key is released at a slot. The hint says where its name stands.
@@ -151,14 +128,4 @@ pub(crate) struct Date {
     pub release: u64,
     pub hint: usize,
     pub key: Key,
-}
-
-// The first date if it has come.
-fn first_come(dates: &BinaryHeap<Reverse<Date>>, slot: u64) -> Option<Date>
-    requires { IsHeap later_cmp (heap_items dates.now) }
-    ensures some { IfSome result (IsFirstDate slot (heap_items dates.now)) }
-    ensures none { IfNone result (All (λ e. slot < e.0.release) (heap_items dates.now)) }
-{
-    let date = dates.peek()?.0;
-    (date.release <= slot).then_some(date)
 }
