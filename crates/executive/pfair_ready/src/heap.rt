@@ -3,6 +3,7 @@ ghost use Rattle.std.specs.Prelude.{◌≡◌, ◌≤◌, IfOk, OnErr, OnOk, map
 ghost use Rattle.std.specs.BinaryHeap.{heap_items};
 ghost use Rattle.pfair_order.specs.declared.Key.{Key};
 ghost use Rattle.pfair_order.specs.Order.{pd2_cmp, first_by_rank};
+ghost use Rattle.pfair_ready.specs.declared.Seated.{Seated};
 ghost use Rattle.pfair_ready.specs.Queue.{Content, content_code, released, without};
 ghost use Rattle.pfair_ready.specs.Waiting.{HasTurn, IsCovered, KeepsTurns};
 
@@ -49,42 +50,22 @@ impl Model for HeapReady {
     ghost invariant = { λ a. IsCovered a.now a.waiting a.calendar (heap_items a.released) };
 }
 
-// What a selection gives for a key that it takes out.
-trait Given: Drop {
-    ghost key: { Self → Key };
-
-    fn of(seated: Seated) -> Self
-        ensures { key result ≡ seated.key };
-}
-
-impl Given for Key {
-    ghost key = { λ k. k };
-
-    fn of(seated: Seated) -> Key {
-        seated.key
-    }
-}
-
-impl Given for Seated {
-    ghost key = { λ s. s.key };
-
-    fn of(seated: Seated) -> Seated {
-        seated
-    }
-}
-
 impl HeapReady {
-    // The selection of the first m keys, in a given list.
-    fn select<T: Given>(
+    // Takes the first m keys out, and returns in the given list what is made of each.
+    fn select<T: Drop, F: Fn(Seated) -> T>(
         &mut self,
         slot: u64,
         m: usize,
         mut first: Vec<T>,
+        give: F,
     ) -> Result<Vec<T>, AllocError>
-        requires { self.old.now ≤ slot }
+        ghost key: { T → Key }
+        requires slot { self.old.now ≤ slot }
+        requires calls { F.IsAlwaysCallable give }
+        requires gives { (s : Seated) (x : T) → F.post give s x → key x ≡ s.key }
         ensures time { self.new.now ≡ slot }
-        ensures first { IfOk result (λ first. map T.key first.items ≡ first_by_rank pd2_cmp m (released slot self.old.held)) }
-        ensures removed { IfOk result (λ first. self.new.held ≡ without (map T.key first.items) self.old.held) }
+        ensures first { IfOk result (λ first. map key first.items ≡ first_by_rank pd2_cmp m (released slot self.old.held)) }
+        ensures removed { IfOk result (λ first. self.new.held ≡ without (map key first.items) self.old.held) }
         ensures err { OnErr result (self.new.held ≡ self.old.held) }
     {
         self.now = slot;
@@ -96,7 +77,7 @@ impl HeapReady {
                 break;
             };
             if let Some(seated) = self.waiting.take(slot, &turn) {
-                first.push(T::of(seated))?;
+                first.push(give(seated))?;
             }
         }
         Ok(first)
@@ -156,7 +137,7 @@ impl Ready for HeapReady {
     }
 
     fn take_first(&mut self, slot: u64, m: usize) -> Result<Vec<Key>, AllocError> {
-        self.select(slot, m, Vec::new(self.alloc))
+        self.select(slot, m, Vec::new(self.alloc), |seated| seated.key)
     }
 
     fn take_seated(
@@ -165,7 +146,7 @@ impl Ready for HeapReady {
         m: usize,
         room: Vec<Seated>,
     ) -> Result<Vec<Seated>, AllocError> {
-        self.select(slot, m, room)
+        self.select(slot, m, room, |seated| seated)
     }
 
     fn reserve(&mut self, keys: usize) -> Result<(), AllocError> {
