@@ -154,42 +154,27 @@ impl Ledger {
                 name,
                 weight,
                 early,
-            } => { self.admit(slot, name, weight, early) }
+            } => {
+                if self.place_of(slot, &name).is_some() {
+                    return Ok(Decision::Refused(Refusal::NameTaken));
+                }
+                let decision = self.arrival_by_weight(weight);
+                if let Decision::Admitted = decision {
+                    self.add(MemberState {
+                        name,
+                        weight,
+                        early,
+                        joined: slot,
+                        next: 1,
+                        freed_at: None,
+                        delays: Vec::new(self.alloc),
+                    })?;
+                }
+                Ok(decision)
+            }
             Announcement::Depart { name } => Ok(self.depart(slot, &name)),
             Announcement::Late { name, index, by } => self.delay(slot, &name, index, by),
         }
-    }
-
-    fn admit(
-        &mut self,
-        slot: u64,
-        name: TaskName,
-        weight: Weight,
-        early: bool,
-    ) -> Result<Decision, AllocError>
-        requires slot { slot ≤ MAX_OFFSET }
-        requires kept { IsLedger (is_there slot) self.old }
-        requires numbers { self.old.admitted + 1 < 2 ^ 64 }
-        ensures decided { IsDecided slot (Arrive name weight early) (membership slot self.old) (membership slot self.new) result }
-        ensures kept { IsLedger (is_there slot) self.new }
-        ensures admitted { self.new.admitted ≤ self.old.admitted + 1 }
-    {
-        if self.place_of(slot, &name).is_some() {
-            return Ok(Decision::Refused(Refusal::NameTaken));
-        }
-        let decision = self.arrival_by_weight(weight);
-        if let Decision::Admitted = decision {
-            self.add(MemberState {
-                name,
-                weight,
-                early,
-                joined: slot,
-                next: 1,
-                freed_at: None,
-                delays: Vec::new(self.alloc),
-            })?;
-        }
-        Ok(decision)
     }
 
     pub(crate) fn add(&mut self, state: MemberState) -> Result<(), AllocError>
