@@ -6,9 +6,8 @@ use Rattle.pfair_replica.specs.Counters.{said_at}
 use Rattle.pfair_replica.specs.Replica.{Replica, IsReplica, Untorn, sound_beginning, said_in, ReplicaRows, replica_of, said}
 use Rattle.pfair_table.specs.declared.planner.Reading.{Reading}
 use Rattle.pfair_table.specs.declared.planner.Readings.{Readings}
-use Rattle.pfair_admission.specs.Admission.{boundary, boundary_decisions, announcements, Roster, member_named}
+use Rattle.pfair_admission.specs.Admission.{boundary, Roster, member_named}
 use Rattle.pfair_admission.specs.Member.{Member, is_departing, eligible_from, next_key}
-use Rattle.pfair_admission.specs.declared.decision.Decision.{Decision}
 use Rattle.pfair_table.specs.declared.script.TheConstants.Script.{LONGEST_LOG}
 use Rattle.pfair_table.specs.declared.slot.SlotPlan.{SlotPlan}
 use Rattle.pfair_table.specs.Events.{IsOf}
@@ -69,14 +68,6 @@ pub record IsPlanOfSlot (o : Origin) (s : Settings) (x : ReplicaRows) (n : ℕ) 
   pub table_is : plan.table.items ≡ table o s (said (replica_of x)) n
   pub decided_is : plan.decided.items ≡ decisions o s (said (replica_of x)) n
   pub limits : IsSettings s
-
--- ---- the steps of a slot at which this is announced
-
-abbrev pub decisions_at : Roster → ℕ → List Said → List Decision
-decisions_at roster slot announced = boundary_decisions roster.machine slot roster.members (announcements announced)
-
-abbrev pub world_at : Roster → ℕ → List Said → List Member
-world_at roster slot announced = boundary roster.machine slot roster.members (announcements announced)
 
 abbrev pub rows_at : (processors slot : ℕ) → List Member → Table
 rows_at processors slot members = map (pick members) (first_by_rank processors (eligible slot members))

@@ -8,7 +8,7 @@ ghost use Rattle.pfair_table.specs.Refinement.{IsInStep, IsNextStep, IsNoStep};
 
 use crate::answer::{PlanFault, Step};
 use crate::settings::Settings;
-use crate::slot::{Pick, SlotPlan, decide_all, give_quanta, notify_ready, ready_of};
+use crate::slot::{Decided, Pick, SlotPlan, give_quanta, notify_of, ready_of};
 use crate::state::{Origin, first_members, slot_of};
 use pfair_admission::Members;
 use pfair_entry::Said;
@@ -108,8 +108,21 @@ impl<R: Ready> Planner<R> {
         let announced = self.readings.announced(replica, slot)?;
         let processors = self.settings.processors();
         let at = slot_of(origin, slot);
-        let decided = decide_all(self.alloc, &mut self.members, at, &announced)?;
-        notify_ready(&mut self.ready, &self.members, &announced)?;
+        let decisions = self.members.boundary(at, &announced)?;
+        let decided = announced
+            .iter()
+            .zip(decisions.iter())
+            .map(|(said, decision)| Decided {
+                proc: said.proc,
+                number: said.number,
+                announcement: said.announcement,
+                decision: *decision,
+            })
+            .collect(self.alloc)?;
+        let (ready, members) = (&mut self.ready, &self.members);
+        for said in &announced {
+            notify_of(ready, members, &said.announcement.name())?;
+        }
         let table = give_quanta(
             &mut self.ready,
             &mut self.members,
@@ -198,7 +211,15 @@ impl Readings {
         ensures readings { OnOk result (AreReadFrom (replica_of replica.now) self.new) }
         ensures announced { IfOk result (λ announced. announced.items ≡ said (replica_of replica.now) slot) }
     {
-        self.read_on(replica)?;
+        if self.read != replica.sound_total() {
+            for processor in 0..replica.processors() {
+                let reading = &mut self.by_processor[processor as usize];
+                replica.note_said(processor, reading.count, &mut reading.agenda)?;
+                reading.count = replica.sound_count(processor);
+                self.last = self.last.max(reading.agenda.last());
+            }
+            self.read = replica.sound_total();
+        }
         let mut announced = Vec::new(self.alloc);
         if slot > self.last {
             return Ok(announced);
@@ -210,26 +231,5 @@ impl Readings {
             }
         }
         Ok(announced)
-    }
-
-    // Reads the entries of all sound beginnings that weren't read yet, if there are any.
-    fn read_on(&mut self, replica: &Replica) -> Result<(), AllocError>
-        requires replica { IsReplica (replica_of replica.now) }
-        requires untorn { Untorn (replica_of replica.now) }
-        requires readings { AreReadFrom (replica_of replica.now) self.old }
-        ensures readings { OnOk result (AreReadFrom (replica_of replica.now) self.new) }
-        ensures whole { OnOk result (AreWhole (replica_of replica.now) self.new.by_processor.items) }
-    {
-        if self.read == replica.sound_total() {
-            return Ok(());
-        }
-        for processor in 0..replica.processors() {
-            let reading = &mut self.by_processor[processor as usize];
-            replica.note_said(processor, reading.count, &mut reading.agenda)?;
-            reading.count = replica.sound_count(processor);
-            self.last = self.last.max(reading.agenda.last());
-        }
-        self.read = replica.sound_total();
-        Ok(())
     }
 }

@@ -1,16 +1,14 @@
 //! What is planned of a slot, and its steps: the boundary, the ready structure, and the quanta.
-ghost use Rattle.std.specs.Prelude.{◌≡◌, ◌≤◌, ◌<◌, ◌+◌, Some, IfOk, OnOk, map, length, [], vec_capacity};
-ghost use Rattle.std.specs.Option.{ForSome};
+ghost use Rattle.std.specs.Prelude.{◌≡◌, ◌≤◌, ◌<◌, Some, IfOk, OnOk};
 ghost use Rattle.std.specs.List.{AllByRecursion};
 ghost use Rattle.pfair_weight.specs.Name.{NamesApart};
-ghost use Rattle.pfair_entry.specs.Entry.{IsWithinLimits};
-ghost use Rattle.pfair_table.specs.Planning.{decisions_at, world_at, rows_at, IsQueue, IsQueueBut, IsQueueWithout, IsNotifiedOf, MayRun, keys_of};
-ghost use Rattle.pfair_table.specs.Table.{with_decisions, pick, all_ran};
+ghost use Rattle.pfair_table.specs.Planning.{rows_at, IsQueue, IsNotifiedOf};
+ghost use Rattle.pfair_table.specs.Table.{all_ran};
 ghost use Rattle.pfair_weight.specs.declared.window.TheConstants.{MAX_INDEX};
 
 use pfair_admission::{Decision, Members};
 use pfair_entry::{Announcement, Said};
-use pfair_ready::{Ready, Seated};
+use pfair_ready::{Ready, Seated, Seats};
 use pfair_weight::TaskName;
 use std::alloc::{AllocError, Global};
 use std::mem;
@@ -43,42 +41,12 @@ pub struct SlotPlan {
     pub decided: Vec<Decided>,
 }
 
-/// The boundary of a slot: each announcement with its decision.
-pub(crate) fn decide_all(
-    alloc: Global,
-    members: &mut Members,
-    slot: u64,
-    announced: &[Said],
-) -> Result<Vec<Decided>, AllocError>
-    requires slot { slot ≤ Members.LAST_SLOT }
-    requires order { ForSome members.old.last_slot (λ last. last ≤ slot) }
-    requires heard { members.old.heard + length announced.now ≤ Members.MAX_HEARD }
-    requires limits { AllByRecursion (λ a. IsWithinLimits a.announcement) announced.now }
-    ensures decided { IfOk result (λ all. all.items ≡ with_decisions announced.now (decisions_at members.old slot announced.now)) }
-    ensures members { OnOk result (members.new ≡ record members.old {
-      members = world_at members.old slot announced.now;
-      heard = members.old.heard + length announced.now;
-      last_slot = Some slot;
-    }) }
-{
-    if announced.is_empty() {
-        members.pass(slot);
-        return Ok(Vec::new(alloc));
-    }
-    let decisions = members.boundary(slot, announced)?;
-    announced
-        .iter()
-        .zip(decisions.iter())
-        .map(|(said, decision)| Decided {
-            proc: said.proc,
-            number: said.number,
-            announcement: said.announcement,
-            decision: *decision,
-        })
-        .collect(alloc)
-}
-
-fn notify_of<R: Ready>(ready: &mut R, members: &Members, name: &TaskName) -> Result<(), AllocError>
+/// Updates the ready structure for a task that an announcement names.
+pub(crate) fn notify_of<R: Ready>(
+    ready: &mut R,
+    members: &Members,
+    name: &TaskName,
+) -> Result<(), AllocError>
     ensures notified { OnOk result (IsNotifiedOf name.now members.now.members (R.held ready.old) (R.held ready.new)) }
     ensures time { R.now ready.new ≡ R.now ready.old }
 {
@@ -90,23 +58,7 @@ fn notify_of<R: Ready>(ready: &mut R, members: &Members, name: &TaskName) -> Res
         return Ok(());
     }
     let (begins, key) = member.next_subtask();
-    ready.insert(begins, key)?;
-    Ok(())
-}
-
-/// Updates the ready structure for each task that the slot's announcements name.
-pub(crate) fn notify_ready<R: Ready>(
-    ready: &mut R,
-    members: &Members,
-    announced: &[Said],
-) -> Result<(), AllocError>
-    requires { IsQueueBut announced.now members.now.members (R.held ready.old) }
-    ensures queue { OnOk result (IsQueue members.now.members (R.held ready.new)) }
-    ensures time { R.now ready.new ≡ R.now ready.old }
-{
-    for said in announced {
-        notify_of(ready, members, &said.announcement.name())?;
-    }
+    ready.insert_seated(Seats::default(), begins, key)?;
     Ok(())
 }
 

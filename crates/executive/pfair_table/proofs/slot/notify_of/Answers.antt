@@ -14,9 +14,9 @@ returns-then-is_departing-clause-notified g c =
 
 pub returns-clause-notified : goal.returns-clause-notified
 returns-clause-notified g c =
-    notified_next c.args.name.now c.args.members.now.members c.in-Some.member.now (g.R.Ready.held c.args.ready.now) (g.R.Ready.held c.remove.new.self) (g.R.Ready.held c.insert.new.self) c.in_ok-insert.field-0 c.next_subtask-begins.result.0 c.next_subtask-begins.result.1
+    notified_next c.args.name.now c.args.members.now.members c.in-Some.member.now (g.R.Ready.held c.args.ready.now) (g.R.Ready.held c.remove.new.self) (g.R.Ready.held c.insert_seated.new.self) c.in_ok-insert_seated.field-0 c.next_subtask-begins.result.0 c.next_subtask-begins.result.1
     (sym c.get.ensures ∙ ap option_copied c.in-Some.is)
     (sym c.is_departing.ensures ∙ c.if-is_departing.false)
     (ap (λ p. p.0) c.next_subtask-begins.ensures)
     (ap (λ p. p.1) c.next_subtask-begins.ensures)
-    c.remove.ensures.content c.in_ok-insert.ensures.answer c.in_ok-insert.ensures.content
+    c.remove.ensures.content c.in_ok-insert_seated.ensures.answer c.in_ok-insert_seated.ensures.content

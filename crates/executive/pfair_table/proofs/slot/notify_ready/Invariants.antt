@@ -1,5 +1,0 @@
-use Rattle.pfair_table.proofs.Common.{IsQueueBut, ◌≡◌, drop}
-use Rattle.pfair_table.proofs.slot.notify_ready.Given as goal
-
-abbrev pub invariant-loop-said : goal.invariant-loop-said
-invariant-loop-said g l = IsQueueBut (drop l.said-index l.announced) l.members.members (g.R.Ready.held l.ready) × (g.R.Ready.now l.ready ≡ g.R.Ready.now l.fn.ready)
