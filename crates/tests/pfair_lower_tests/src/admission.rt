@@ -43,7 +43,7 @@ fn arrivals(rt: &impl Abort, alloc: Global) -> Result<Vec<Said>, AllocError>
     Ok(announced)
 }
 
-// All are admitted, and stand in the order in which they were announced.
+// All are admitted, stand in the order in which they were announced, and stay when a slot is passed.
 fn hears(rt: &impl Abort, alloc: Global, members: &mut Members, announced: &[Said])
     requires { AllByRecursion (λ a. IsWithinLimits a.announcement) announced.now }
 {
@@ -56,6 +56,11 @@ fn hears(rt: &impl Abort, alloc: Global, members: &mut Members, announced: &[Sai
     }
     let (last, member) = members.at(262_143).expect(rt, "a member");
     assert!(rt; *last == name(rt, alloc, 262_143) && member.eligible(1) == 0);
+    members.pass(1);
+    assert!(rt;
+        members.len() == 262_144,
+        "a slot that is passed freed a member that stays"
+    );
 }
 
 #[test]
