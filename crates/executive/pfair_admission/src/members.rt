@@ -179,9 +179,6 @@ impl Members {
         ensures wanted { OnErr result (0 < length announced.now) }
     {
         self.pass(slot);
-        if announced.is_empty() {
-            return Ok(Vec::new(self.ledger.alloc));
-        }
         let decisions = self.ledger.decide_all(slot, announced);
         self.ledger.sweep(slot);
         self.heard += announced.len() as u64;

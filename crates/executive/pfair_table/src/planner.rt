@@ -108,17 +108,22 @@ impl<R: Ready> Planner<R> {
         let announced = self.readings.announced(replica, slot)?;
         let processors = self.settings.processors();
         let at = slot_of(origin, slot);
-        let decisions = self.members.boundary(at, &announced)?;
-        let decided = announced
-            .iter()
-            .zip(decisions.iter())
-            .map(|(said, decision)| Decided {
-                proc: said.proc,
-                number: said.number,
-                announcement: said.announcement,
-                decision: *decision,
-            })
-            .collect(self.alloc)?;
+        let decided = if announced.is_empty() {
+            self.members.pass(at);
+            Vec::new(self.alloc)
+        } else {
+            let decisions = self.members.boundary(at, &announced)?;
+            announced
+                .iter()
+                .zip(decisions.iter())
+                .map(|(said, decision)| Decided {
+                    proc: said.proc,
+                    number: said.number,
+                    announcement: said.announcement,
+                    decision: *decision,
+                })
+                .collect(self.alloc)?
+        };
         let (ready, members) = (&mut self.ready, &self.members);
         for said in &announced {
             notify_of(ready, members, &said.announcement.name())?;
