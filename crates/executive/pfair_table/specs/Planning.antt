@@ -56,12 +56,13 @@ pub record AreReadFrom (x : Replica) (readings : Readings) : Type 0 where
 abbrev pub said_by_all : List Reading → ℕ → List Said
 said_by_all readings t = flat_map (λ (r : Reading). said_at r.agenda t) readings
 
--- A run can be planned by the contents: nothing is torn.
-pub record CanBePlanned (o : Origin) (s : Settings) (x : ReplicaRows) : Type 0 where
+-- The first n slots of a run can be planned by the contents: nothing is torn.
+pub record CanBePlanned (o : Origin) (s : Settings) (x : ReplicaRows) (n : ℕ) : Type 0 where
   pub began : IsOrigin o s
   pub is_of : IsOf s (replica_of x)
   pub whole : Untorn (replica_of x)
   pub room : x.capacity ≤ LONGEST_LOG
+  pub within : n ≤ s.slots
 
 -- the table and the decisions of slot n
 pub record IsPlanOfSlot (o : Origin) (s : Settings) (x : ReplicaRows) (n : ℕ) (plan : SlotPlan) : Type 0 where

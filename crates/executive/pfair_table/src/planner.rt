@@ -1,6 +1,6 @@
 //! The state between slots, beside the replica and the tables: the members, the ready structure,
 //! and how far the replica was read.
-ghost use Rattle.std.specs.Prelude.{◌≡◌, ◌≤◌, ◌<◌, ◌+◌, false, is_err, IfOk, IfErr, OnOk};
+ghost use Rattle.std.specs.Prelude.{◌≡◌, ◌+◌, false, is_err, IfOk, IfErr, OnOk};
 ghost use Rattle.pfair_replica.specs.Replica.{replica_of, Replica as Held, IsReplica, has_torn, Untorn, said};
 ghost use Rattle.pfair_table.specs.Places.{IsOrigin};
 ghost use Rattle.pfair_table.specs.Planning.{AreReadFrom, AreWhole, CanBePlanned, IsPlanOfSlot};
@@ -92,9 +92,8 @@ impl<R: Ready> Planner<R> {
         slot: u64,
         room: Vec<Pick>,
     ) -> Result<SlotPlan, AllocError>
-        requires able { CanBePlanned origin.now self.old.settings replica.now }
+        requires able { CanBePlanned origin.now self.old.settings replica.now (slot + 1) }
         requires readings { AreReadFrom (replica_of replica.now) self.old.readings }
-        requires slot { slot < self.old.settings.slots }
         requires step { IsInStep origin.now self.old.settings (replica_of replica.now) slot
             self.old.members (R.now self.old.ready) (R.held self.old.ready) }
         ensures plan { IfOk result (IsPlanOfSlot origin.now self.old.settings replica.now slot) }
@@ -147,8 +146,7 @@ impl<R: Ready> Planner<R> {
         replica: &Replica,
         slots: u64,
     ) -> Result<(), AllocError>
-        requires able { CanBePlanned origin.now self.old.settings replica.now }
-        requires slots { slots ≤ self.old.settings.slots }
+        requires { CanBePlanned origin.now self.old.settings replica.now slots }
         ensures step { OnOk result (IsInStep origin.now self.old.settings (replica_of replica.now) slots
             self.new.members (R.now self.new.ready) (R.held self.new.ready)) }
         ensures readings { OnOk result (AreReadFrom (replica_of replica.now) self.new.readings) }

@@ -21,17 +21,15 @@ module _ {o : Origin} {s : Settings} {x y : Replica} {tables : List Table} {deci
       (last_places s.processors (table_before o) (places_before o) (places_before_are o s began) tables (fit_plan began plan)).below
 
 pub plan-requires-clause-able : goal.plan-requires-clause-able
-plan-requires-clause-able g c = record {
-  began = subst (λ (o : Origin). IsOrigin o c.self.inside.planner.settings) (sym (c.origin-origin.ensures ∙ ap (λ (p : PlannedSlots). p.origin) c.take_room-room.ensures)) c.self.invariant.0.began;
-  is_of = is_of_held c.self.invariant.0 c.next_step.ensures.replica;
-  whole = untorn_by_test (replica_of c.self.inside.replica) c.next_step.ensures.replica c.in_ok-step.ensures.able.0;
-  room = c.self.invariant.0.capacity;
-}
-
-pub plan-requires-clause-slot : goal.plan-requires-clause-slot
-plan-requires-clause-slot g c =
+plan-requires-clause-able g c =
     let there = next_planned c.self.inside.planner.settings (replica_of c.self.inside.replica) c.len-planned.ensures.tables c.in-Planned.slot c.in_ok-step.step c.in_ok-step.ensures.step c.in-Planned.is in
-    omega (arith, there.1, there.2)
+    record {
+      began = subst (λ (o : Origin). IsOrigin o c.self.inside.planner.settings) (sym (c.origin-origin.ensures ∙ ap (λ (p : PlannedSlots). p.origin) c.take_room-room.ensures)) c.self.invariant.0.began;
+      is_of = is_of_held c.self.invariant.0 c.next_step.ensures.replica;
+      whole = untorn_by_test (replica_of c.self.inside.replica) c.next_step.ensures.replica c.in_ok-step.ensures.able.0;
+      room = c.self.invariant.0.capacity;
+      within = omega (arith, there.1, there.2);
+    }
 
 pub plan-requires-clause-step : goal.plan-requires-clause-step
 plan-requires-clause-step g c =

@@ -2,12 +2,13 @@ use Rattle.pfair_table.proofs.Common.{replica_of, untorn_by_test, Settings, Orig
 use Rattle.pfair_table.proofs.Keeping.{is_of_held, kept_anew}
 use Rattle.pfair_table.proofs.dispatcher.Dispatcher.reopen.Goals as goal
 
-pub plan_again-requires-clause-able : goal.plan_again-requires-clause-able
-plan_again-requires-clause-able g c = record {
+pub plan_again-requires : goal.plan_again-requires
+plan_again-requires g c = record {
   began = subst (λ (o : Origin). IsOrigin o c.self.inside.planner.settings) (sym c.origin.ensures) c.self.invariant.0.began;
   is_of = is_of_held c.self.invariant.0 c.first_torn.ensures.replica;
   whole = untorn_by_test (replica_of c.self.inside.replica) c.first_torn.ensures.replica (sym c.first_torn.ensures.some ∙ ap is_some c.in_default.is);
   room = c.self.invariant.0.capacity;
+  within = grind (arith, c.len-slots.ensures, c.self.invariant.0);
 }
 
 pub invariant_of-self-2 : goal.invariant_of-self-2

@@ -11,10 +11,10 @@ use Rattle.pfair_table.proofs.planner.Planner.plan.Goals.{After-deref-said-items
 use Rattle.pfair_table.proofs.planner.Planner.plan.Given.{Over}
 
 pub slot_of-at-requires : goal.slot_of-at-requires
-slot_of-at-requires g c = omega (arith, in_time c.args.origin.now c.args.self.now.settings c.requires.able.began c.processors-processors.ensures.limits.slots.1 c.args.slot c.requires.slot)
+slot_of-at-requires g c = omega (arith, in_time c.args.origin.now c.args.self.now.settings c.requires.able.began c.processors-processors.ensures.limits.slots.1 c.args.slot (omega (arith, c.requires.able.within)))
 
 pub boundary-requires-clause-slot : goal.boundary-requires-clause-slot
-boundary-requires-clause-slot g c = omega (arith, c.slot_of-at.ensures, in_time c.args.origin.now c.args.self.now.settings c.requires.able.began c.processors-processors.ensures.limits.slots.1 c.args.slot c.requires.slot)
+boundary-requires-clause-slot g c = omega (arith, c.slot_of-at.ensures, in_time c.args.origin.now c.args.self.now.settings c.requires.able.began c.processors-processors.ensures.limits.slots.1 c.args.slot (omega (arith, c.requires.able.within)))
 
 pub boundary-requires-clause-heard : goal.boundary-requires-clause-heard
 boundary-requires-clause-heard g c =
@@ -86,7 +86,7 @@ give_quanta-requires-clause-few g c =
     let before = c.args.self.now.members in
     let s = c.args.self.now.settings in
     let few = subst (AllByRecursion (λ (m : Member). m.next < MAX_INDEX)) (sym c.requires.step.members_are)
-    (few_before c.args.origin.now s c.requires.able.began (replica_of c.args.replica.now) c.args.slot (omega (arith, c.requires.slot, c.processors-processors.ensures.limits.slots.1))) in
+    (few_before c.args.origin.now s c.requires.able.began (replica_of c.args.replica.now) c.args.slot (omega (arith, c.requires.able.within, c.processors-processors.ensures.limits.slots.1))) in
     subst (λ (r : Roster). AllByRecursion (λ (m : Member). m.next < MAX_INDEX) r.members) (sym members_are)
     (each_boundary c.slot_of-at.result (λ m. m.next < MAX_INDEX) (λ name w early. omega arith) (λ slot m h. h) (λ index by m h. h) before.machine (announcements c.in_ok-announced.announced.items) before.members few)
 

@@ -5,8 +5,8 @@ use Rattle.pfair_table.proofs.planner.Planner.plan_again.Goals as goal
 pub loop-slot-init : goal.loop-slot-init
 loop-slot-init g c = record {
   settings = refl;
-  step = start_step c.requires.able.began c.in_ok-self-2.ensures c.in_ok-self-3.ensures.time c.in_ok-self-3.ensures.queue;
-  readings = c.in_ok-self.ensures (replica_of c.args.replica.now) (c.requires.able.is_of.processors ∙ sym c.processors.ensures.value);
+  step = start_step c.requires.began c.in_ok-self-2.ensures c.in_ok-self-3.ensures.time c.in_ok-self-3.ensures.queue;
+  readings = c.in_ok-self.ensures (replica_of c.args.replica.now) (c.requires.is_of.processors ∙ sym c.processors.ensures.value);
 }
 
 pub returns-clause-step : goal.returns-clause-step

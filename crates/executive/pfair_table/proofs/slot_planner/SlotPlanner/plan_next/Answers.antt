@@ -1,4 +1,4 @@
-use Rattle.pfair_table.proofs.Common.{ReplicaRows, replica_of, untorn_by_test, AreReadFrom, tables_to, decided_to, Dispatch, IsInStep, IsKept, IsPlanFault, IsWholePlan, said, Settings, table, decisions, ◌+◌, ◌∙◌, sym, ap, subst, None, refl, seeing}
+use Rattle.pfair_table.proofs.Common.{arith, ReplicaRows, replica_of, untorn_by_test, AreReadFrom, tables_to, decided_to, Dispatch, IsInStep, IsKept, IsPlanFault, IsWholePlan, said, Settings, table, decisions, ◌+◌, ◌∙◌, sym, ap, subst, None, refl, seeing}
 use Rattle.pfair_table.proofs.Keeping.{is_of_held, next_planned, next_none}
 use Rattle.pfair_table.proofs.Alike.{at_slot, memory_only, plannable, next_plan, kept_of, step_seen, kept_seen, whole_seen, seen_after}
 use Rattle.pfair_table.proofs.slot_planner.SlotPlanner.plan_next.Goals as goal
@@ -25,11 +25,13 @@ plan-requires-clause-able g c =
     let a = c.self.inside in
     let test = c.in_ok-slot.ensures.able.0 in
     let kept = kept_of a.of.value a.planned c.self.invariant.0 (c.self.view_is ∙ c.see.ensures) c.next_step.ensures.replica test in
+    let there = next_planned a.planner.settings (replica_of c.args.replica.now) (refl {a = a.planned}) c.in-Planned.slot c.in_ok-slot.field-0 c.in_ok-slot.ensures.step c.in-Planned.is in
     record {
       began = tt;
       is_of = is_of_held kept c.next_step.ensures.replica;
       whole = untorn_by_test (replica_of c.args.replica.now) c.next_step.ensures.replica test;
       room = kept.capacity;
+      within = omega (arith, there.1, there.2);
     }
 
 pub plan-requires-clause-step : goal.plan-requires-clause-step
