@@ -109,7 +109,8 @@ fn plan_one<R: Ready>(
     requires first { planner.old.origin ≡ None }
     requires left { length planner.old.tables < planner.old.settings.slots }
     ensures table { IfOk result (λ plan. plan.table.items ≡ table None planner.old.settings (said (replica_of replica.now)) (length planner.old.tables)) }
-    ensures decided { IfOk result (λ plan. plan.decided.items ≡ decisions None planner.old.settings (said (replica_of replica.now)) (length planner.old.tables)) }
+    ensures decided { IfOk result (λ plan.
+        plan.decided.items ≡ decisions None planner.old.settings (said (replica_of replica.now)) (length planner.old.tables)) }
     ensures planned { OnOk result (length planner.new.tables ≡ length planner.old.tables + 1) }
     ensures able { OnOk result (IsBySlot replica.now planner.new) }
     ensures run { OnOk result ((planner.new.origin ≡ None) × (planner.new.settings ≡ planner.old.settings)) }
