@@ -4,7 +4,7 @@ use Rattle.pfair_order.specs.Order.{pd2_cmp, GoesBefore, rank, first_by_rank, Ea
 use Rattle.pfair_admission.specs.Laws.{HaveRoom}
 use Rattle.pfair_in_time.proofs.Worlds.{any_from_among, runs, keys_at, keys_apart, runs_chosen, chosen_runs, here, HaveWeights, same_member, on_next, index_after}
 use Rattle.pfair_in_time.proofs.AsRun.{line_of, back_to, on_to, IsGone, test_among, task_of, subtask_of, is_task, last_of, or_else, weight_in, offset_in, is_running, row_of, as_run, row_member, member_row, rows_apart, IsFinal, final, next_counted, all_before_ran, none_after_ran, find_task}
-use Rattle.pfair_optimal.proofs.Counting.{beginning_none_misses, beginning_in_time}
+use Rattle.pfair_optimal.proofs.Counting.{beginnings}
 
 -- How long a claim is held, and who goes before whom.
 
@@ -238,11 +238,6 @@ module _ (s : Settings) (x : Story) (frame : 0 < s.frame) (weights : HaveWeights
         (let p = row_member s x n t z row in
         let q = and_parts (not (is_departing p.0)) (nat_le (eligible_from p.0 p.0.next) t) (runs_chosen s x t p.0 p.1 p.2).0 in
         member_active z.task t p.0 p.1 (ap (λ (y : Subtask). y.task) (sym p.3)) (not-true (is_departing p.0) q.0));
-    rows_joined = λ t z _ row.
-        (let p = row_member s x n t z row in
-        let now = (here s x weights t p.0 p.1).by_now in
-        let same : z.task.joined ≡ p.0.joined = ap (λ (y : Subtask). y.task.joined) p.3 in
-        omega arith);
     active_since = λ a u t joined le _ h.
         (let p = active_member a t h in
         let same : p.0.joined ≡ a.joined = ap (λ (b : Task). b.joined) p.2 in
@@ -309,12 +304,12 @@ module _ (s : Settings) (x : Story) (frame : 0 < s.frame) (weights : HaveWeights
 
   pub none : (t : ℕ) (m : Member) → Among (world None s x t) m → is_departing m ≡ false → suc t < deadline_of m.weight (index_after s x t m) (theta m (index_after s x t m))
   none t m h d =
-      let late = beginning_none_misses (as_run s x (suc t)) (suc t) t (record { task = task_of m; index = index_after s x t m }) (is_run s x frame weights (suc t)) (omega arith)
+      let late = beginnings.none_misses (as_run s x (suc t)) (suc t) t (record { task = task_of m; index = index_after s x t m }) (is_run s x frame weights (suc t)) (omega arith)
       (member_active s x frame weights (suc t) (task_of m) t m h refl d) (next_after t m h) (not_yet t m h) in
       let own = own_deadline s x t m (index_after s x t m) h in
       omega arith
 
   pub in_time : (t : ℕ) (m : Member) → Among (world None s x t) m → runs s x t m ≡ true → t < deadline_of m.weight m.next (theta m m.next)
   in_time t m h named =
-      let early = beginning_in_time (as_run s x (suc t)) (suc t) t (subtask_of m) (is_run s x frame weights (suc t)) (omega arith) (member_row s x (suc t) t m h named) in
+      let early = beginnings.each_in_time (as_run s x (suc t)) (suc t) t (subtask_of m) (is_run s x frame weights (suc t)) (omega arith) (member_row s x (suc t) t m h named) in
       grind (arith, own_deadline)

@@ -1,4 +1,5 @@
 -- Where cascades end, and how long a subtask holds its task's weight.
+use Rattle.pfair_optimal.specs.Laws.{SharesFillWindows, SharesFitSlots, GroupDeadlinesEndCascades, BusyBoundsLast}
 use Rattle.pfair_optimal.proofs.Common.{le_refl, div-lt_iff_lt-mul, Share, mul_le_of_div, b_bit_of, ◌≡◌, ℕ, ◌+◌, ◌-◌, ◌*◌, ◌/◌, ◌<◌, ◌≤◌, arith, div_ceil, mul-le, windows_overlap, cases_lt, IsWeight, one_less, release_of, deadline_of, fluid_of, share_of, total_before, zero, suc, min, ap, sym, inl, inr, ◌↔◌, release_rises, b_bit_at_most_one, IsHeavy, lt_of_mul, div_ceil_le, le_div_ceil, group_deadline_of, cascade_end, busy_bound_of, ◌∙◌, group_deadline_heavy, group_deadline_light}
 use Rattle.std.proofs.lemmas.Grind.{div_ceil_times}
 
@@ -310,3 +311,21 @@ group_deadline_tight w i k theta h heavy bit before = grind (arith, below_one, g
 pub group_deadline_ends : (w : Share) (i k theta : ℕ) → IsWeight w.cost w.period → IsHeavy w → b_bit_of w i ≡ 1 → deadline_of w (i + k) theta ≡ deadline_of w i theta + k → b_bit_of w (i + k) ≡ 1 →
     deadline_of w i theta + k < group_deadline_of w i theta
 group_deadline_ends w i k theta h heavy bit tight last = grind (arith, below_one, group_deadline_heavy, cascade_after)
+
+-- ---- the laws
+
+pub fill_windows : SharesFillWindows
+fill_windows = record {
+  at_most_cost = λ w i theta v h. share_le_cost w i theta v;
+  in_window = share_in_window;
+  whole = λ w i theta t h first after. total_is_fluid w i theta t h ∙ fluid_whole w i theta t h first after;
+}
+
+pub fit_slots : SharesFitSlots
+fit_slots = record { two = shares_fit; neighbours = shares_meet; no_three = no_three_shares }
+
+pub end_cascades : GroupDeadlinesEndCascades
+end_cascades w i k theta h heavy bit = (group_deadline_tight w i k theta h heavy bit, λ tight. group_deadline_ends w i k theta h heavy bit tight.0 tight.1)
+
+pub bounds_last : BusyBoundsLast
+bounds_last = record { past_cascades = busy_after; first_shares = busy_opens }

@@ -1,9 +1,10 @@
 -- The count: all that the set needed, in units, against the rows that it had. There is no first miss.
-use Rattle.pfair_optimal.proofs.Common.{false≢true, le_refl, lt_of_not-le, units_of, fluid_of, Task, Subtask, is_among, NoneTwice, same_task, same_subtask, Schedule, deadline, is_row, has_run, IsRun, IsNext, IsMiss, IsFirstMiss, ◌≡◌, ℕ, zero, suc, ◌+◌, ◌-◌, ◌*◌, ◌/◌, ◌<◌, ◌≤◌, Bool, true, false, cond, List, [], ◌∷◌, length, arith, ap, refl, sym, ◌∙◌, subst, mul-le, cases_lt, and_parts, and_from, ltb-true, lt-ltb, le-ltb, min, ◌&&◌, nat_lt, ◌↔◌, div-add-mod', ◌||◌, IsRunBelow}
+use Rattle.pfair_optimal.proofs.Common.{false≢true, le_refl, lt_of_not-le, units_of, fluid_of, Task, Subtask, is_among, NoneTwice, same_task, same_subtask, Schedule, IsRunBelow, IsMiss, IsFirstMiss, ◌≡◌, ℕ, zero, suc, ◌+◌, ◌-◌, ◌*◌, ◌/◌, ◌<◌, ◌≤◌, Bool, true, false, cond, List, [], ◌∷◌, length, arith, ap, sym, ◌∙◌, subst, mul-le, div-add-mod', IsRunBelow}
 use Rattle.std.proofs.lemmas.List.{length-append}
+use Rattle.pfair_optimal.specs.Laws.{BeginningsNeverMiss, RunsNeverMiss}
 use Rattle.pfair_optimal.proofs.BusyBounds.{fluid_none, fluid_whole, fluid_rises}
-use Rattle.pfair_optimal.proofs.Past.{among_here, among_more, among_cases, task_exact, subtask_exact, total, total_sum, total_plus, total_times, total_constant, total_all_le, total_all_same, total_none, total_same, total_among, total_one, ran_at}
-use Rattle.pfair_optimal.proofs.Reasons.{picks, later, reasons, is_full, In, late_row, later_step, later_last, picks_full, full_some, full_rows, full_last, reason_index, reason_due, reason_pick}
+use Rattle.pfair_optimal.proofs.Past.{among_here, among_more, among_cases, task_exact, subtask_exact, total, total_sum, total_plus, total_times, total_constant, total_all_le, total_all_same, total_none, total_same, total_among, total_one}
+use Rattle.pfair_optimal.proofs.Reasons.{picks, later, reasons, is_full, In, late_row, later_step, later_last, picks_full, full_some, full_rows, full_last, reason_index, due_by_miss, reason_pick}
 use Rattle.pfair_optimal.proofs.Shares.{share, own_share, shares, carry, carry_full, picked, hole_pays, full_pays}
 
 -- the tasks of some subtasks, each once
@@ -47,7 +48,7 @@ left_over_of_all x td missed n = total (λ a. unit x a * carry x td missed a n) 
 abbrev pub shares_of_all : Schedule → ℕ → Subtask → ℕ → ℕ
 shares_of_all x td missed n = total (λ a. unit x a * shares x td missed a n) (tasks x td missed)
 
-module _ (x : Schedule) (is : IsRun x) (td : ℕ) (missed : Subtask) (m : IsFirstMiss x td missed) where
+module _ (x : Schedule) {n : ℕ} (is : IsRunBelow x n) (td : ℕ) (within : td ≤ n) (missed : Subtask) (m : IsFirstMiss x td missed) where
   -- the units of a whole processor are the frame
   unit_whole : (a : Task) → unit x a * (x.weight a).period ≡ x.frame
   unit_whole a = let split = div-add-mod' x.frame (x.weight a).period in let none = is.periods a in omega arith
@@ -61,7 +62,7 @@ module _ (x : Schedule) (is : IsRun x) (td : ℕ) (missed : Subtask) (m : IsFirs
   fluid_end : fluid x td missed td ≡ length (reasons x td missed) * x.frame
   fluid_end =
       total_same same_subtask subtask_exact (λ (z : Subtask). unit x z.task * fluid_of (x.weight z.task) z.index (x.offset z.task z.index) td) (λ _. x.frame) (reasons x td missed)
-      (λ z h. ap (λ (n : ℕ). unit x z.task * n) (fluid_whole (x.weight z.task) z.index (x.offset z.task z.index) td (is.weights z.task) (reason_index x is td missed m z h) (reason_due x is td missed m z h)) ∙ unit_whole z.task)
+      (λ z h. ap (λ (n : ℕ). unit x z.task * n) (fluid_whole (x.weight z.task) z.index (x.offset z.task z.index) td (is.weights z.task) (reason_index x is td within missed m z h) (due_by_miss x is td within missed m 0 (omega arith) z h)) ∙ unit_whole z.task)
       ∙ total_constant x.frame (reasons x td missed)
 
   -- one slot's rise, task by task
@@ -94,7 +95,7 @@ module _ (x : Schedule) (is : IsRun x) (td : ℕ) (missed : Subtask) (m : IsFirs
   picks_by_task : (t : ℕ) → t < td → total (λ a. unit x a * ((x.weight a).period * picked x td missed a t)) (tasks x td missed) ≡ length (picks x td missed t) * x.frame
   picks_by_task t less =
       sym (sym (total_constant x.frame (picks x td missed t))
-      ∙ total_by_task (λ _. x.frame) (tasks x td missed) (tasks_twice (reasons x td missed)) (picks x td missed t) (λ z h. tasks_among (reasons x td missed) z (reason_pick x is td missed m t z less h))
+      ∙ total_by_task (λ _. x.frame) (tasks x td missed) (tasks_twice (reasons x td missed)) (picks x td missed t) (λ z h. tasks_among (reasons x td missed) z (reason_pick x is td within missed m t z less h))
       ∙ total_all_same (λ a. total (λ (z : Subtask). cond (same_task z.task a) x.frame 0) (picks x td missed t)) (λ a. unit x a * ((x.weight a).period * picked x td missed a t)) (tasks x td missed) counted)
     where
       each : (b : Bool) → cond b x.frame 0 ≡ x.frame * cond b 1 0
@@ -114,7 +115,7 @@ module _ (x : Schedule) (is : IsRun x) (td : ℕ) (missed : Subtask) (m : IsFirs
   hole_sum : (n : ℕ) → n < td → is_full x td missed n ≡ false → shares_of_all x td missed n + left_over_of_all x td missed n ≤ length (picks x td missed n) * x.frame + left_over_of_all x td missed (suc n)
   hole_sum n less hole =
       let each = total_all_le (λ a. unit x a * shares x td missed a n + unit x a * carry x td missed a n) (λ a. unit x a * ((x.weight a).period * picked x td missed a n) + unit x a * carry x td missed a (suc n)) (tasks x td missed)
-      (λ a. scaled (unit x a) (shares x td missed a n) (carry x td missed a n) ((x.weight a).period * picked x td missed a n) (carry x td missed a (suc n)) (hole_pays x is td missed m a n less hole)) in
+      (λ a. scaled (unit x a) (shares x td missed a n) (carry x td missed a n) ((x.weight a).period * picked x td missed a n) (carry x td missed a (suc n)) (hole_pays x is td within missed m a n less hole)) in
       let one = total_plus (λ a. unit x a * shares x td missed a n) (λ a. unit x a * carry x td missed a n) (tasks x td missed) in
       let other = total_plus (λ a. unit x a * ((x.weight a).period * picked x td missed a n)) (λ a. unit x a * carry x td missed a (suc n)) (tasks x td missed) in
       let rows = picks_by_task n less in
@@ -127,12 +128,15 @@ module _ (x : Schedule) (is : IsRun x) (td : ℕ) (missed : Subtask) (m : IsFirs
   full_sum : (n : ℕ) → n < td → is_full x td missed n ≡ true → shares_of_all x td missed n + left_over_of_all x td missed n ≤ length (picks x td missed n) * x.frame
   full_sum n less full =
       let one = total_plus (λ a. unit x a * shares x td missed a n) (λ a. unit x a * carry x td missed a n) (tasks x td missed) in
-      let each = total_all_le (λ a. unit x a * shares x td missed a n + unit x a * carry x td missed a n) claim (tasks x td missed) (λ a. scaled a (is_among same_task (x.members n) a) (full_pays x is td missed m a n less)) in
-      let only = total_among same_task task_exact claim (tasks x td missed) (x.members n) (tasks_twice (reasons x td missed)) (λ a h some. claimed a (is_among same_task (x.members n) a) refl some) in
-      let most = total_all_le claim (λ a. units_of (x.weight a) x.frame) (x.members n) (λ a. within a (is_among same_task (x.members n) a)) in
+      let each = total_all_le (λ a. unit x a * shares x td missed a n + unit x a * carry x td missed a n) claim (tasks x td missed) (λ a. scaled a (is_among same_task (x.members n) a) (full_pays x is td within missed m a n less)) in
+      let only = total_among same_task task_exact claim (tasks x td missed) (x.members n) (tasks_twice (reasons x td missed)) (λ a h some. grind arith) in
+      let most = total_all_le claim (λ a. units_of (x.weight a) x.frame) (x.members n) (λ a. grind arith) in
       let sum_is = total_sum (λ a. units_of (x.weight a) x.frame) (x.members n) in
-      let w = full_some x is td missed m n full in
-      grind (arith, full_rows, picks_full)
+      let w = full_some x is td within missed m n full in
+      let room = is.room n (omega arith) in
+      let rows = (full_rows x is td within missed m w.0 n less w.1 w.2).0 in
+      let all : length (picks x td missed n) * x.frame ≡ x.processors * x.frame = ap (λ q. length q * x.frame) (picks_full x is td within missed m n less full) ∙ ap (λ k. k * x.frame) rows in
+      omega arith
     where
       claim : Task → ℕ
       claim a = cond (is_among same_task (x.members n) a) (units_of (x.weight a) x.frame) 0
@@ -141,17 +145,11 @@ module _ (x : Schedule) (is : IsRun x) (td : ℕ) (missed : Subtask) (m : IsFirs
       scaled a true h = let grown = mul-le (unit x a) (shares x td missed a n + carry x td missed a n) (unit x a) (x.weight a).cost (le_refl (unit x a)) h in omega arith
       scaled a false h = let grown = mul-le (unit x a) (shares x td missed a n + carry x td missed a n) (unit x a) 0 (le_refl (unit x a)) h in omega arith
 
-      claimed : (a : Task) (b : Bool) → is_among same_task (x.members n) a ≡ b → 0 < cond b (units_of (x.weight a) x.frame) 0 → is_among same_task (x.members n) a ≡ true
-      claimed a true e some = e
-      claimed a false e some = absurd (omega arith)
-
-      within : (a : Task) (b : Bool) → cond b (units_of (x.weight a) x.frame) 0 ≤ units_of (x.weight a) x.frame
-      within a true = omega arith
-      within a false = omega arith
-
   -- nothing is left over after a full slot
   none_left : (n : ℕ) → is_full x td missed n ≡ true → left_over_of_all x td missed (suc n) ≡ 0
-  none_left n full = grind (arith, total_all_same, carry_full, total_none (tasks x td missed))
+  none_left n full =
+      total_all_same (λ a. unit x a * carry x td missed a (suc n)) (λ _. 0) (tasks x td missed) (λ a. ap (λ c. unit x a * c) (carry_full x is td within missed m a n full) ∙ omega arith)
+      ∙ total_none (tasks x td missed)
 
   -- the fluid before time n is paid for by those that came in before n, but for what is left over
   paid : (n : ℕ) → n ≤ td → fluid x td missed n + length (later x td missed n) * x.frame ≤ length (reasons x td missed) * x.frame + left_over_of_all x td missed n
@@ -159,7 +157,7 @@ module _ (x : Schedule) (is : IsRun x) (td : ℕ) (missed : Subtask) (m : IsFirs
   paid (suc n) le =
       let before = paid n (omega arith) in
       let step = fluid_step n in
-      let lengths : length (later x td missed n) ≡ length (picks x td missed n) + length (later x td missed (suc n)) = ap length (later_step x is td missed m n le) ∙ length-append (picks x td missed n) (later x td missed (suc n)) in
+      let lengths : length (later x td missed n) ≡ length (picks x td missed n) + length (later x td missed (suc n)) = ap length (later_step x is td within missed m n le) ∙ length-append (picks x td missed n) (later x td missed (suc n)) in
       let scaled : length (later x td missed n) * x.frame ≡ (length (picks x td missed n) + length (later x td missed (suc n))) * x.frame = ap (λ (k : ℕ). k * x.frame) lengths in
       grind (arith, full_sum, none_left, hole_sum)
 
@@ -168,94 +166,27 @@ module _ (x : Schedule) (is : IsRun x) (td : ℕ) (missed : Subtask) (m : IsFirs
   overload =
       let all = paid td (omega arith) in
       let ended = fluid_end in
-      let one : length (later x td missed td) * x.frame ≡ 1 * x.frame = ap (λ (q : List Subtask). length q * x.frame) (later_last x is td missed m) in
+      let one : length (later x td missed td) * x.frame ≡ 1 * x.frame = ap (λ (q : List Subtask). length q * x.frame) (later_last x is td within missed m) in
       let last : suc (td - 1) ≡ td = omega arith in
-      let none : left_over_of_all x td missed td ≡ 0 = sym (ap (left_over_of_all x td missed) last) ∙ none_left (td - 1) (full_last x is td missed m (td - 1) last) in
+      let none : left_over_of_all x td missed td ≡ 0 = sym (ap (left_over_of_all x td missed) last) ∙ none_left (td - 1) (full_last x is td within missed m (td - 1) last) in
       omega arith
 
 -- no time has a miss: else the least one
-no_miss_below : (x : Schedule) → IsRun x → (n td : ℕ) (z : Subtask) → td < n → IsMiss x td z → ⊥
-no_miss_below x is zero td z less miss = omega arith
-no_miss_below x is (suc n) td z less miss = overload x is td z (record { miss = miss; first = λ s w before other. no_miss_below x is n s w (omega arith) other })
+no_miss_below : (x : Schedule) {n : ℕ} → IsRunBelow x n → (k td : ℕ) (z : Subtask) → td ≤ n → td < k → IsMiss x td z → ⊥
+no_miss_below x is zero td z within less miss = omega arith
+no_miss_below x is (suc k) td z within less miss = overload x is td within z (record { miss = miss; first = λ s w before other. no_miss_below x is k s w (omega arith) (omega arith) other })
 
-pub no_miss : (x : Schedule) → IsRun x → (td : ℕ) (z : Subtask) → IsMiss x td z → ⊥
-no_miss x is td z miss = no_miss_below x is (suc td) td z (omega arith) miss
-
--- the next subtask of an active member has its deadline after the slot
-pub none_misses : (x : Schedule) (t : ℕ) (z : Subtask) → IsRun x → x.is_active z.task t ≡ true → IsNext x z (suc t) → has_run x z (suc t) ≡ false → suc t < deadline x z
-none_misses x t z is active next not_run = lt_of_not-le (λ late.
-    let same : t ≡ suc t - 1 = omega arith in
-    no_miss x is (suc t) z (record { some_time = omega arith; active = subst (λ n. x.is_active z.task n ≡ true) same active; next = next; not_run = not_run; late = late }))
-
--- each row's slot is before its deadline
-pub each_in_time : (x : Schedule) (t : ℕ) (z : Subtask) → IsRun x → is_row x t z ≡ true → t < deadline x z
-each_in_time x t z is row = lt_of_not-le (λ late. no_miss x is t z (late_row x is z t row late))
-
--- A run whose beginning alone is known goes on as one in which nothing runs any more.
-
--- the slots below suc n, and those behind them, in which nobody is active and the members stay
-abbrev pub cut : Schedule → ℕ → Schedule
-cut x n = record {
-  processors = x.processors;
-  frame = x.frame;
-  weight = x.weight;
-  offset = x.offset;
-  table = λ t. cond (nat_lt t (suc n)) (x.table t) [];
-  members = λ t. x.members (min t n);
-  is_active = λ a t. nat_lt t (suc n) && x.is_active a t;
+-- so the next subtask of an active member has its deadline after the slot, and each row's slot is before its deadline
+pub beginnings : BeginningsNeverMiss
+beginnings = record {
+  none_misses = λ x n t z is less active next not_run. lt_of_not-le (λ late.
+      (let same : t ≡ suc t - 1 = omega arith in
+      no_miss_below x is (suc (suc t)) (suc t) z less (omega arith) (record { some_time = omega arith; active = subst (λ n. x.is_active z.task n ≡ true) same active; next = next; not_run = not_run; late = late })));
+  each_in_time = λ x n t z is less row. lt_of_not-le (λ late. no_miss_below x is (suc t) t z (omega arith) (omega arith) (late_row x is z t less row late));
 }
 
-module _ (x : Schedule) (n : ℕ) where
-  -- up to there all is the same, and nothing runs after
-  cut_table : (t : ℕ) → t < suc n → (cut x n).table t ≡ x.table t
-  cut_table t less = ap (λ b. cond b (x.table t) []) (lt-ltb t (suc n) less)
-
-  cut_row : (t : ℕ) (z : Subtask) → is_row (cut x n) t z ≡ true → (t < suc n) × (is_row x t z ≡ true)
-  cut_row t z row = grind (arith, ltb-true)
-
-  cut_ran : (z : Subtask) (t : ℕ) → t ≤ suc n → has_run (cut x n) z t ≡ has_run x z t
-  cut_ran z zero le = refl
-  cut_ran z (suc t) le = λ i. cut_ran z t (omega arith) i || is_among same_subtask (cut_table t le i) z
-
-  cut_next : (z : Subtask) (t : ℕ) → t ≤ suc n → IsNext (cut x n) z t ↔ IsNext x z t
-  cut_next z t le = grind (arith, cut_ran)
-
-  cut_active : (a : Task) (t : ℕ) → (cut x n).is_active a t ≡ true → (t < suc n) × (x.is_active a t ≡ true)
-  cut_active a t h = grind (arith, and_parts, ltb-true)
-
-  active_cut : (a : Task) (t : ℕ) → t < suc n → x.is_active a t ≡ true → (cut x n).is_active a t ≡ true
-  active_cut a t less h = and_from (nat_lt t (suc n)) (x.is_active a t) (lt-ltb t (suc n) less) h
-
-  cut_members : (t : ℕ) → t < suc n → (cut x n).members t ≡ x.members t
-  cut_members t less = let e : min t n ≡ t = omega arith in ap x.members e
-
-  pub cut_is_run : IsRunBelow x (suc n) → IsRun (cut x n)
-  cut_is_run is = record {
-    frame = is.frame;
-    weights = is.weights;
-    periods = is.periods;
-    offsets_start = is.offsets_start;
-    offsets_rise = is.offsets_rise;
-    rows_apart = grind (arith, cases_lt, cut_table, le-ltb);
-    rows_once = λ s t z here there. grind (arith, cut_row);
-    rows_follow = λ t z row. grind (arith, cut_row, cut_next);
-    rows_active = λ t z row. grind (arith, cut_row, active_cut);
-    active_since = λ a s t joined le h. grind (arith, cut_active, active_cut);
-    active_members = λ a t h. (let p = cut_active a t h in subst (λ l. is_among same_task l a ≡ true) (sym (cut_members t p.0)) (is.active_members a t p.0 p.1));
-    held = λ z s t ran joined before. grind (arith, cut_row, ran_at);
-    room = λ t. is.room (min t n) (omega arith);
-    chosen = λ t z next active opened not_run.
-        (let p = cut_active z.task t active in
-        let first = is.chosen t z p.0 ((cut_next z t (omega arith)).0 next) p.1 opened (sym (cut_ran z (suc t) p.0) ∙ not_run) in
-        (ap length (cut_table t p.0) ∙ first.0, λ w row. first.1 w (cut_row t w row).1));
-  }
-
--- so none misses in the beginning
-pub beginning_none_misses : (x : Schedule) (n t : ℕ) (z : Subtask) → IsRunBelow x n → t < n → x.is_active z.task t ≡ true → IsNext x z (suc t) → has_run x z (suc t) ≡ false → suc t < deadline x z
-beginning_none_misses x zero t z is less active next not_run = absurd (omega arith)
-beginning_none_misses x (suc n) t z is less active next not_run =
-    none_misses (cut x n) t z (cut_is_run x n is) (active_cut x n z.task t less active) ((cut_next x n z (suc t) less).1 next) (cut_ran x n z (suc t) less ∙ not_run)
-
-pub beginning_in_time : (x : Schedule) (n t : ℕ) (z : Subtask) → IsRunBelow x n → t < n → is_row x t z ≡ true → t < deadline x z
-beginning_in_time x zero t z is less row = absurd (omega arith)
-beginning_in_time x (suc n) t z is less row = each_in_time (cut x n) t z (cut_is_run x n is) (subst (λ l. is_among same_subtask l z ≡ true) (sym (cut_table x n t less)) row)
+pub runs : RunsNeverMiss
+runs = record {
+  none_misses = λ x t z is. beginnings.none_misses x (suc t) t z (is (suc t)) (omega arith);
+  each_in_time = λ x t z is. beginnings.each_in_time x (suc t) t z (is (suc t)) (omega arith);
+}

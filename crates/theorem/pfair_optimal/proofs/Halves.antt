@@ -1,5 +1,6 @@
 -- A run that fills its processor: two tasks of weight 1/2 that run by turns.
-use Rattle.pfair_optimal.proofs.Common.{false≢true, Task, Subtask, is_among, same_task, same_subtask, Schedule, release, is_row, has_run, IsRun, GoesFirst, ◌≡◌, ℕ, zero, suc, ◌+◌, ◌-◌, ◌*◌, ◌/◌, ◌<◌, ◌≤◌, true, false, [], ◌∷◌, arith, refl, sym, subst, ⊎_elim, ◌%◌}
+use Rattle.pfair_optimal.proofs.Common.{false≢true, Task, Subtask, is_among, same_task, same_subtask, Schedule, release, is_row, has_run, GoesFirst, ◌≡◌, ℕ, zero, suc, ◌+◌, ◌-◌, ◌*◌, ◌/◌, ◌<◌, ◌≤◌, true, false, [], ◌∷◌, arith, refl, sym, subst, ⊎_elim, ◌%◌}
+use Rattle.pfair_optimal.specs.Laws.{SomeRunIsFull}
 use Rattle.pfair_optimal.proofs.Past.{among_here, among_cases, task_exact, subtask_exact, ran_at, ran_by}
 
 -- task k, and its subtask i
@@ -53,5 +54,5 @@ is_half a h = ⊎_elim
 before_wait : (t k i : ℕ) → k < 2 → 1 ≤ i → release halves (half_at k i) ≤ t → has_run halves (half_at k i) (suc t) ≡ false → GoesFirst halves (turn t) (half_at k i)
 before_wait t k i two first opened not_run = grind (arith, half_ran)
 
-pub halves_are_a_run : IsRun halves
-halves_are_a_run = grind (arith, row_is, half_ran, among_halves, ran_at, is_half, before_wait)
+pub some_run : SomeRunIsFull
+some_run = (halves, λ n. grind (arith, row_is, half_ran, among_halves, ran_at, is_half, before_wait), λ t. refl)

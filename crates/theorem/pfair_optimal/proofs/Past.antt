@@ -1,5 +1,5 @@
 -- What ran before a time, in which windows, and sums over it.
-use Rattle.pfair_optimal.proofs.Common.{and_parts, and_from, false_from_ne_true, false≢true, or_cases, or_left, or_right, is_among, NoneTwice, ◌≡◌, Bool, true, List, [], ◌∷◌, ◌++◌, ap, refl, sym, ◌∙◌, inl, inr, ⊎_elim, arith, ◌↔◌, ◌⊎◌, ◌&&◌, filter, list_any, eqb-true, eq-eqb, Task, Subtask, same_task, same_subtask, next_of, previous_of, Schedule, is_row, has_run, IsRun, ℕ, zero, suc, ◌+◌, ◌-◌, ◌<◌, ◌≤◌, false, true≢false, cases_lt, cases_Bool, not_from_false, ◌*◌, cond, not, length, subst, release, deadline, b_bit, busy_bound, GoesFirst, release_rises, deadline_rises_strictly, windows_overlap, b_bit_at_most_one, sum_by, window_not_empty}
+use Rattle.pfair_optimal.proofs.Common.{and_parts, and_from, false_from_ne_true, false≢true, or_cases, or_left, or_right, is_among, NoneTwice, ◌≡◌, Bool, true, List, [], ◌∷◌, ◌++◌, ap, refl, sym, ◌∙◌, inl, inr, ⊎_elim, arith, ◌↔◌, ◌⊎◌, ◌&&◌, filter, list_any, eqb-true, eq-eqb, Task, Subtask, same_task, same_subtask, next_of, previous_of, Schedule, is_row, has_run, IsRunBelow, ℕ, zero, suc, ◌+◌, ◌-◌, ◌<◌, ◌≤◌, false, true≢false, cases_lt, cases_Bool, not_from_false, ◌*◌, cond, not, length, subst, release, deadline, b_bit, busy_bound, GoesFirst, release_rises, deadline_rises_strictly, windows_overlap, b_bit_at_most_one, sum_by, window_not_empty}
 use Rattle.std.proofs.lemmas.List.Folds.{list_any-append}
 use Rattle.std.proofs.lemmas.Map.Views.{any-filter_same}
 use Rattle.std.specs.Cmp.Lexicographic.{bytes_decides}
@@ -85,21 +85,17 @@ ran_by x z s (suc t) less row = grind (arith, ran_by x z s t)
 pub ran_more : (x : Schedule) (z : Subtask) (s t : ℕ) → s ≤ t → has_run x z s ≡ true → has_run x z t ≡ true
 ran_more x z s t le ran = (let p = ran_at x z s ran in ran_by x z p.0 t (omega arith) p.2)
 
--- what has not run by a time had not run before either
-pub not_ran_less : (x : Schedule) (z : Subtask) (s t : ℕ) → s ≤ t → has_run x z t ≡ false → has_run x z s ≡ false
-not_ran_less x z s t le not_run = grind (arith, ran_more)
-
-module _ (x : Schedule) (is : IsRun x) where
+module _ (x : Schedule) {n : ℕ} (is : IsRunBelow x n) where
   -- a row of a slot has not run before
-  pub row_not_before : (z : Subtask) (s t : ℕ) → is_row x s z ≡ true → t ≤ s → has_run x z t ≡ false
-  row_not_before z s t row le = grind (arith, ran_at)
+  pub row_not_before : (z : Subtask) (s t : ℕ) → s < n → is_row x s z ≡ true → t ≤ s → has_run x z t ≡ false
+  row_not_before z s t early row le = grind (arith, ran_at)
 
   -- the rows of one task run in order
-  pub next_after : (z : Subtask) (s t : ℕ) → is_row x s z ≡ true → is_row x t (next_of z) ≡ true → s < t
-  next_after z s t row next = grind (arith, previous_next, ran_at)
+  pub next_after : (z : Subtask) (s t : ℕ) → s < n → t < n → is_row x s z ≡ true → is_row x t (next_of z) ≡ true → s < t
+  next_after z s t before early row next = grind (arith, previous_next, ran_at)
 
-  pub next_not_run : (z : Subtask) (t : ℕ) → is_row x t z ≡ true → has_run x (next_of z) (suc t) ≡ false
-  next_not_run z t row = grind (arith, ran_at, next_after)
+  pub next_not_run : (z : Subtask) (t : ℕ) → t < n → is_row x t z ≡ true → has_run x (next_of z) (suc t) ≡ false
+  next_not_run z t early row = grind (arith, ran_at, next_after)
 
 -- Sums over lists.
 
@@ -186,7 +182,7 @@ module _ {A : Type 0} (same : A → A → Bool) (exact : (a b : A) → (same a b
 
 -- Windows in a run.
 
-module _ (x : Schedule) (is : IsRun x) where
+module _ (x : Schedule) {n : ℕ} (is : IsRunBelow x n) where
   -- offsets never fall
   pub offsets : (a : Task) (i j : ℕ) → 1 ≤ i → i ≤ j → x.offset a i ≤ x.offset a j
   offsets a i zero first le = absurd (omega arith)

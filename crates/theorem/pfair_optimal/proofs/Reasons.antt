@@ -1,7 +1,7 @@
 -- The subtasks that a missed one hangs on. Back from the miss, slot by slot: if one of them waits, all rows of the slot come in;
 -- if none does, those rows come in whose next subtask is one of them and is released by the slot.
-use Rattle.pfair_optimal.proofs.Common.{true≢false, false≢true, and_parts, and_from, leb-true, le-leb, cases_lt, cases_Bool, Subtask, is_among, NoneTwice, same_subtask, next_of, previous_of, Schedule, release, deadline, is_row, has_run, IsRun, IsMiss, IsFirstMiss, GoesFirst, ◌≡◌, ℕ, zero, suc, ◌+◌, ◌-◌, ◌<◌, ◌≤◌, Bool, true, false, cond, not, ◌&&◌, List, [], ◌∷◌, ◌++◌, length, arith, ap, refl, sym, ◌∙◌, subst, inl, inr, ⊎_elim, ◌⊎◌, filter, list_any, ⊎_map, ◌||◌, ◌==◌, nat_le}
-use Rattle.pfair_optimal.proofs.Past.{among_here, among_cases, among_left, among_right, among_append, among_filter, filter_among, any_from, any_same, any_some, twice_filter, twice_append, subtask_exact, next_previous, ran_at, ran_by, ran_more, not_ran_less, row_not_before, next_not_run, release_joined, release_before, next_deadline}
+use Rattle.pfair_optimal.proofs.Common.{false_from_ne_true, le_refl, lt_of_not-le, true≢false, false≢true, and_parts, and_from, leb-true, le-leb, cases_lt, cases_Bool, Subtask, is_among, NoneTwice, same_subtask, next_of, previous_of, Schedule, release, deadline, is_row, has_run, IsRunBelow, IsMiss, IsFirstMiss, GoesFirst, ◌≡◌, ℕ, zero, suc, ◌+◌, ◌-◌, ◌<◌, ◌≤◌, Bool, true, false, cond, not, ◌&&◌, List, [], ◌∷◌, ◌++◌, length, arith, ap, refl, sym, ◌∙◌, subst, inl, inr, ⊎_elim, ◌⊎◌, filter, list_any, ⊎_map, ◌||◌, ◌==◌, nat_le}
+use Rattle.pfair_optimal.proofs.Past.{among_here, among_cases, among_left, among_right, among_append, among_filter, filter_among, any_from, any_same, any_some, twice_filter, twice_append, subtask_exact, next_previous, ran_at, ran_by, ran_more, row_not_before, next_not_run, release_joined, release_before, next_deadline}
 
 -- it is released by slot v, the one before it ran before v, and it has not run by the end of v
 pub record Waits (x : Schedule) (z : Subtask) (v : ℕ) : Type 0 where
@@ -56,13 +56,18 @@ downward P td start step t le = go (td - t) t (omega arith)
     go (suc n) t e = step t (omega arith) (go n (suc t) (omega arith))
 
 -- a row of a slot at or after its deadline missed it by then
-pub late_row : (x : Schedule) (is : IsRun x) (z : Subtask) (s : ℕ) → is_row x s z ≡ true → deadline x z ≤ s → IsMiss x s z
-late_row x is z s row late = grind (arith, release_before, release_joined, row_not_before)
+pub late_row : (x : Schedule) {n : ℕ} (is : IsRunBelow x n) (z : Subtask) (s : ℕ) → s < n → is_row x s z ≡ true → deadline x z ≤ s → IsMiss x s z
+late_row x is z s early row late =
+    let next = is.rows_follow s z early row in
+    let opens = release_before x is z next.counted in
+    let joined = release_joined x is z next.counted in
+    let active = is.active_since z.task (s - 1) s (omega arith) (omega arith) early (is.rows_active s z early row) in
+    record { some_time = omega arith; active = active; next = next; not_run = row_not_before x is z s s early row (le_refl s); late = late }
 
-module _ (x : Schedule) (is : IsRun x) (td : ℕ) (missed : Subtask) (m : IsFirstMiss x td missed) where
+module _ (x : Schedule) {n : ℕ} (is : IsRunBelow x n) (td : ℕ) (within : td ≤ n) (missed : Subtask) (m : IsFirstMiss x td missed) where
   -- what ran before the first miss ran before its deadline
   pub in_time : (z : Subtask) (s : ℕ) → s < td → is_row x s z ≡ true → s < deadline x z
-  in_time z s before row = grind (arith, late_row)
+  in_time z s before row = lt_of_not-le (λ late. m.first s z before (late_row x is z s (omega arith) row late))
 
   -- ---- who came in, and when
 
@@ -130,8 +135,8 @@ module _ (x : Schedule) (is : IsRun x) (td : ℕ) (missed : Subtask) (m : IsFirs
   -- what came in at v or later has not run before v
   pub later_not_run : (z : Subtask) (v : ℕ) → v ≤ td → In (later x td missed v) z → has_run x z v ≡ false
   later_not_run z v le h = ⊎_elim
-      (λ e. subst (λ w. has_run x w v ≡ false) (sym e) (not_ran_less x missed v td le m.miss.not_run))
-      (λ p. row_not_before x is z p.0 v (picks_rows p.0 z p.3) p.1)
+      (λ e. subst (λ w. has_run x w v ≡ false) (sym e) (false_from_ne_true (has_run x missed v) (λ ran. true≢false (sym (ran_more x missed v td le ran) ∙ m.miss.not_run))))
+      (λ p. row_not_before x is z p.0 v (omega arith) (picks_rows p.0 z p.3) p.1)
       (later_cases v le z h)
 
   -- ---- full slots and holes
@@ -165,20 +170,20 @@ module _ (x : Schedule) (is : IsRun x) (td : ℕ) (missed : Subtask) (m : IsFirs
   pick_hole v w before h row next released =
       subst (λ q. In q w) (sym (picks_hole v before h))
       (filter_among same_subtask subtask_exact (is_wanted x (later x td missed (suc v)) v) (x.table v) w row
-      (and_from (is_among same_subtask (later x td missed (suc v)) (next_of w)) (nat_le (release x (next_of w)) v) (reason_later (next_of w) v before next (next_not_run x is w v row)) (le-leb (release x (next_of w)) v released)))
+      (and_from (is_among same_subtask (later x td missed (suc v)) (next_of w)) (nat_le (release x (next_of w)) v) (reason_later (next_of w) v before next (next_not_run x is w v (omega arith) row)) (le-leb (release x (next_of w)) v released)))
 
   -- ---- what each of them is
 
   pub reason_index : (z : Subtask) → In (reasons x td missed) z → 1 ≤ z.index
   reason_index z h = ⊎_elim
       (λ e. subst (λ (w : Subtask). 1 ≤ w.index) (sym e) m.miss.next.counted)
-      (λ p. (is.rows_follow p.0 z (picks_rows p.0 z p.2)).counted)
+      (λ p. (is.rows_follow p.0 z (omega arith) (picks_rows p.0 z p.2)).counted)
       (reason_cases z h)
 
   pub reason_follows : (z : Subtask) → In (reasons x td missed) z → (z.index ≡ 1) ⊎ (has_run x (previous_of z) td ≡ true)
   reason_follows z h = ⊎_elim
       (λ e. subst (λ (w : Subtask). (w.index ≡ 1) ⊎ (has_run x (previous_of w) td ≡ true)) (sym e) m.miss.next.follows)
-      (λ p. ⊎_elim (λ f. inl f) (λ r. inr (ran_more x (previous_of z) p.0 td (omega arith) r)) (is.rows_follow p.0 z (picks_rows p.0 z p.2)).follows)
+      (λ p. ⊎_elim (λ f. inl f) (λ r. inr (ran_more x (previous_of z) p.0 td (omega arith) r)) (is.rows_follow p.0 z (omega arith) (picks_rows p.0 z p.2)).follows)
       (reason_cases z h)
 
   -- what ran before t is a pick of a slot before t
@@ -187,16 +192,16 @@ module _ (x : Schedule) (is : IsRun x) (td : ℕ) (missed : Subtask) (m : IsFirs
       (λ e. absurd (true≢false (sym (subst (λ w. has_run x w td ≡ true) e (ran_more x z t td le ran)) ∙ m.miss.not_run)))
       (λ (p : (v : ℕ) × (v < td) × In (picks x td missed v) z). elim (cases_lt p.0 t) [
         | inl before ↦ (p.0, before, p.2)
-        | inr after ↦ absurd (true≢false (sym ran ∙ row_not_before x is z p.0 t (picks_rows p.0 z p.2) after))
+        | inr after ↦ absurd (true≢false (sym ran ∙ row_not_before x is z p.0 t (omega arith) (picks_rows p.0 z p.2) after))
       ])
       (reason_cases z h)
 
   -- a task with one of them that has not run by the end of v is active in v
   pub reason_active : (z : Subtask) (v : ℕ) → v < td → In (reasons x td missed) z → has_run x z (suc v) ≡ false → z.task.joined ≤ v → x.is_active z.task v ≡ true
   reason_active z v before h not_run joined = ⊎_elim
-      (λ e. is.active_since z.task v (td - 1) joined (omega arith) (subst (λ (w : Subtask). x.is_active w.task (td - 1) ≡ true) (sym e) m.miss.active))
+      (λ e. is.active_since z.task v (td - 1) joined (omega arith) (omega arith) (subst (λ (w : Subtask). x.is_active w.task (td - 1) ≡ true) (sym e) m.miss.active))
       (λ (p : (v : ℕ) × (v < td) × In (picks x td missed v) z). elim (cases_lt v p.0) [
-        | inl after ↦ is.active_since z.task v p.0 joined (omega arith) (is.rows_active p.0 z (picks_rows p.0 z p.2))
+        | inl after ↦ is.active_since z.task v p.0 joined (omega arith) (omega arith) (is.rows_active p.0 z (omega arith) (picks_rows p.0 z p.2))
         | inr earlier ↦ absurd (true≢false (sym (ran_by x z p.0 (suc v) (omega arith) (picks_rows p.0 z p.2)) ∙ not_run))
       ])
       (reason_cases z h)
@@ -205,18 +210,18 @@ module _ (x : Schedule) (is : IsRun x) (td : ℕ) (missed : Subtask) (m : IsFirs
   later_twice = downward (λ t. NoneTwice same_subtask (later x td missed t)) td
       (subst (NoneTwice same_subtask) (sym later_last) (refl, tt))
       (λ t less rest. subst (NoneTwice same_subtask) (sym (later_step t less))
-      (twice_append same_subtask subtask_exact (picks x td missed t) (later x td missed (suc t)) (picks_twice t) rest
+      (twice_append same_subtask subtask_exact (picks x td missed t) (later x td missed (suc t)) (picks_twice t less) rest
       (λ z here after. true≢false (sym (ran_by x z t (suc t) (omega arith) (picks_rows t z here)) ∙ later_not_run z (suc t) less after))))
     where
-      picks_twice : (t : ℕ) → NoneTwice same_subtask (picks x td missed t)
-      picks_twice t = grind (arith, twice_filter, subtask_exact)
+      picks_twice : (t : ℕ) → t < td → NoneTwice same_subtask (picks x td missed t)
+      picks_twice t less = grind (arith, twice_filter, subtask_exact)
 
   -- a full slot has a row on each processor, and each goes before each that waits
   pub full_rows : (z : Subtask) (v : ℕ) → v < td → In (reasons x td missed) z → Waits x z v → (length (x.table v) ≡ x.processors) × ((w : Subtask) → is_row x v w ≡ true → GoesFirst x w z)
   full_rows z v before h w =
       let first = reason_index z h in
       let joined = release_joined x is z first in
-      is.chosen v z (record { counted = first; follows = w.follows }) (reason_active z v before h w.not_run (omega arith)) w.released w.not_run
+      is.chosen v z (omega arith) (record { counted = first; follows = w.follows }) (reason_active z v before h w.not_run (omega arith)) w.released w.not_run
 
   -- no deadline of them is after the miss
   pub due_by_miss : (t : ℕ) → t ≤ td → (z : Subtask) → In (later x td missed t) z → deadline x z ≤ td
@@ -237,12 +242,9 @@ module _ (x : Schedule) (is : IsRun x) (td : ℕ) (missed : Subtask) (m : IsFirs
       by_slot t less rest z here (inr hole) =
           let row = picks_rows t z here in
           let p = hole_pick t z less hole here in
-          let up = next_deadline x is z (is.rows_follow t z row).counted in
-          let due = rest (next_of z) (reason_later (next_of z) t less p.0 (next_not_run x is z t row)) in
+          let up = next_deadline x is z (is.rows_follow t z (omega arith) row).counted in
+          let due = rest (next_of z) (reason_later (next_of z) t less p.0 (next_not_run x is z t (omega arith) row)) in
           omega arith
-
-  pub reason_due : (z : Subtask) → In (reasons x td missed) z → deadline x z ≤ td
-  reason_due z h = due_by_miss 0 (omega arith) z h
 
   -- the slot before the miss is full
   pub full_last : (last : ℕ) → suc last ≡ td → is_full x td missed last ≡ true
@@ -258,6 +260,6 @@ module _ (x : Schedule) (is : IsRun x) (td : ℕ) (missed : Subtask) (m : IsFirs
       before_last ran =
           let p = ran_at x (previous_of missed) td ran in
           let early = in_time (previous_of missed) p.0 p.1 p.2 in
-          let up = next_deadline x is (previous_of missed) (is.rows_follow p.0 (previous_of missed) p.2).counted in
+          let up = next_deadline x is (previous_of missed) (is.rows_follow p.0 (previous_of missed) (omega arith) p.2).counted in
           let same : deadline x (next_of (previous_of missed)) ≡ deadline x missed = ap (deadline x) (next_previous missed m.miss.next.counted) in
           ran_by x (previous_of missed) p.0 last (omega arith) p.2

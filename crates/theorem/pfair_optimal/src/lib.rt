@@ -1,8 +1,9 @@
 //! Why no task misses its deadline under PD2: laws alone, none of which a program calls.
 //!
 //! The theorem is the law `laws::runs_never_miss`, of a run as plain data (`specs/Schedule.antt`, whose
-//! record `IsRun` has the premises; `laws::some_run_is_full` says that they can be met). That the
-//! executive is such a run is what the crate `pfair_in_time` shows.
+//! record `IsRunBelow` has the premises; `laws::some_run_is_full` says that they can be met). It is
+//! proved of beginnings (`laws::beginnings_never_miss`): a run is one each of whose beginnings keeps
+//! the premises. That the executive is such a run is what the crate `pfair_in_time` shows.
 //!
 //! The proof counts quanta. Unlike the papers' proofs it displaces no subtask of a least
 //! counterexample.
